@@ -1,0 +1,60 @@
+-- Laws of lists that the kit does not have: `over`, and `map` with a part, a store and a load. Assumes nothing.
+-- Elsewhere: `length-map`, `List·getD-map` (lib.ListN), `map-append`, `map-map` (mathlib.Core.List), and of `over` itself,
+-- which is an append, `take-append-seam`, `drop-append-seam`, `set-append-left` (lib.Seq), `List·getD-append` (lib.ListN).
+use Prim.Native.Nat.{ℕ, zero, suc, _+_, _<_, _≤_}
+use mathlib.Core.Path.{_≡_, refl, _∙_, ap}
+use mathlib.Core.List.{List, [], _∷_, _++_, map, append-assoc, append-nil, map-append}
+use native.Mathlib.Omega.{arith}
+use native.Mathlib.Numerals.{add-one}
+use lib.ListN.{length, take, drop, set, getD, length-append, length-drop, length-map, drop-of-length-le}
+use lib.Seq.{drop-cons, set-at, take-suc, length-take-le}
+use Rattle.ints.specs.Lists.{over}
+
+-- ---- a list that a loop fills
+module _ {A : Type 0} where
+  pub over-none : (o : List A) → over [] o ≡ o
+  over-none o = refl
+
+  -- a store at the next place makes xs one longer
+  pub over-more : (xs o : List A) (i : ℕ) (v : A) → length xs ≡ i → i < length o → set (over xs o) i v ≡ over (xs ++ v ∷ []) o
+  over-more xs o i v e h =
+      rw (length-append, e, add-one, append-assoc, drop-cons o i v) (set-at xs (getD o i v) (drop (suc i) o) v i e)
+
+  pub over-long : (xs o : List A) → length xs ≤ length o → length (over xs o) ≡ length o
+  over-long xs o h = simp (length-append, length-drop) (omega arith)
+
+  -- once it is full nothing of the old is left
+  pub over-all : (xs o : List A) → length o ≤ length xs → over xs o ≡ xs
+  over-all xs o h = rw (drop-of-length-le o h, append-nil)
+
+-- ---- map
+module _ {A B : Type 0} (f : A → B) where
+  pub map-take : (n : ℕ) (l : List A) → map f (take n l) ≡ take n (map f l)
+  map-take zero l = refl
+  map-take (suc n) [] = refl
+  map-take (suc n) (x ∷ xs) = ap (λ (r : List B). f x ∷ r) (map-take n xs)
+
+  pub map-drop : (n : ℕ) (l : List A) → map f (drop n l) ≡ drop n (map f l)
+  map-drop zero l = refl
+  map-drop (suc n) [] = refl
+  map-drop (suc n) (x ∷ xs) = map-drop n xs
+
+  pub map-set : (l : List A) (i : ℕ) (a : A) → map f (set l i a) ≡ set (map f l) i (f a)
+  map-set [] i a = refl
+  map-set (x ∷ xs) zero a = refl
+  map-set (x ∷ xs) (suc i) a = ap (λ (r : List B). f x ∷ r) (map-set xs i a)
+
+  -- within the list, whatever is read past its end
+  pub map-getD : (l : List A) (i : ℕ) (d : A) (e : B) → i < length l → getD (map f l) i e ≡ f (getD l i d)
+  map-getD [] i d e h = absurd (omega arith)
+  map-getD (x ∷ xs) zero d e h = refl
+  map-getD (x ∷ xs) (suc i) d e h = map-getD xs i d e (omega arith)
+
+  -- what a loop has mapped, one more
+  pub map-more : (l : List A) (i : ℕ) (d : A) → i < length l → map f (take (i + 1) l) ≡ map f (take i l) ++ f (getD l i d) ∷ []
+  map-more l i d h = rw (add-one, take-suc l i d) (map-append f (take i l) (getD l i d ∷ []))
+
+  -- so a loop that fills o with the images of l
+  pub over-map : (l : List A) (o : List B) (i : ℕ) (d : A) → i < length l → i < length o → set (over (map f (take i l)) o) i (f (getD l i d)) ≡ over (map f (take (i + 1) l)) o
+  over-map l o i d h k =
+      rw (map-more l i d) (over-more (map f (take i l)) o i (f (getD l i d)) (length-map (take i l) f ∙ length-take-le i l (omega arith)) k)

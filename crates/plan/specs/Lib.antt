@@ -1,0 +1,5 @@
+pub mod Plan
+pub mod Segments
+pub mod Strands
+pub mod Limits
+pub mod Checks

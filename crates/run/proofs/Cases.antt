@@ -1,0 +1,44 @@
+-- Document 01's cases 3 to 7, and two boxes of equal resistance, computed from the definition.
+use mathlib.Core.Path.{_≡_, refl}
+use mathlib.Core.List.{List, [], _∷_}
+use Prim.Native.Nat.{ℕ}
+use lib.IntN.{ℤ, pos, negsuc}
+use Rattle.ints.specs.Ints.{gap}
+use Rattle.run.specs.Run.{Bound, free, at, Box, nondecreasing, neighboursInOrder, span, startOf, firstOf, lastOf, lastDist}
+use Rattle.run.specs.Join.{pushLeft, pushRight, longer, lengthening, join}
+use Rattle.run.specs.Place.{placeBoxes, placeRun}
+use Rattle.run.specs.Words.{isPlacement, sideways, sidewaysLength}
+
+-- Named on an `unfolding` line, it opens every definition of this floor.
+unfoldable pub runOpen : Unit {0}
+unfolding gap nondecreasing neighboursInOrder span startOf firstOf lastOf lastDist pushLeft pushRight longer lengthening join placeBoxes placeRun isPlacement sideways sidewaysLength
+runOpen = tt
+
+abbrev box : ℤ → List ℤ → ℕ → Box
+box o ns d = record { old = o; near = ns; dist = d }
+
+pub case3 : placeRun free 0 (box (pos 0) (pos 4 ∷ pos 10 ∷ []) 0 ∷ []) free ≡ pos 4 ∷ []
+unfolding runOpen
+case3 = refl
+
+pub case4 : placeRun free 0 (box (pos 0) (pos 4 ∷ pos 10 ∷ pos 11 ∷ []) 0 ∷ []) free ≡ pos 10 ∷ []
+unfolding runOpen
+case4 = refl
+
+pub case5 : placeRun free 0 (box (pos 7) [] 0 ∷ []) free ≡ pos 7 ∷ []
+unfolding runOpen
+case5 = refl
+
+pub case6 : placeRun (at (pos 0)) 6 (box (pos 0) (pos 2 ∷ []) 0 ∷ []) free ≡ pos 6 ∷ []
+unfolding runOpen
+case6 = refl
+
+pub case7 : placeRun free 0 (box (pos 0) (pos 0 ∷ pos 0 ∷ pos 0 ∷ []) 10 ∷ box (pos 0) (pos 0 ∷ []) 10 ∷ box (pos 0) (pos 12 ∷ pos 12 ∷ pos 12 ∷ []) 10 ∷ box (pos 100) [] 0 ∷ []) free
+    ≡ negsuc 7 ∷ pos 2 ∷ pos 12 ∷ pos 100 ∷ []
+unfolding runOpen
+case7 = refl
+
+-- Equal resistance: the right box moves.
+pub tie : placeRun free 0 (box (pos 0) (negsuc 4 ∷ []) 16 ∷ box (pos 0) (pos 8 ∷ []) 0 ∷ []) free ≡ negsuc 4 ∷ pos 11 ∷ []
+unfolding runOpen
+tie = refl

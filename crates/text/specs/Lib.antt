@@ -1,0 +1,5 @@
+pub mod Bytes
+pub mod Decimal
+pub mod Parser
+pub mod Form
+pub mod Reading

@@ -1,0 +1,51 @@
+//! Level diagrams for boat supply plans: a second reading of document 01.
+//!
+//! From text to picture, one module for each part of the paper:
+//! - [`text`] reads a plan text (check 1) and writes it again; [`plan`] holds the plan and makes checks 2 to 6;
+//! - [`preliminary`] gives every vertex its preliminary position;
+//! - [`place_run`] places one run, once by single half steps (the definition) and once by jumps (fast);
+//! - [`passes`] goes over the levels three times, places their runs and lists the placings;
+//! - [`report`] prints the drawing, and reads a printed one.
+//!
+//! Beside them: [`generate`] makes random plan texts, and [`check`] judges a finished drawing by what was promised of
+//! it, without following the method.
+//!
+//! Positions are whole half steps throughout, except inside [`preliminary`], where the two placements are in steps.
+//! Vertices, levels and lines count from 0; printed levels and passes count from 1.
+
+#![forbid(unsafe_code)]
+#![warn(missing_docs)]
+
+pub mod check;
+mod cursor;
+pub mod generate;
+pub mod passes;
+pub mod place_run;
+pub mod plan;
+pub mod preliminary;
+pub mod random;
+pub mod report;
+pub mod text;
+
+/// The number of a refusal, as document 01 counts them.
+pub type Refusal = u32;
+
+/// The refusals of this library, by document 01's numbers.
+pub mod refusal {
+    use super::Refusal;
+
+    /// The text is not in its form, or too long.
+    pub const FORM: Refusal = 1;
+    /// A number or count is outside its limit.
+    pub const LIMIT: Refusal = 2;
+    /// A segment's end is no vertex, or its ends are not one level apart.
+    pub const ENDS: Refusal = 3;
+    /// The segments do not rise strictly.
+    pub const RISING: Refusal = 4;
+    /// A via lacks its one segment up and one down.
+    pub const VIA: Refusal = 5;
+    /// Two inner segments cross.
+    pub const CROSSING: Refusal = 6;
+    /// What was handed to place-run is not a run.
+    pub const RUN: Refusal = 8;
+}
