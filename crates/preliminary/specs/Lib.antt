@@ -1,0 +1,4 @@
+pub mod Classes
+pub mod Place
+pub mod Shift
+pub mod Positions

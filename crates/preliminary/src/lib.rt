@@ -1,0 +1,1 @@
+// Preliminary positions: see specs/.
