@@ -1,0 +1,3 @@
+pub mod Open
+pub mod Tried
+pub mod Cases

@@ -1,0 +1,6 @@
+pub mod Runs
+pub mod State
+pub mod Ready
+pub mod Passes
+pub mod Drawing
+pub mod Words

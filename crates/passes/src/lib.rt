@@ -1,0 +1,1 @@
+// The three passes: see specs/.

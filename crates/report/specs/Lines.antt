@@ -1,0 +1,48 @@
+-- The report's lines, each with its LF, as lists of bytes.
+use mathlib.Core.List.{List, [], _∷_, _++_, map}
+use Prim.Native.Nat.{ℕ}
+use lib.ListN.{length}
+use lib.IntN.{ℤ}
+use Rattle.plan.specs.Plan.{PlanData, vertexCount, numbers, levelOf, heightOf}
+use Rattle.text.specs.Bytes.{bytes}
+use Rattle.text.specs.Decimal.{decimal, signed}
+use Rattle.passes.specs.State.{positionOf}
+use Rattle.passes.specs.Drawing.{BoxAt, Placing, Drawing}
+
+-- The number by which a report line names vertex v.
+abbrev pub printedNumber : ℕ → ℕ
+printedNumber v = v
+
+-- The vertex of the n-th at-line.
+abbrev pub vertexOfLine : ℕ → ℕ
+vertexOfLine n = n
+
+-- "(drawing V P)": vertices and placings.
+unfoldable pub drawingLine : ℕ → ℕ → List ℕ
+drawingLine v p = bytes "(drawing " ++ decimal v ++ bytes " " ++ decimal p ++ bytes ")\n"
+
+-- "(at n p x y)": "vertex, preliminary and final position in half steps, y in steps".
+unfoldable pub atLine : ℕ → ℤ → ℤ → ℕ → List ℕ
+atLine n p x y =
+    bytes "(at " ++ decimal n ++ bytes " " ++ signed p ++ bytes " " ++ signed x ++ bytes " " ++ decimal y ++ bytes ")\n"
+
+unfoldable pub atLineOf : PlanData → Drawing → ℕ → List ℕ
+atLineOf p d v = atLine (printedNumber v) (positionOf (d .preliminary) v) (positionOf (d .final) v) (heightOf p (levelOf p v))
+
+-- "(place q l (n x) ..)": "pass, level, each box with its position after".
+unfoldable pub boxWords : List BoxAt → List ℕ
+boxWords [] = []
+boxWords (b ∷ bs) = bytes " (" ++ decimal (printedNumber (b .vertex)) ++ bytes " " ++ signed (b .position) ++ bytes ")" ++ boxWords bs
+
+unfoldable pub placeLine : Placing → List ℕ
+placeLine q = bytes "(place " ++ decimal (q .pass) ++ bytes " " ++ decimal (q .level) ++ boxWords (q .boxes) ++ bytes ")\n"
+
+-- "(end)"
+abbrev pub endLine : List ℕ
+endLine = bytes "(end)\n"
+
+-- All lines of a drawing, in order.
+unfoldable pub reportLines : PlanData → Drawing → List (List ℕ)
+reportLines p d =
+    drawingLine (vertexCount p) (length (d .placings))
+    ∷ map (λ n. atLineOf p d (vertexOfLine n)) (numbers 0 (vertexCount p)) ++ map placeLine (d .placings) ++ (endLine ∷ [])

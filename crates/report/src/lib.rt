@@ -1,0 +1,1 @@
+// The report's lines: see specs/.
