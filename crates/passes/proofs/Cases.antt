@@ -1,11 +1,12 @@
 -- Drawings of small plans, computed from the definitions. Each tells a wrong rule from the right one.
 use mathlib.Core.Path.{_≡_, refl}
 use mathlib.Core.Bool.{Bool, true, false}
-use mathlib.Core.List.{List, [], _∷_}
+use mathlib.Core.List.{List, [], _∷_, map}
 use Prim.Native.Nat.{ℕ}
 use lib.IntN.{ℤ, pos, negsuc}
 use Rattle.plan.specs.Plan.{PlanData}
 use Rattle.passes.specs.Drawing.{BoxAt, Placing, Drawing, drawingOf}
+use Rattle.passes.specs.Words.{bendsAt}
 use Rattle.passes.proofs.Open.{passesOpen}
 use Rattle.passes.proofs.Tried.{wordsHold, triedOpen}
 
@@ -240,3 +241,8 @@ slanting-drawn = refl
 pub slanting-words : wordsHold slanting ≡ true
 unfolding passesOpen triedOpen
 slanting-words = refl
+
+pub slanting-bends :
+    map (bendsAt slanting (drawingOf slanting .final)) (3 ∷ 4 ∷ 6 ∷ 7 ∷ 8 ∷ []) ≡ true ∷ true ∷ false ∷ true ∷ true ∷ []
+unfolding passesOpen
+slanting-bends = refl
