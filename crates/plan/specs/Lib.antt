@@ -3,3 +3,4 @@ pub mod Segments
 pub mod Strands
 pub mod Limits
 pub mod Checks
+pub mod Acceptable
