@@ -2,7 +2,6 @@
 use mathlib.Core.Bool.{Bool, true, false, cond, _&&_}
 use mathlib.Core.List.{List, [], _∷_}
 use Prim.Native.Nat.{ℕ}
-use lib.Dec.{leb}
 use lib.ListN.{length}
 use lib.IntN.{ℤ, _-ℤ_}
 use Rattle.plan.specs.Plan.{PlanData, numbers}
@@ -10,7 +9,7 @@ use Rattle.plan.specs.Checks.{every}
 use Rattle.passes.specs.State.{Step}
 use Rattle.passes.specs.Ready.{equals}
 use Rattle.passes.specs.Drawing.{Drawing, traceOf, drawingOf}
-use Rattle.passes.specs.Words.{finished, keepsOrder, innerUpright, bendsAtMostTwice, placedAsDue, stepAt, isPlacementThen, allWithin, boxesListed}
+use Rattle.passes.specs.Words.{finished, keepsOrder, innerUpright, bendsAtMostTwice, placedAsDue, stepAt, isPlacementThen, drawingWithin}
 
 unfoldable pub sameAll : List ℤ → List ℤ → Bool
 sameAll [] [] = true
@@ -29,7 +28,7 @@ wordsHold p =
     let trace = traceOf p in
     let xs = d .final in
     sameAll xs (finished p trace) && keepsOrder p xs && innerUpright p xs && bendsAtMostTwice p xs && placedAsDue p trace
-    && placementsHold p trace && allWithin xs && leb (length (d .placings)) 2048 && leb (boxesListed (d .placings)) 2048
+    && placementsHold p trace && drawingWithin d
 
 -- Named on an `unfolding` line beside `passesOpen`, it opens the definitions of this file.
 unfoldable pub triedOpen : Unit {0}

@@ -4,3 +4,4 @@ pub mod Ready
 pub mod Passes
 pub mod Drawing
 pub mod Words
+pub mod Demand3

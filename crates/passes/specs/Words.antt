@@ -16,7 +16,7 @@ use Rattle.preliminary.specs.Positions.{preliminary}
 use Rattle.passes.specs.Runs.{Run, runAt, runsOf, isBounded, isOpen, members, asList}
 use Rattle.passes.specs.State.{Step, positionOf, put, doubled}
 use Rattle.passes.specs.Ready.{equals, hasNoSlack, places}
-use Rattle.passes.specs.Drawing.{Placing, Drawing}
+use Rattle.passes.specs.Drawing.{BoxAt, Placing, Drawing}
 
 -- "The placings start from the preliminary positions, and each meets what those before it left; after the last, positions
 -- are final."
@@ -183,6 +183,16 @@ unfoldable pub allWithin : List ℤ → Bool
 allWithin xs = every isWithin xs
 
 -- All boxes in a list of placings.
-unfoldable pub boxesListed : List Placing → ℕ
-boxesListed [] = 0
-boxesListed (q ∷ qs) = length (q .boxes) + boxesListed qs
+unfoldable pub boxesListed : List Placing → List BoxAt
+boxesListed [] = []
+boxesListed (q ∷ qs) = q .boxes ++ boxesListed qs
+
+-- A drawing's positions, listed ones too, and "more than 2,048 placings or boxes in the placings".
+abbrev pub maxListed : ℕ
+maxListed = 2048
+
+unfoldable pub drawingWithin : Drawing → Bool
+drawingWithin d =
+    let boxes = boxesListed (d .placings) in
+    allWithin (d .preliminary) && allWithin (d .final) && allWithin (map (λ b. b .position) boxes)
+    && leb (length (d .placings)) maxListed && leb (length boxes) maxListed
