@@ -3,7 +3,7 @@
 //! From text to picture, one module for each part of the paper:
 //! - [`text`] reads a plan text (check 1) and writes it again; [`plan`] holds the plan and makes checks 2 to 6;
 //! - [`preliminary`] gives every vertex its preliminary position;
-//! - [`place_run`] places one run, once by single half steps (the definition) and once by jumps (fast);
+//! - [`place_run`] places one run: [`half_steps`] is the definition, [`jumps`] the fast way to the same outcome;
 //! - [`passes`] goes over the levels three times, places their runs and lists the placings;
 //! - [`report`] prints the drawing, and reads a printed one.
 //!
@@ -18,7 +18,10 @@
 
 pub mod check;
 mod cursor;
+mod damage;
 pub mod generate;
+pub mod half_steps;
+pub mod jumps;
 pub mod passes;
 pub mod place_run;
 pub mod plan;

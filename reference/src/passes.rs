@@ -2,7 +2,8 @@
 
 use std::ops::Range;
 
-use crate::place_run::{Placer, Run, MAX_BOXES};
+use crate::jumps::Placer;
+use crate::place_run::{Run, MAX_BOXES};
 use crate::plan::{Plan, Side, Stretch};
 use crate::preliminary;
 

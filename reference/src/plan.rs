@@ -219,8 +219,10 @@ impl Plan {
 
     /// The via on that side to which a segment joins v, if v is a via too (an inner segment).
     pub fn joined_via(&self, v: usize, side: Side) -> Option<usize> {
-        let &[w] = self.neighbours(v, side) else { return None };
-        (self.is_via(v) && self.is_via(w)).then_some(w)
+        if !self.is_via(v) {
+            return None;
+        }
+        self.neighbours(v, side).first().copied().filter(|&w| self.is_via(w))
     }
 
     /// The runs of a level from left to right, empty ones too: one before each via, one after the last.

@@ -129,7 +129,8 @@ impl<'a> Placement<'a> {
             members[self.class[strand]].push(strand);
         }
         for class in members {
-            let shift = self.shift_to_siblings(&class, &position).or_else(|| self.shift_to_neighbours(&class, &position));
+            let shift =
+                self.shift_to_siblings(&class, &position).or_else(|| self.shift_to_neighbours(&class, &position));
             for strand in class {
                 position[strand] += shift.unwrap_or(0);
             }

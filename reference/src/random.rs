@@ -26,9 +26,9 @@ impl Random {
         z ^ (z >> 31)
     }
 
-    /// A number below `end`, which is above 0. (The slight preference for low numbers does no harm here.)
+    /// A number below `end`; 0 if there is none. (The slight preference for low numbers does no harm here.)
     pub fn below(&mut self, end: usize) -> usize {
-        (self.next() % end as u64) as usize
+        (self.next() % end.max(1) as u64) as usize
     }
 
     /// A number from `least` to `most`, both included.

@@ -1,0 +1,134 @@
+//! The commands; each reads a plan text from standard input, except those that make texts.
+
+use std::fs;
+use std::io::{self, Read, Write};
+use std::path::{Path, PathBuf};
+use std::process::ExitCode;
+
+use reference::plan::Plan;
+use reference::{check, generate, passes, preliminary, report, text};
+
+const USAGE: &str = "\
+reference report < PLAN          the report, or (refused N)
+reference preliminary < PLAN     (at n p) for each vertex, or (refused N)
+reference reread < PLAN          the plan's text again, or (refused N)
+reference steps < PLAN           how many half steps all joins of the draw take; 0 if refused
+reference check [REPORT] < PLAN  judges the report, its own or that in the file: ok or (refused N), or each
+                                 promise that fails
+reference gen KIND SEED          a random plan text
+reference vectors DIR            compares the report of every NAME.plan with NAME.report
+KIND: small medium wide deep vias max tangled damaged
+";
+
+fn main() -> ExitCode {
+    let arguments: Vec<String> = std::env::args_os().skip(1).map(|word| word.to_string_lossy().into_owned()).collect();
+    let words: Vec<&str> = arguments.iter().map(String::as_str).collect();
+    match run(&words) {
+        Ok(true) => ExitCode::SUCCESS,
+        Ok(false) => ExitCode::FAILURE,
+        Err(error) => {
+            // Where even this cannot be written, the exit code has to do.
+            let _ = writeln!(io::stderr(), "reference: {error}");
+            ExitCode::from(2)
+        }
+    }
+}
+
+/// Does what the words say; false if a drawing was judged and found wanting.
+fn run(words: &[&str]) -> io::Result<bool> {
+    match words {
+        ["report"] => print(&report::answer(&input()?)),
+        ["preliminary"] => print(&of_plan(&input()?, |plan| report::preliminary_lines(&preliminary::positions(plan)))),
+        ["reread"] => print(&of_plan(&input()?, text::write)),
+        ["steps"] => print(format!("{}\n", steps(&input()?)).as_bytes()),
+        ["check"] => check(None),
+        ["check", file] => check(Some(&fs::read(file)?)),
+        ["gen", kind, seed] => print(&random_text(kind, number(seed)?)?),
+        ["vectors", folder] => vectors(Path::new(folder)),
+        _ => Err(wrong(USAGE)),
+    }
+}
+
+fn wrong(message: &str) -> io::Error {
+    io::Error::new(io::ErrorKind::InvalidInput, message.trim_end().to_string())
+}
+
+fn number(word: &str) -> io::Result<u64> {
+    word.parse().map_err(|_| wrong("not a number"))
+}
+
+/// Standard input; of a text that is too long, one byte more than the limit.
+fn input() -> io::Result<Vec<u8>> {
+    let mut stdin = io::stdin().lock();
+    let mut bytes = Vec::with_capacity(text::MAX_BYTES + 1);
+    stdin.by_ref().take(text::MAX_BYTES as u64 + 1).read_to_end(&mut bytes)?;
+    io::copy(&mut stdin, &mut io::sink())?;
+    Ok(bytes)
+}
+
+fn print(bytes: &[u8]) -> io::Result<bool> {
+    let mut out = io::stdout().lock();
+    out.write_all(bytes)?;
+    out.flush()?;
+    Ok(true)
+}
+
+/// What is to be said of a plan, or its refusal.
+fn of_plan(bytes: &[u8], say: impl FnOnce(&Plan) -> Vec<u8>) -> Vec<u8> {
+    match text::read(bytes) {
+        Ok(plan) => say(&plan),
+        Err(number) => report::refused(number),
+    }
+}
+
+fn steps(bytes: &[u8]) -> u64 {
+    text::read(bytes).map_or(0, |plan| passes::draw_and_count(&plan).1)
+}
+
+fn check(report: Option<&[u8]>) -> io::Result<bool> {
+    let text = input()?;
+    let own = report::answer(&text);
+    let failures = judge(&text, report.unwrap_or(&own));
+    if !failures.is_empty() {
+        return print(failures.as_bytes()).map(|_| false);
+    }
+    match text::read(&text) {
+        Ok(_) => print(b"ok\n"),
+        Err(number) => print(&report::refused(number)),
+    }
+}
+
+/// The promises that a report of this text breaks, one on each line. Of a refused text there is only its refusal.
+fn judge(text: &[u8], report: &[u8]) -> String {
+    let plan = match text::read(text) {
+        Ok(plan) => plan,
+        Err(number) if report == report::refused(number) => return String::new(),
+        Err(number) => return format!("made: the text is refused with {number}\n"),
+    };
+    match report::read(&plan, report) {
+        Some(drawing) => check::judge(&plan, &drawing).iter().map(|failure| format!("{failure}\n")).collect(),
+        None => "made: not a report of this plan\n".to_string(),
+    }
+}
+
+fn random_text(kind: &str, seed: u64) -> io::Result<Vec<u8>> {
+    generate::generate(kind, seed).ok_or_else(|| wrong("no such kind"))
+}
+
+/// Whether all reports in a folder are those of the plans beside them; names those that are not.
+fn vectors(folder: &Path) -> io::Result<bool> {
+    let files: Vec<PathBuf> = fs::read_dir(folder)?.map(|entry| Ok(entry?.path())).collect::<io::Result<_>>()?;
+    let mut plans: Vec<PathBuf> = files.into_iter().filter(|file| file.extension() == Some("plan".as_ref())).collect();
+    plans.sort();
+    let mut result = String::new();
+    let mut differ = 0;
+    for plan in &plans {
+        let report = fs::read(plan.with_extension("report"))?;
+        if report::answer(&fs::read(plan)?) != report {
+            result += &format!("{} differs\n", plan.display());
+            differ += 1;
+        }
+    }
+    result += &format!("{} of {} agree\n", plans.len() - differ, plans.len());
+    print(result.as_bytes()).map(|_| differ == 0)
+}
