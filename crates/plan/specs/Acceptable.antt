@@ -1,16 +1,13 @@
 -- Which plan data are those of a text that passes checks 1 to 6.
 use mathlib.Core.Bool.{Bool, true, false, cond, _&&_}
 use mathlib.Core.List.{List, [], _∷_}
-use Prim.Native.Nat.{ℕ, _+_}
+use Prim.Native.Nat.{ℕ}
 use lib.Dec.{eqb, leb}
 use lib.ListN.{length}
+use Rattle.ints.specs.Lists.{sum}
 use Rattle.plan.specs.Plan.{PlanData, vertexCount}
 use Rattle.plan.specs.Limits.{within, maxLevels, maxGap, maxSpacing, maxHalfWidth, maxOnLevel, maxVertices, maxSegments}
 use Rattle.plan.specs.Checks.{every, check3, check4, check5, check6}
-
-unfoldable pub sum : List ℕ → ℕ
-sum [] = 0
-sum (n ∷ ns) = n + sum ns
 
 -- Each vertex has its half-width: a box one within the limit, a via 0.
 abbrev pub halfHolds : Bool → ℕ → Bool

@@ -3,3 +3,4 @@ pub mod Decimal
 pub mod Parser
 pub mod Form
 pub mod Reading
+pub mod Writing
