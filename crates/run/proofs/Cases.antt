@@ -42,3 +42,9 @@ case7 = refl
 pub tie : placeRun free 0 (box (pos 0) (negsuc 4 ∷ []) 16 ∷ box (pos 0) (pos 8 ∷ []) 0 ∷ []) free ≡ negsuc 4 ∷ pos 11 ∷ []
 unfolding runOpen
 tie = refl
+
+-- All boxes of a half that move count, not the one beside the cut alone: that would give −8, 2, 12, 100.
+pub half : placeRun free 0 (box (pos 0) (pos 0 ∷ pos 0 ∷ pos 0 ∷ []) 10 ∷ box (pos 0) (pos 0 ∷ []) 10 ∷ box (pos 0) (pos 12 ∷ []) 10 ∷ box (pos 100) [] 0 ∷ []) free
+    ≡ pos 0 ∷ pos 10 ∷ pos 20 ∷ pos 100 ∷ []
+unfolding runOpen
+half = refl

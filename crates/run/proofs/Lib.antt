@@ -1,1 +1,14 @@
 pub mod Cases
+pub mod Feasible
+pub mod Exchange
+pub mod JoinBest
+pub mod PlaceBest
+pub mod Sorted
+pub mod Median
+pub mod Coordinates
+pub mod Pushes
+pub mod SameJoin
+pub mod Optimal
+pub mod Meet
+pub mod Fast
+pub mod Within
