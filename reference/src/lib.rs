@@ -7,7 +7,7 @@
 //! - [`passes`] goes over the levels three times, places their runs and lists the placings;
 //! - [`report`] prints the drawing, and reads a printed one.
 //!
-//! Beside them: [`generate`] makes random plan texts, and [`check`] judges a finished drawing by what was promised of
+//! Beside them: [`generate`] makes random plan texts, [`requests`] requests for place-run, and [`check`] judges a finished drawing by what was promised of
 //! it, without following the method.
 //!
 //! Positions are whole half steps throughout, except inside [`preliminary`], where the two placements are in steps.
@@ -28,6 +28,7 @@ pub mod plan;
 pub mod preliminary;
 pub mod random;
 pub mod report;
+pub mod requests;
 pub mod text;
 
 /// The number of a refusal, as document 01 counts them.

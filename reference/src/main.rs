@@ -6,6 +6,8 @@ use std::path::{Path, PathBuf};
 use std::process::ExitCode;
 
 use reference::plan::Plan;
+use reference::random::Random;
+use reference::requests::{self, Request};
 use reference::{check, generate, passes, preliminary, report, text};
 
 const USAGE: &str = "\
@@ -17,8 +19,13 @@ reference check [REPORT] < PLAN  judges the report, its own or that in the file:
                                  promise that fails
 reference gen KIND SEED          a random plan text
 reference vectors DIR            compares the report of every NAME.plan with NAME.report
+reference requests COUNT         cases 3 to 7 and COUNT random requests for place-run, a line each
+reference outcomes COUNT         what place-run answers to them, a line each
 KIND: small medium wide deep vias max tangled damaged
 ";
+
+/// Most characters in the line of a request that is listed.
+const MOST_IN_LINE: usize = 300;
 
 fn main() -> ExitCode {
     let arguments: Vec<String> = std::env::args_os().skip(1).map(|word| word.to_string_lossy().into_owned()).collect();
@@ -45,6 +52,8 @@ fn run(words: &[&str]) -> io::Result<bool> {
         ["check", file] => check(Some(&fs::read(file)?)),
         ["gen", kind, seed] => print(&random_text(kind, number(seed)?)?),
         ["vectors", folder] => vectors(Path::new(folder)),
+        ["requests", count] => print(lines(number(count)?, |q| q.to_string()).as_bytes()),
+        ["outcomes", count] => print(lines(number(count)?, Request::outcome_line).as_bytes()),
         _ => Err(wrong(USAGE)),
     }
 }
@@ -113,6 +122,13 @@ fn judge(text: &[u8], report: &[u8]) -> String {
 
 fn random_text(kind: &str, seed: u64) -> io::Result<Vec<u8>> {
     generate::generate(kind, seed).ok_or_else(|| wrong("no such kind"))
+}
+
+/// What is to be said of cases 3 to 7 and of `count` random requests for place-run, those with short lines.
+fn lines(count: u64, say: impl Fn(&Request) -> String) -> String {
+    let random = (0..).map(|seed| Request::any(&mut Random::new("request", seed)));
+    let short = random.filter(|q| q.to_string().len() <= MOST_IN_LINE).take(usize::try_from(count).unwrap_or(0));
+    requests::cases().into_iter().chain(short).map(|q| say(&q) + "\n").collect()
 }
 
 /// Whether all reports in a folder are those of the plans beside them; names those that are not.

@@ -4,6 +4,7 @@ use mathlib.Core.Bool.{true, false}
 use mathlib.Core.List.{List, [], _∷_}
 use lib.IntN.{ℤ, pos, negsuc}
 use Rattle.plan.specs.Plan.{PlanData}
+use Rattle.plan.specs.Acceptable.{acceptable}
 use Rattle.preliminary.specs.Positions.{preliminary}
 use Rattle.preliminary.proofs.Open.{preliminaryOpen}
 
@@ -19,6 +20,11 @@ one = record {
   uppers = 0 ∷ 1 ∷ 2 ∷ 3 ∷ [];
   lowers = 2 ∷ 3 ∷ 4 ∷ 4 ∷ [];
 }
+
+-- it passes the checks, so the theorems speak of it
+pub one-acceptable : acceptable one ≡ true
+unfolding preliminaryOpen
+one-acceptable = refl
 
 pub one-positions : preliminary one ≡ negsuc 7 ∷ pos 8 ∷ negsuc 4 ∷ pos 5 ∷ pos 0 ∷ []
 unfolding preliminaryOpen

@@ -1,2 +1,11 @@
 pub mod Open
 pub mod Cases
+pub mod Strands
+pub mod Rows
+pub mod Give
+pub mod Classes
+pub mod Rank
+pub mod Placed
+pub mod Shifted
+pub mod Sizes
+pub mod Positions
