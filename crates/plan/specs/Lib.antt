@@ -3,4 +3,6 @@ pub mod Segments
 pub mod Strands
 pub mod Limits
 pub mod Checks
+pub mod Stored
+pub mod Graph
 pub mod Acceptable

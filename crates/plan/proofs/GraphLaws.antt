@@ -1,0 +1,94 @@
+-- What checks 3 to 6 have to do with each other: by check 3 every end is a vertex, and all four ask about the graph alone.
+-- Assumes nothing.
+use Prim.Native.Nat.{ℕ, zero, suc, _+_, _<_}
+use mathlib.Core.Path.{_≡_, refl, ap}
+use mathlib.Core.Bool.{Bool, true, false, not, _&&_}
+use mathlib.Core.List.{List, [], _∷_}
+use native.Mathlib.Omega.{arith}
+use borrow.Author.Tests.{ltb-true}
+use lib.Dec.{ltb, eqb}
+use lib.ListN.{length, getD}
+use Rattle.plan.specs.Plan.{PlanData, vertexCount, levelOf}
+use Rattle.plan.specs.Segments.{Segment, segmentsFrom, segmentsOf, innerIn, innerSegments}
+use Rattle.plan.specs.Checks.{every, some, goesOneDown, check3, check4, isThrough, check5, crosses, check6}
+use Rattle.plan.specs.Graph.{graphOf, segment, Within, InLimits, firstFailed}
+use Rattle.plan.proofs.Crossings.{and-left, and-right, cond-left, cond-right}
+
+-- ---- every end is a vertex
+module _ (p : PlanData) where
+  ends-in : (s : Segment) → goesOneDown p s ≡ true → (s .upper < vertexCount p) × (s .lower < vertexCount p)
+  ends-in s e =
+      let n = vertexCount p in
+      let both = and-left (ltb (s .upper) n && ltb (s .lower) n) (eqb (levelOf p (s .lower)) (levelOf p (s .upper) + 1)) e in
+      (ltb-true (s .upper) n (and-left (ltb (s .upper) n) (ltb (s .lower) n) both), ltb-true (s .lower) n (and-right (ltb (s .upper) n) (ltb (s .lower) n) both))
+
+  below-both : («as» bs : List ℕ) → length «as» ≡ length bs → every (goesOneDown p) (segmentsFrom «as» bs) ≡ true
+      → (i : ℕ) → i < length «as» → (getD «as» i 0 < vertexCount p) × (getD bs i 0 < vertexCount p)
+  unfolding every segmentsFrom
+  below-both [] bs e t i h = absurd (omega arith)
+  below-both (a ∷ «as») [] e t i h = absurd (omega arith)
+  below-both (a ∷ «as») (b ∷ bs) e t zero h = ends-in (segment a b) (cond-left (goesOneDown p (segment a b)) (every (goesOneDown p) (segmentsFrom «as» bs)) t)
+  below-both (a ∷ «as») (b ∷ bs) e t (suc i) h =
+      below-both «as» bs (omega arith) (cond-right (goesOneDown p (segment a b)) (every (goesOneDown p) (segmentsFrom «as» bs)) t) i (omega arith)
+
+pub within-of : (sizes : List ℕ) (vias : List Bool) («as» bs : List ℕ) → InLimits sizes vias «as» bs → check3 (graphOf sizes vias «as» bs) ≡ true → Within vias «as» bs
+unfolding check3 segmentsOf
+within-of sizes vias «as» bs l c = record {
+  vertices = l .vertices;
+  segments = l .segments;
+  ends = l .ends;
+  upper = λ i h. below-both (graphOf sizes vias «as» bs) «as» bs (l .ends) c i h .0;
+  lower = λ i h. below-both (graphOf sizes vias «as» bs) «as» bs (l .ends) c i (omega arith) .1;
+}
+
+-- ---- the first that fails
+module _ (p : PlanData) where
+  pub fails-3 : check3 p ≡ false → firstFailed p ≡ 3
+  unfolding firstFailed
+  fails-3 a = rw a
+
+  pub fails-4 : check3 p ≡ true → check4 p ≡ false → firstFailed p ≡ 4
+  unfolding firstFailed
+  fails-4 a b = rw (a, b)
+
+  pub fails-5 : check3 p ≡ true → check4 p ≡ true → check5 p ≡ false → firstFailed p ≡ 5
+  unfolding firstFailed
+  fails-5 a b c = rw (a, b, c)
+
+  pub fails-6 : check3 p ≡ true → check4 p ≡ true → check5 p ≡ true → check6 p ≡ false → firstFailed p ≡ 6
+  unfolding firstFailed
+  fails-6 a b c d = rw (a, b, c, d)
+
+  pub fails-none : check3 p ≡ true → check4 p ≡ true → check5 p ≡ true → check6 p ≡ true → firstFailed p ≡ 0
+  unfolding firstFailed
+  fails-none a b c d = rw (a, b, c, d)
+
+-- ---- the checks of any plan's data are those of its graph
+abbrev pub graph : PlanData → PlanData
+graph p = graphOf (p .sizes) (p .vias) (p .uppers) (p .lowers)
+
+module _ (p : PlanData) where
+  pub same-3 : check3 p ≡ check3 (graph p)
+  unfolding check3 segmentsOf levelOf
+  same-3 = refl
+
+  pub same-4 : check4 p ≡ check4 (graph p)
+  unfolding check4 segmentsOf
+  same-4 = refl
+
+  pub same-5 : check5 p ≡ check5 (graph p)
+  unfolding check5 segmentsOf isThrough
+  same-5 = refl
+
+  same-inner : (ss : List Segment) → innerIn p ss ≡ innerIn (graph p) ss
+  unfolding innerIn
+  same-inner [] = refl
+  same-inner (s ∷ ss) = rw (same-inner ss)
+
+  pub same-6 : check6 p ≡ check6 (graph p)
+  unfolding check6 innerSegments segmentsOf crosses levelOf
+  same-6 = ap (λ (inner : List Segment). not (some (λ s. some (crosses p s) inner) inner)) (same-inner (segmentsOf p))
+
+  pub same-first : firstFailed p ≡ firstFailed (graph p)
+  unfolding firstFailed
+  same-first = rw (same-3, same-4, same-5, same-6)

@@ -1,0 +1,85 @@
+-- Laws of `filled` and `levelIn`, as a walk over the levels meets them. Assumes nothing.
+use Prim.Native.Nat.{ℕ, zero, suc, _+_, _-_, _<_, _≤_, min}
+use mathlib.Core.Path.{_≡_, refl, sym, _∙_, ap}
+use mathlib.Core.List.{List}
+use native.Mathlib.Nat.{zero-add}
+use native.Mathlib.Omega.{arith}
+use native.Mathlib.Numerals.{add-one}
+use borrow.Author.Tests.{lt-ltb, le-ltb}
+use lib.ListN.{length, getD, drop, set, length-set, drop-of-length-le}
+use lib.Seq.{drop-cons, getD-set-same, getD-set-other}
+use Rattle.ints.proofs.Laws.{cases}
+use Rattle.plan.specs.Plan.{levelIn}
+use Rattle.plan.specs.Graph.{filled}
+
+-- ---- filled
+pub filled-none : (xs : List ℕ) (at n l : ℕ) → n ≡ 0 → filled xs at n l ≡ xs
+unfolding filled
+filled-none xs at n l h = rw h
+
+pub filled-more : (xs : List ℕ) (at n m l : ℕ) → n ≡ m + 1 → filled xs at n l ≡ filled (set xs at l) (at + 1) m l
+unfolding filled
+filled-more xs at zero m l h = absurd (omega arith)
+filled-more xs at (suc n) m l h = let k : n ≡ m = omega arith in rw k
+
+pub filled-long : (xs : List ℕ) (at n l : ℕ) → length (filled xs at n l) ≡ length xs
+unfolding filled
+filled-long xs at zero l = refl
+filled-long xs at (suc n) l = filled-long (set xs at l) (at + 1) n l ∙ length-set xs at l
+
+pub filled-before : (xs : List ℕ) (at n l v : ℕ) → v < at → getD (filled xs at n l) v 0 ≡ getD xs v 0
+unfolding filled
+filled-before xs at zero l v h = refl
+filled-before xs at (suc n) l v h = filled-before (set xs at l) (at + 1) n l v (omega arith) ∙ getD-set-other xs at v l 0 (λ e. omega arith)
+
+pub filled-in : (xs : List ℕ) (at n l v : ℕ) → at ≤ v → v < at + n → v < length xs → getD (filled xs at n l) v 0 ≡ l
+unfolding filled
+filled-in xs at zero l v h k m = absurd (omega arith)
+filled-in xs at (suc n) l v h k m = cases v at
+    (λ e. let same : v ≡ at = omega arith in
+    filled-before (set xs at l) (at + 1) n l v (omega arith) ∙ ap (λ (i : ℕ). getD (set xs at l) i 0) same ∙ getD-set-same xs at l 0 (omega arith))
+    (λ e. filled-in (set xs at l) (at + 1) n l v (omega arith) (omega arith) (rw length-set m))
+
+-- ---- levelIn, below the first i levels
+module _ (ns : List ℕ) (i v : ℕ) where
+  pub level-past : length ns ≤ i → levelIn (drop i ns) v ≡ 1
+  unfolding levelIn
+  level-past h = rw (drop-of-length-le ns h)
+
+  pub level-here : i < length ns → v < getD ns i 0 → levelIn (drop i ns) v ≡ 1
+  unfolding levelIn
+  level-here h k = rw (drop-cons ns i 0 h, lt-ltb v (getD ns i 0) k)
+
+  pub level-next : i < length ns → getD ns i 0 ≤ v → levelIn (drop i ns) v ≡ suc (levelIn (drop (i + 1) ns) (v - getD ns i 0))
+  unfolding levelIn
+  level-next h k = rw (add-one, drop-cons ns i 0 h, le-ltb v (getD ns i 0) k)
+
+-- ---- a walk over the levels: i of them are written, up to vertex `from`
+pub record Walked (sizes level : List ℕ) (from i : ℕ) : Type 0 where
+  pub written : (v : ℕ) → v < from → getD level v 0 ≡ levelIn sizes v
+  pub ahead : (v : ℕ) → from ≤ v → v < length level → levelIn sizes v ≡ i + levelIn (drop i sizes) (v - from)
+
+pub walk-start : (sizes level : List ℕ) → Walked sizes level 0 0
+walk-start sizes level =
+    record { written = λ v h. absurd (omega arith); ahead = λ v h k. let e : v - 0 ≡ v = omega arith in rw (e, zero-add) }
+
+module _ (sizes level : List ℕ) (from i : ℕ) (w : Walked sizes level from i) where
+  pub walk-end : length sizes ≤ i → (v : ℕ) → v < length level → getD (filled level from (length level - from) (i + 1)) v 0 ≡ levelIn sizes v
+  walk-end h v k = cases from v
+      (λ m. filled-in level from (length level - from) (i + 1) v m (omega arith) k
+      ∙ sym (w .ahead v m k ∙ ap (λ (n : ℕ). i + n) (level-past sizes i (v - from) h)))
+      (λ m. filled-before level from (length level - from) (i + 1) v m ∙ w .written v m)
+
+  pub walk-on : (to : ℕ) → i < length sizes → to ≡ min (from + getD sizes i 0) (length level)
+      → Walked sizes (filled level from (to - from) (i + 1)) to (i + 1)
+  walk-on to h e = record {
+    written = λ v k. cases from v
+        (λ m. filled-in level from (to - from) (i + 1) v m (omega arith) (omega arith)
+        ∙ sym (w .ahead v m (omega arith) ∙ ap (λ (n : ℕ). i + n) (level-here sizes i (v - from) h (omega arith))))
+        (λ m. filled-before level from (to - from) (i + 1) v m ∙ w .written v m);
+    ahead = λ v k m.
+        let m' : v < length level = rw filled-long at m in
+        let next = level-next sizes i (v - from) h (omega arith) in
+        let past : v - from - getD sizes i 0 ≡ v - to = omega arith in
+        w .ahead v (omega arith) m' ∙ ap (λ (n : ℕ). i + n) (next ∙ ap (λ (n : ℕ). suc (levelIn (drop (i + 1) sizes) n)) past) ∙ omega arith;
+  }

@@ -1,0 +1,92 @@
+-- `plan::checks::check_inner` meets its contract: whether the lower ends of the inner segments rise is whether those from the
+-- i-th segment on rise from the last one's; and that is check 6 (Crossings.antt).
+use Prim.Native.Nat.{_+_, _≤_, _-_}
+use mathlib.Core.Logic.{⊎-elim}
+use mathlib.Core.Path.{_≡_, refl, sym, _∙_, ap}
+use borrow.Author.Needs.{needs}
+use native.Mathlib.Omega.{arith}
+use lib.ListN.{length}
+use Rattle.plan.proofs.InnerLaws.{riseFrom, check6-same, inner-end, inner-skip, inner-on, inner-stop}
+use Rattle.plan.proofs.checks.check_inner.Statement.{statement}
+use Rattle.plan.proofs.checks.check_inner.Tie as tie
+
+abbrev Inv-loop : tie.InvT-loop
+Inv-loop vias uppers lowers last₀ i₀ last i = (i ≤ length uppers) × (riseFrom vias uppers lowers i last ≡ riseFrom vias uppers lowers 0 0)
+
+abbrev μ-loop : tie.MeasureT-loop
+μ-loop vias uppers lowers last₀ i₀ last i = length uppers - i
+
+loop-holds : tie.Need-loop-holds Inv-loop μ-loop
+loop-holds c = (omega arith, refl)
+
+mul-lower : tie.Need-mul-lower Inv-loop μ-loop
+mul-lower c = search needs
+
+shared-slice-read-lower : tie.Need-shared-slice-read-lower Inv-loop μ-loop
+shared-slice-read-lower c = search needs
+
+mul-is-inner : tie.Need-mul-is-inner Inv-loop μ-loop
+mul-is-inner c = search needs
+
+shared-slice-read-is-inner : tie.Need-shared-slice-read-is-inner Inv-loop μ-loop
+shared-slice-read-is-inner c = search needs
+
+is-inner-requires : tie.Need-is-inner-requires Inv-loop μ-loop
+is-inner-requires c κs =
+    let w = c .before .before .before .before .before .before .before .pre in
+    let i = c .before .before .before .loop .i in
+    (w .upper i (omega arith), w .lower i (omega arith))
+
+returns : tie.Need-returns Inv-loop μ-loop
+returns c =
+    let s = c .before .before .before .before .before .before .before .before .before .before in
+    let l = c .before .before .before .before .before .before .loop in
+    let joins = sym (c .before .before .is-inner .ensures) ∙ c .before .if1 .taken in
+    let none = inner-stop (s .args .vias .now) (s .args .uppers .now) (s .args .lowers .now) (l .i) (l .last) (s .pre .ends) (omega arith) joins (c .if2 .taken) in
+    λ sizes c3 c4. sym none ∙ l .inv .1 ∙ sym (check6-same (s .args .vias .now) (s .args .uppers .now) (s .args .lowers .now) sizes c3 c4)
+
+add-i : tie.Need-add-i Inv-loop μ-loop
+add-i c = search needs
+
+loop-less : tie.Need-loop-less Inv-loop μ-loop
+loop-less c = search needs
+
+loop-again : tie.Need-loop-again Inv-loop μ-loop
+loop-again c =
+    let s = c .before .before .before .before .before .before .before .before .before in
+    let l = c .before .before .before .before .before .loop in
+    let told = c .before .is-inner .ensures in
+    let rise = riseFrom (s .args .vias .now) (s .args .uppers .now) (s .args .lowers .now) (l .i + 1) in
+    let on = inner-on (s .args .vias .now) (s .args .uppers .now) (s .args .lowers .now) (l .i) (l .last) (s .pre .ends) (omega arith) in
+    let skip = inner-skip (s .args .vias .now) (s .args .uppers .now) (s .args .lowers .now) (l .i) (l .last) (s .pre .ends) (omega arith) in (
+      omega arith,
+      ⊎-elim
+          (λ w. ap rise (w .2) ∙ sym (on (sym told ∙ w .0 .taken) (w .1 .left)) ∙ l .inv .1)
+          (λ w. ap rise (w .1) ∙ sym (skip (sym told ∙ w .0 .left)) ∙ l .inv .1)
+          (c .if1 .came),
+    )
+
+returns-2 : tie.Need-returns-2 Inv-loop μ-loop
+returns-2 c =
+    let s = c .before .before .before .before .before in
+    let l = c .before .loop in
+    let all = inner-end (s .args .vias .now) (s .args .uppers .now) (s .args .lowers .now) (l .i) (l .last) (omega arith) in
+    λ sizes c3 c4. sym all ∙ l .inv .1 ∙ sym (check6-same (s .args .vias .now) (s .args .uppers .now) (s .args .lowers .now) sizes c3 c4)
+
+pub check-inner-spec : {M : Type 1} → statement M
+check-inner-spec =
+    tie.close
+    (tie.spec
+    Inv-loop
+    μ-loop
+    loop-holds
+    mul-lower
+    shared-slice-read-lower
+    mul-is-inner
+    shared-slice-read-is-inner
+    is-inner-requires
+    returns
+    add-i
+    loop-less
+    loop-again
+    returns-2)

@@ -1,0 +1,34 @@
+-- A plan as it is stored, and the data that it holds. The stage says how many vertices and segments there are; what lies
+-- beyond them, and beyond the first K level sizes, is no part of the plan.
+use mathlib.Core.Bool.{false}
+use Prim.Native.Nat.{ℕ}
+use lib.ListN.{take, replicate}
+use Rattle.plan.specs.declared.data.Plan.{Plan}
+use Rattle.plan.specs.Limits.{maxLevels, maxVertices, maxSegments}
+use Rattle.plan.specs.Plan.{PlanData}
+
+-- The data of a stored plan with v vertices and e segments.
+abbrev pub planData : Plan → ℕ → ℕ → PlanData
+planData p v e = record {
+  levels = p .levels;
+  gap = p .gap;
+  spacing = p .spacing;
+  sizes = take (p .levels) (p .sizes);
+  vias = take v (p .vias);
+  halves = take v (p .halves);
+  uppers = take e (p .uppers);
+  lowers = take e (p .lowers);
+}
+
+-- The stored plan that is 0 throughout.
+unfoldable pub emptyPlan : Plan
+emptyPlan = record {
+  levels = 0;
+  gap = 0;
+  spacing = 0;
+  sizes = replicate maxLevels 0;
+  vias = replicate maxVertices false;
+  halves = replicate maxVertices 0;
+  uppers = replicate maxSegments 0;
+  lowers = replicate maxSegments 0;
+}

@@ -1,0 +1,165 @@
+// Checks 3 to 6 of document 01, over slices that are as long as the data. Each stops at the first that fails.
+use crate::data::Plan;
+use crate::levels::levels;
+use crate::levels::wide;
+ghost use mathlib.Core.Path.{_≡_};
+ghost use mathlib.Core.Bool.{Bool, true, false, _&&_};
+ghost use mathlib.Core.List.{List};
+ghost use Prim.Native.Nat.{ℕ, _<_, _≤_};
+ghost use lib.ListN.{length, getD};
+ghost use Rattle.plan.specs.Limits.{maxVertices, maxSegments};
+ghost use Rattle.plan.specs.Checks.{comesBefore, check3, check4, check5, check6};
+ghost use Rattle.plan.specs.Graph.{graphOf, segment, Levelled, oneDown, Below, Counted, Within, InLimits, through, firstFailed};
+
+// Whether a and b are vertices, b one level below a.
+fn one_down(level: &[u16], a: u32, b: u32) -> bool
+    ensures { λ r. ⌜ r ≡ oneDown (now (level .entry)) (segment a b) ⌝ }
+{
+    let upper = a as usize;
+    let lower = b as usize;
+    if level.len() <= upper {
+        return false;
+    }
+    if level.len() <= lower {
+        return false;
+    }
+    wide(level[lower]) == wide(level[upper]) + 1
+}
+
+// 3: the ends of each segment are vertices, B one level below A. `level` has the level of every vertex.
+pub fn check_ends(level: &[u16], uppers: &[u32], lowers: &[u32]) -> bool
+    requires { ⌜ length (now uppers) ≡ length (now lowers) ⌝ }
+    ensures { λ r. ⌜ ((sizes : List ℕ) (vias : List Bool) → Levelled sizes (now (level .entry)) → length vias ≡ length (now (level .entry)) → r ≡ check3 (graphOf sizes vias (now (uppers .entry)) (now (lowers .entry)))) ⌝ }
+{
+    let mut i: usize = 0;
+    while i < uppers.len() {
+        if !one_down(level, uppers[i], lowers[i]) {
+            return false;
+        }
+        i += 1;
+    }
+    true
+}
+
+// Whether the segment from a to b comes before that from c to d.
+fn comes_before(a: u32, b: u32, c: u32, d: u32) -> bool
+    ensures { λ r. ⌜ r ≡ comesBefore (segment a b) (segment c d) ⌝ }
+{
+    a < c || (a == c && b < d)
+}
+
+// 4: segments strictly rising by A, then B.
+pub fn check_order(uppers: &[u32], lowers: &[u32]) -> bool
+    requires { ⌜ length (now uppers) ≡ length (now lowers) ⌝ }
+    ensures { λ r. ⌜ ((sizes : List ℕ) (vias : List Bool) → r ≡ check4 (graphOf sizes vias (now (uppers .entry)) (now (lowers .entry)))) ⌝ }
+{
+    let mut i: usize = 0;
+    while i + 1 < uppers.len() {
+        if !comes_before(uppers[i], lowers[i], uppers[i + 1], lowers[i + 1]) {
+            return false;
+        }
+        i += 1;
+    }
+    true
+}
+
+// Of each vertex, how many of the ends it is.
+fn count(ends: &[u32]) -> [u16; Plan::MAX_VERTICES]
+    requires { ⌜ Below maxVertices (now ends) × (length (now ends) ≤ maxSegments) ⌝ }
+    ensures { λ r. ⌜ Counted maxVertices (now (ends .entry)) r ⌝ }
+{
+    let mut counts = [0u16; Plan::MAX_VERTICES];
+    let mut i: usize = 0;
+    while i < ends.len() {
+        let v = ends[i] as usize;
+        counts[v] = counts[v] + 1;
+        i += 1;
+    }
+    counts
+}
+
+// Whether a vertex, if it is a via, has one segment up and one down.
+fn is_through(via: bool, up: u16, down: u16) -> bool
+    ensures { λ r. ⌜ r ≡ through via up down ⌝ }
+{
+    if via { up == 1 && down == 1 } else { true }
+}
+
+// 5: every via has exactly one segment up and one down.
+pub fn check_vias(vias: &[bool], uppers: &[u32], lowers: &[u32]) -> bool
+    requires { ⌜ Within (now vias) (now uppers) (now lowers) ⌝ }
+    ensures { λ r. ⌜ ((sizes : List ℕ) → r ≡ check5 (graphOf sizes (now (vias .entry)) (now (uppers .entry)) (now (lowers .entry)))) ⌝ }
+{
+    let up = count(lowers);
+    let down = count(uppers);
+    let mut v: usize = 0;
+    while v < vias.len() {
+        if !is_through(vias[v], up[v], down[v]) {
+            return false;
+        }
+        v += 1;
+    }
+    true
+}
+
+// Whether the segment from a to b joins two vias.
+fn is_inner(vias: &[bool], a: u32, b: u32) -> bool
+    requires { ⌜ (a < length (now vias)) × (b < length (now vias)) ⌝ }
+    ensures { λ r. ⌜ r ≡ (getD (now (vias .entry)) a false && getD (now (vias .entry)) b false) ⌝ }
+{
+    let upper = a as usize;
+    let lower = b as usize;
+    vias[upper] && vias[lower]
+}
+
+// 6: no two inner segments between the same levels have their ends in opposite orders. By checks 3 and 4 that is so exactly
+// if no inner segment's lower end is less than that of the inner segment before.
+pub fn check_inner(vias: &[bool], uppers: &[u32], lowers: &[u32]) -> bool
+    requires { ⌜ Within (now vias) (now uppers) (now lowers) ⌝ }
+    ensures { λ r. ⌜ ((sizes : List ℕ) → check3 (graphOf sizes (now (vias .entry)) (now (uppers .entry)) (now (lowers .entry))) ≡ true → check4 (graphOf sizes (now (vias .entry)) (now (uppers .entry)) (now (lowers .entry))) ≡ true → r ≡ check6 (graphOf sizes (now (vias .entry)) (now (uppers .entry)) (now (lowers .entry)))) ⌝ }
+{
+    let mut last: u32 = 0;
+    let mut i: usize = 0;
+    while i < uppers.len() {
+        let lower = lowers[i];
+        if is_inner(vias, uppers[i], lower) {
+            if lower < last {
+                return false;
+            }
+            last = lower;
+        }
+        i += 1;
+    }
+    true
+}
+
+// 3, with the level of every vertex worked out first.
+pub fn check_levels(sizes: &[u16], vias: &[bool], uppers: &[u32], lowers: &[u32]) -> bool
+    requires { ⌜ InLimits (now sizes) (now vias) (now uppers) (now lowers) ⌝ }
+    ensures { λ r. ⌜ r ≡ check3 (graphOf (now (sizes .entry)) (now (vias .entry)) (now (uppers .entry)) (now (lowers .entry))) ⌝ }
+{
+    let mut level = [0u16; Plan::MAX_VERTICES];
+    let n = vias.len();
+    levels(sizes, &mut level[..n]);
+    check_ends(&level[..n], uppers, lowers)
+}
+
+// Checks 3 to 6 in this order: the number of the first that fails, 0 if none does.
+pub fn check_plan(sizes: &[u16], vias: &[bool], uppers: &[u32], lowers: &[u32]) -> u32
+    requires { ⌜ InLimits (now sizes) (now vias) (now uppers) (now lowers) ⌝ }
+    ensures { λ r. ⌜ r ≡ firstFailed (graphOf (now (sizes .entry)) (now (vias .entry)) (now (uppers .entry)) (now (lowers .entry))) ⌝ }
+{
+    if !check_levels(sizes, vias, uppers, lowers) {
+        return 3;
+    }
+    if !check_order(uppers, lowers) {
+        return 4;
+    }
+    if !check_vias(vias, uppers, lowers) {
+        return 5;
+    }
+    if !check_inner(vias, uppers, lowers) {
+        return 6;
+    }
+    0
+}
