@@ -4,3 +4,6 @@ pub mod Parser
 pub mod Form
 pub mod Reading
 pub mod Writing
+pub mod Scanned
+pub mod Filled
+pub mod Answer

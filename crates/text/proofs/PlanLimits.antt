@@ -1,0 +1,195 @@
+-- The limits of a plan's data and the limits of the lines of a text, fact by fact, and that they say the same: lines that
+-- were read and pass check 2 store data within the limits, and the lines of such data can be read and pass check 2.
+use mathlib.Core.Path.{_≡_, refl, sym, _∙_, ap}
+use mathlib.Core.Bool.{Bool, true, _&&_}
+use mathlib.Core.List.{List, [], _∷_, map}
+use Prim.Native.Nat.{ℕ, _+_, _≤_, _<_}
+use native.Mathlib.Omega.{arith}
+use borrow.Author.Tests.{leb-true, le-leb, eqb-true, eq-eqb, ltb-true, lt-ltb}
+use lib.Dec.{ltb, leb, eqb}
+use lib.ListN.{length, length-map}
+use Rattle.ints.specs.Lists.{sum}
+use Rattle.plan.specs.Plan.{PlanData, vertexCount, levelOf}
+use Rattle.plan.specs.Segments.{Segment, segmentsFrom, segmentsOf}
+use Rattle.plan.specs.Limits.{within, maxLevels, maxGap, maxSpacing, maxOnLevel, maxVertices, maxSegments}
+use Rattle.plan.specs.Checks.{every, goesOneDown, check3}
+use Rattle.plan.specs.Acceptable.{halvesHold, limitsHold}
+use Rattle.text.specs.Form.{Vertex, Lines}
+use Rattle.text.specs.Reading.{sum as lineSum, halfInLimit, rowInLimit, check2, inReadingOrder, stored}
+use Rattle.text.proofs.Stores.{both-first, both-second}
+use Rattle.text.proofs.TestLaws.{_and_, conj-at, every-so, every-and}
+use Rattle.text.proofs.DecimalLaws.{fits}
+use Rattle.text.proofs.WrittenLines.{vertexOk, segmentOk}
+use Rattle.text.proofs.WrittenForm.{LinesOk}
+use Rattle.text.proofs.PlanLines.{verticesFrom, vertices-of, halves-hold, rowsFrom, rows-of, sizes-hold, order-holds, order-length, uppers-again, linesFrom, lines-stored}
+
+-- ---- the limits of data
+pub record Limits (p : PlanData) : Type 0 where
+  pub levels : within 1 maxLevels (p .levels) ≡ true
+  pub gap : within 1 maxGap (p .gap) ≡ true
+  pub spacing : within 1 maxSpacing (p .spacing) ≡ true
+  pub counted : length (p .sizes) ≡ p .levels
+  pub sizes : every (within 1 maxOnLevel) (p .sizes) ≡ true
+  pub summed : sum (p .sizes) ≡ length (p .vias)
+  pub vertices : length (p .vias) ≤ maxVertices
+  pub halves : halvesHold (p .vias) (p .halves) ≡ true
+  pub ends : length (p .lowers) ≡ length (p .uppers)
+  pub segments : length (p .uppers) ≤ maxSegments
+
+-- the tests of `limitsHold` after the first
+abbrev furtherLimits : PlanData → List Bool
+furtherLimits p =
+    within 1 maxGap (p .gap) ∷ within 1 maxSpacing (p .spacing)
+    ∷ eqb (length (p .sizes)) (p .levels) ∷ every (within 1 maxOnLevel) (p .sizes) ∷ eqb (sum (p .sizes)) (vertexCount p)
+    ∷ leb (vertexCount p) maxVertices ∷ halvesHold (p .vias) (p .halves)
+    ∷ eqb (length (p .lowers)) (length (p .uppers)) ∷ leb (length (p .uppers)) maxSegments ∷ []
+
+pub limits-of : (p : PlanData) → limitsHold p ≡ true → Limits p
+unfolding limitsHold
+limits-of p h =
+    let test = conj-at (within 1 maxLevels (p .levels)) (furtherLimits p) h in
+    record {
+      levels = test 0;
+      gap = test 1;
+      spacing = test 2;
+      counted = eqb-true (length (p .sizes)) (p .levels) (test 3);
+      sizes = test 4;
+      summed = eqb-true (sum (p .sizes)) (vertexCount p) (test 5);
+      vertices = leb-true (vertexCount p) maxVertices (test 6);
+      halves = test 7;
+      ends = eqb-true (length (p .lowers)) (length (p .uppers)) (test 8);
+      segments = leb-true (length (p .uppers)) maxSegments (test 9);
+    }
+
+pub limits-hold : (p : PlanData) → Limits p → limitsHold p ≡ true
+unfolding limitsHold
+limits-hold p h =
+    h .levels and h .gap and h .spacing
+    and eq-eqb (length (p .sizes)) (p .levels) (h .counted) and h .sizes and eq-eqb (sum (p .sizes)) (vertexCount p) (h .summed)
+    and le-leb (vertexCount p) maxVertices (h .vertices) and h .halves
+    and eq-eqb (length (p .lowers)) (length (p .uppers)) (h .ends) and le-leb (length (p .uppers)) maxSegments (h .segments)
+
+-- ---- the limits of lines
+pub record LineLimits (l : Lines) : Type 0 where
+  pub levels : within 1 maxLevels (l .levels) ≡ true
+  pub gap : within 1 maxGap (l .gap) ≡ true
+  pub spacing : within 1 maxSpacing (l .spacing) ≡ true
+  pub counted : length (l .rows) ≡ l .levels
+  pub rows : every rowInLimit (l .rows) ≡ true
+  pub vertices : sum (map length (l .rows)) ≤ maxVertices
+  pub segments : length (l .segments) ≤ maxSegments
+
+sums-same : (ns : List ℕ) → lineSum ns ≡ sum ns
+unfolding lineSum sum
+sums-same [] = refl
+sums-same (n ∷ ns) = rw (sums-same ns)
+
+-- the tests of `check2` after the first
+abbrev furtherLineLimits : Lines → List Bool
+furtherLineLimits l =
+    within 1 maxGap (l .gap) ∷ within 1 maxSpacing (l .spacing)
+    ∷ eqb (length (l .rows)) (l .levels) ∷ every rowInLimit (l .rows)
+    ∷ leb (lineSum (map length (l .rows))) maxVertices ∷ leb (length (l .segments)) maxSegments ∷ []
+
+pub check2-of : (l : Lines) → check2 l ≡ true → LineLimits l
+unfolding check2
+check2-of l h =
+    let test = conj-at (within 1 maxLevels (l .levels)) (furtherLineLimits l) h in
+    record {
+      levels = test 0;
+      gap = test 1;
+      spacing = test 2;
+      counted = eqb-true (length (l .rows)) (l .levels) (test 3);
+      rows = test 4;
+      vertices = rw sums-same at (leb-true (lineSum (map length (l .rows))) maxVertices (test 5));
+      segments = leb-true (length (l .segments)) maxSegments (test 6);
+    }
+
+pub check2-holds : (l : Lines) → LineLimits l → check2 l ≡ true
+unfolding check2
+check2-holds l h =
+    h .levels and h .gap and h .spacing
+    and eq-eqb (length (l .rows)) (l .levels) (h .counted) and h .rows
+    and le-leb (lineSum (map length (l .rows))) maxVertices (rw sums-same (h .vertices)) and le-leb (length (l .segments)) maxSegments (h .segments)
+
+-- ---- lines that were read, within the limits, store data within the limits
+pub stored-limits : (l : Lines) → LinesOk l → LineLimits l → Limits (stored l)
+unfolding stored
+stored-limits l ok h =
+    let all = inReadingOrder (l .rows) in
+    let count : length (map (λ (v : Vertex). v .via) all) ≡ length all = length-map all (λ v. v .via) in
+    let low = sizes-hold (ltb 0) vertexOk (l .rows) (ok .rows) in
+    let high = sizes-hold (λ n. leb n maxOnLevel) halfInLimit (l .rows) (h .rows) in
+    record {
+      levels = h .levels;
+      gap = h .gap;
+      spacing = h .spacing;
+      counted = length-map (l .rows) length ∙ h .counted;
+      sizes = every-and (leb 1) (λ n. leb n maxOnLevel) (map length (l .rows)) low high;
+      summed = order-length (l .rows) ∙ sym count;
+      vertices = omega (arith, h .vertices, order-length (l .rows), count);
+      halves = halves-hold all (order-holds (ltb 0) vertexOk (l .rows) (ok .rows)) (order-holds (λ n. leb n maxOnLevel) halfInLimit (l .rows) (h .rows));
+      ends = length-map (l .segments) (λ s. s .lower) ∙ sym (length-map (l .segments) (λ s. s .upper));
+      segments = omega (arith, h .segments, length-map (l .segments) (λ s. s .upper));
+    }
+
+-- ---- and the lines of data within the limits can be read, and are within the limits
+within-fits : (lo hi n : ℕ) → hi < 100000 → within lo hi n ≡ true → fits n ≡ true
+within-fits lo hi n l h = let k = leb-true n hi (both-second (leb lo n) (leb n hi) h) in lt-ltb n 100000 (omega arith)
+
+module _ (p : PlanData) (h : Limits p) where
+  pub lines-stored-again : stored (linesFrom p) ≡ p
+  lines-stored-again = lines-stored p (h .halves) (h .summed) (h .ends)
+
+  pub lines-ok : every segmentOk (segmentsOf p) ≡ true → LinesOk (linesFrom p)
+  unfolding linesFrom
+  lines-ok s =
+      let v = vertices-of (p .vias) (p .halves) (h .halves) in
+      let r = rows-of (p .sizes) (verticesFrom (p .vias) (p .halves)) (h .summed ∙ sym (v .count)) in
+      record {
+        levels = within-fits 1 maxLevels (p .levels) (omega arith) (h .levels);
+        gap = within-fits 1 maxGap (p .gap) (omega arith) (h .gap);
+        spacing = within-fits 1 maxSpacing (p .spacing) (omega arith) (h .spacing);
+        rows = r .hold (ltb 0) vertexOk (every-so (within 1 maxOnLevel) (ltb 0) (λ n e. both-first (leb 1 n) (leb n maxOnLevel) e) (p .sizes) (h .sizes)) (v .ok);
+        segments = s;
+      }
+
+  pub lines-limits : LineLimits (linesFrom p)
+  unfolding linesFrom segmentsOf
+  lines-limits =
+      let v = vertices-of (p .vias) (p .halves) (h .halves) in
+      let r = rows-of (p .sizes) (verticesFrom (p .vias) (p .halves)) (h .summed ∙ sym (v .count)) in
+      let few : ℕ → Bool = λ n. leb n maxOnLevel in
+      record {
+        levels = h .levels;
+        gap = h .gap;
+        spacing = h .spacing;
+        counted = sym (length-map (rowsFrom (p .sizes) (verticesFrom (p .vias) (p .halves))) length) ∙ ap length (r .sizes-again) ∙ h .counted;
+        rows = r .hold few halfInLimit (every-so (within 1 maxOnLevel) few (λ n e. both-second (leb 1 n) (leb n maxOnLevel) e) (p .sizes) (h .sizes)) (v .in-limit);
+        vertices = rw (r .sizes-again) (omega (arith, h .summed, h .vertices));
+        segments = omega (arith, h .segments, length-map (segmentsFrom (p .uppers) (p .lowers)) (λ s. s .upper), ap length (uppers-again (p .uppers) (p .lowers) (h .ends)));
+      }
+
+-- ---- the ends of segments are vertices, if check 3 passes
+abbrev pub endsBelow : Segment → Bool
+endsBelow s = ltb (s .upper) maxVertices && ltb (s .lower) maxVertices
+
+pub ends-below : (p : PlanData) → length (p .vias) ≤ maxVertices → check3 p ≡ true → every endsBelow (segmentsOf p) ≡ true
+unfolding check3
+ends-below p l e = every-so (goesOneDown p) endsBelow below (segmentsOf p) e
+  where
+    below : (s : Segment) → goesOneDown p s ≡ true → endsBelow s ≡ true
+    below s h =
+        let test = conj-at (ltb (s .upper) (vertexCount p)) (ltb (s .lower) (vertexCount p) ∷ eqb (levelOf p (s .lower)) (levelOf p (s .upper) + 1) ∷ []) h in
+        let a = ltb-true (s .upper) (vertexCount p) (test 0) in
+        let b = ltb-true (s .lower) (vertexCount p) (test 1) in
+        lt-ltb (s .upper) maxVertices (omega arith) and lt-ltb (s .lower) maxVertices (omega arith)
+
+pub ends-ok : (ss : List Segment) → every endsBelow ss ≡ true → every segmentOk ss ≡ true
+ends-ok ss e = every-so endsBelow segmentOk ok ss e
+  where
+    ok : (s : Segment) → endsBelow s ≡ true → segmentOk s ≡ true
+    ok s h =
+        let a = ltb-true (s .upper) maxVertices (both-first (ltb (s .upper) maxVertices) (ltb (s .lower) maxVertices) h) in
+        let b = ltb-true (s .lower) maxVertices (both-second (ltb (s .upper) maxVertices) (ltb (s .lower) maxVertices) h) in
+        lt-ltb (s .upper) 100000 (omega arith) and lt-ltb (s .lower) 100000 (omega arith)

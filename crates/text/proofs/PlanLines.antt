@@ -1,0 +1,158 @@
+-- The lines of a plan's data within the limits: its vertices, cut into rows by the level sizes, and its segments. What is
+-- stored of them is the plan again.
+use mathlib.Core.Path.{_≡_, refl, sym, _∙_, ap}
+use mathlib.Core.Bool.{Bool, true, false, _&&_}
+use mathlib.Core.List.{List, [], _∷_, map}
+use Prim.Native.Nat.{ℕ, suc}
+use native.Mathlib.Omega.{arith}
+use borrow.Author.Tests.{leb-true, lt-ltb}
+use lib.Dec.{leb}
+use lib.ListN.{length, take, drop, length-append, length-drop, take-append-drop}
+use lib.Seq.{length-take-le}
+use Rattle.ints.specs.Lists.{sum}
+use Rattle.plan.specs.Plan.{PlanData}
+use Rattle.plan.specs.Segments.{segmentsFrom, segmentsOf}
+use Rattle.plan.specs.Limits.{maxHalfWidth}
+use Rattle.plan.specs.Checks.{every}
+use Rattle.plan.specs.Acceptable.{halfHolds, halvesHold}
+use Rattle.text.specs.Form.{Vertex, Lines}
+use Rattle.text.specs.Reading.{halfInLimit, inReadingOrder, stored}
+use Rattle.text.proofs.Words.{never}
+use Rattle.text.proofs.Stores.{both-first, both-second}
+use Rattle.text.proofs.TestLaws.{test, _and_, every-one, every-cons, every-append, every-both}
+use Rattle.text.proofs.WrittenLines.{vertexOk}
+
+-- ---- vertices
+unfoldable pub verticesFrom : List Bool → List ℕ → List Vertex
+verticesFrom [] hs = []
+verticesFrom (v ∷ vs) [] = []
+verticesFrom (v ∷ vs) (h ∷ hs) = record { via = v; half = h } ∷ verticesFrom vs hs
+
+-- A vertex has its half-width if it can be read and is within the limit.
+half-vertex : (v : Bool) (h : ℕ) → halfHolds v h ≡ true → (vertexOk (record { via = v; half = h }) ≡ true) × (halfInLimit (record { via = v; half = h }) ≡ true)
+half-vertex true h e = (e, refl)
+half-vertex false h e = let l = leb-true h maxHalfWidth (both-second (leb 1 h) (leb h maxHalfWidth) e) in (lt-ltb h 100000 (omega arith), e)
+
+vertex-half : (v : Bool) (h : ℕ) → vertexOk (record { via = v; half = h }) ≡ true → halfInLimit (record { via = v; half = h }) ≡ true → halfHolds v h ≡ true
+vertex-half true h e k = e
+vertex-half false h e k = k
+
+pub halves-hold : (vs : List Vertex) → every vertexOk vs ≡ true → every halfInLimit vs ≡ true → halvesHold (map (λ v. v .via) vs) (map (λ v. v .half) vs) ≡ true
+unfolding halvesHold
+halves-hold [] e k = refl
+halves-hold (v ∷ vs) e k =
+    let a = every-one vertexOk v vs e in
+    let b = every-one halfInLimit v vs k in
+    rw (vertex-half (v .via) (v .half) (a .0) (b .0), halves-hold vs (a .1) (b .1))
+
+pub record Vertices (vias : List Bool) (halves : List ℕ) : Type 0 where
+  pub vias-again : map (λ v. v .via) (verticesFrom vias halves) ≡ vias
+  pub halves-again : map (λ v. v .half) (verticesFrom vias halves) ≡ halves
+  pub count : length (verticesFrom vias halves) ≡ length vias
+  pub ok : every vertexOk (verticesFrom vias halves) ≡ true
+  pub in-limit : every halfInLimit (verticesFrom vias halves) ≡ true
+
+pub vertices-of : (vias : List Bool) (halves : List ℕ) → halvesHold vias halves ≡ true → Vertices vias halves
+unfolding halvesHold verticesFrom every
+vertices-of [] [] e = record { vias-again = refl; halves-again = refl; count = refl; ok = refl; in-limit = refl }
+vertices-of [] (h ∷ hs) e = never e
+vertices-of (v ∷ vs) [] e = never e
+vertices-of (v ∷ vs) (h ∷ hs) e = test (halfHolds v h)
+    (λ c.
+    let r = vertices-of vs hs (rw c at e) in
+    let one = half-vertex v h c in
+    let x : Vertex = record { via = v; half = h } in
+    record {
+      vias-again = ap (λ (l : List Bool). v ∷ l) (r .vias-again);
+      halves-again = ap (λ (l : List ℕ). h ∷ l) (r .halves-again);
+      count = ap suc (r .count);
+      ok = every-cons vertexOk x (verticesFrom vs hs) (one .0) (r .ok);
+      in-limit = every-cons halfInLimit x (verticesFrom vs hs) (one .1) (r .in-limit);
+    })
+    (λ c. never (rw c at e))
+
+-- ---- rows
+unfoldable pub rowsFrom : List ℕ → List Vertex → List (List Vertex)
+rowsFrom [] vs = []
+rowsFrom (n ∷ ns) vs = take n vs ∷ rowsFrom ns (drop n vs)
+
+-- a row whose length passes the test c, and each of whose vertices passes the test t
+abbrev pub rowHolds : (ℕ → Bool) → (Vertex → Bool) → List Vertex → Bool
+rowHolds c t vs = c (length vs) && every t vs
+
+pub record Rows (sizes : List ℕ) (vs : List Vertex) : Type 0 where
+  pub order : inReadingOrder (rowsFrom sizes vs) ≡ vs
+  pub sizes-again : map length (rowsFrom sizes vs) ≡ sizes
+  pub hold : (c : ℕ → Bool) (t : Vertex → Bool) → every c sizes ≡ true → every t vs ≡ true → every (rowHolds c t) (rowsFrom sizes vs) ≡ true
+
+pub rows-of : (sizes : List ℕ) (vs : List Vertex) → sum sizes ≡ length vs → Rows sizes vs
+unfolding rowsFrom sum inReadingOrder every
+rows-of [] [] e = record { order = refl; sizes-again = refl; hold = λ c t h k. refl }
+rows-of [] (v ∷ vs) e = absurd (omega arith)
+rows-of (n ∷ ns) vs e =
+    let r = rows-of ns (drop n vs) (omega (arith, length-drop n vs)) in
+    let long : length (take n vs) ≡ n = length-take-le n vs (omega arith) in
+    record {
+      order = rw (r .order) (take-append-drop n vs);
+      sizes-again = rw (long, r .sizes-again);
+      hold = λ c t h k.
+          let a = every-one c n ns h in
+          let b = every-both t (take n vs) (drop n vs) (rw (take-append-drop n vs) k) in
+          let right-size : c (length (take n vs)) ≡ true = rw long (a .0) in
+          let one : rowHolds c t (take n vs) ≡ true = right-size and b .0 in
+          every-cons (rowHolds c t) (take n vs) (rowsFrom ns (drop n vs)) one (r .hold c t (a .1) (b .1));
+    }
+
+-- and of rows that hold, the sizes and the vertices hold
+module _ (c : ℕ → Bool) (t : Vertex → Bool) where
+  pub sizes-hold : (rows : List (List Vertex)) → every (rowHolds c t) rows ≡ true → every c (map length rows) ≡ true
+  unfolding every
+  sizes-hold [] e = refl
+  sizes-hold (row ∷ rows) e =
+      let a = every-one (rowHolds c t) row rows e in
+      every-cons c (length row) (map length rows) (both-first (c (length row)) (every t row) (a .0)) (sizes-hold rows (a .1))
+
+  pub order-holds : (rows : List (List Vertex)) → every (rowHolds c t) rows ≡ true → every t (inReadingOrder rows) ≡ true
+  unfolding every inReadingOrder
+  order-holds [] e = refl
+  order-holds (row ∷ rows) e =
+      let a = every-one (rowHolds c t) row rows e in
+      every-append t row (inReadingOrder rows) (both-second (c (length row)) (every t row) (a .0)) (order-holds rows (a .1))
+
+pub order-length : (rows : List (List Vertex)) → sum (map length rows) ≡ length (inReadingOrder rows)
+unfolding sum inReadingOrder
+order-length [] = refl
+order-length (row ∷ rows) = rw (length-append row (inReadingOrder rows), order-length rows)
+
+-- ---- segments
+pub uppers-again : («as» bs : List ℕ) → length bs ≡ length «as» → map (λ s. s .upper) (segmentsFrom «as» bs) ≡ «as»
+unfolding segmentsFrom
+uppers-again [] bs e = refl
+uppers-again (a ∷ «as») [] e = absurd (omega arith)
+uppers-again (a ∷ «as») (b ∷ bs) e = rw (uppers-again «as» bs (omega arith))
+
+pub lowers-again : («as» bs : List ℕ) → length bs ≡ length «as» → map (λ s. s .lower) (segmentsFrom «as» bs) ≡ bs
+unfolding segmentsFrom
+lowers-again [] [] e = refl
+lowers-again [] (b ∷ bs) e = absurd (omega arith)
+lowers-again (a ∷ «as») [] e = absurd (omega arith)
+lowers-again (a ∷ «as») (b ∷ bs) e = rw (lowers-again «as» bs (omega arith))
+
+-- ---- all lines
+unfoldable pub linesFrom : PlanData → Lines
+linesFrom p = record {
+  levels = p .levels;
+  gap = p .gap;
+  spacing = p .spacing;
+  rows = rowsFrom (p .sizes) (verticesFrom (p .vias) (p .halves));
+  segments = segmentsOf p;
+}
+
+pub lines-stored : (p : PlanData) → halvesHold (p .vias) (p .halves) ≡ true → sum (p .sizes) ≡ length (p .vias) → length (p .lowers) ≡ length (p .uppers) → stored (linesFrom p) ≡ p
+unfolding stored linesFrom segmentsOf
+lines-stored p h s e =
+    let v = vertices-of (p .vias) (p .halves) h in
+    let r = rows-of (p .sizes) (verticesFrom (p .vias) (p .halves)) (s ∙ sym (v .count)) in
+    let a = uppers-again (p .uppers) (p .lowers) e in
+    let b = lowers-again (p .uppers) (p .lowers) e in
+    rw (r .order, r .sizes-again, v .vias-again, v .halves-again, a, b)

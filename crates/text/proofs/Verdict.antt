@@ -1,0 +1,186 @@
+-- From what the program finds to `reading`: which check fails first.
+use mathlib.Core.Path.{_≡_, refl, sym, _∙_, ap}
+use mathlib.Core.Bool.{Bool, true, false, cond, not}
+use mathlib.Core.List.{List, [], _∷_, _++_}
+use mathlib.Core.Option.{Option, none, some}
+use Prim.Native.Nat.{ℕ, _+_, _≤_, _<_}
+use native.Mathlib.Omega.{arith}
+use borrow.Author.Tests.{le-leb, lt-leb}
+use lib.ListN.{length, take, replicate, length-append}
+use lib.Seq.{take-at}
+use Rattle.ints.specs.Lists.{over}
+use Rattle.plan.specs.Plan.{PlanData, levelOf}
+use Rattle.plan.specs.Segments.{Segment, segmentsOf, innerIn, innerSegments}
+use Rattle.plan.specs.Checks.{every, check3, check4, isThrough, check5, crosses, check6}
+use Rattle.plan.specs.Graph.{graphOf, firstFailed}
+use Rattle.text.specs.Form.{Lines, formOf}
+use Rattle.text.specs.Reading.{maxBytes, check2, stored, Reading, accepted, refused, checkedPlan, checkedLines, reading}
+use Rattle.text.specs.Filled.{isSome, Kept, Scans, Fronts}
+use Rattle.text.specs.Answer.{planOf, answerOf}
+use Rattle.text.specs.declared.Answer.the-variants.{Accepted}
+use Rattle.text.specs.declared.ReadText.{ReadText}
+use Rattle.text.specs.declared.form.Scanned.{Scanned}
+use Rattle.text.proofs.Words.{never}
+
+-- ---- checks 3 to 6 ask nothing about gap, spacing and half-widths
+abbrev graph : PlanData → PlanData
+graph p = graphOf (p .sizes) (p .vias) (p .uppers) (p .lowers)
+
+same3 : (p : PlanData) → check3 (graph p) ≡ check3 p
+unfolding check3 segmentsOf levelOf
+same3 p = refl
+
+same4 : (p : PlanData) → check4 (graph p) ≡ check4 p
+unfolding check4 segmentsOf
+same4 p = refl
+
+same5 : (p : PlanData) → check5 (graph p) ≡ check5 p
+unfolding check5 segmentsOf isThrough
+same5 p = refl
+
+inner-same : (p : PlanData) (ss : List Segment) → innerIn (graph p) ss ≡ innerIn p ss
+unfolding innerIn
+inner-same p [] = refl
+inner-same p (s ∷ ss) = rw (inner-same p ss)
+
+same6 : (p : PlanData) → check6 (graph p) ≡ check6 p
+unfolding check6 innerSegments segmentsOf crosses levelOf
+same6 p = rw (inner-same p (segmentsOf p))
+
+pub same-failed : (p : PlanData) → firstFailed (graph p) ≡ firstFailed p
+unfolding firstFailed
+same-failed p = rw (same3 p, same4 p, same5 p, same6 p)
+
+-- ---- the checks in order
+plan-passed : (p : PlanData) → firstFailed p ≡ 0 → checkedPlan p ≡ accepted p
+unfolding firstFailed checkedPlan
+plan-passed p = go (check3 p) (check4 p) (check5 p) (check6 p)
+  where
+    go : (a b c d : Bool) → _≡_ {A = ℕ} (cond a (cond b (cond c (cond d 0 6) 5) 4) 3) 0
+        → cond a (cond b (cond c (cond d (accepted p) (refused 6)) (refused 5)) (refused 4)) (refused 3) ≡ accepted p
+    go true true true true h = refl
+    go true true true false h = absurd (omega arith)
+    go true true false d h = absurd (omega arith)
+    go true false c d h = absurd (omega arith)
+    go false b c d h = absurd (omega arith)
+
+plan-failed : (p : PlanData) (n : ℕ) → firstFailed p ≡ n → (n ≡ 0 → ⊥) → checkedPlan p ≡ refused n
+unfolding firstFailed checkedPlan
+plan-failed p n = go (check3 p) (check4 p) (check5 p) (check6 p)
+  where
+    go : (a b c d : Bool) → cond a (cond b (cond c (cond d 0 6) 5) 4) 3 ≡ n → (n ≡ 0 → ⊥)
+        → cond a (cond b (cond c (cond d (accepted p) (refused 6)) (refused 5)) (refused 4)) (refused 3) ≡ refused n
+    go true true true true h z = absurd (z (sym h))
+    go true true true false h z = ap refused h
+    go true true false d h z = ap refused h
+    go true false c d h z = ap refused h
+    go false b c d h z = ap refused h
+
+module _ (s : List ℕ) where
+  pub reads-long : 65536 < length s → reading s ≡ refused 1
+  unfolding reading
+  reads-long h = rw (lt-leb (length s) 65536 h)
+
+  module _ (short : length s ≤ 65536) where
+    open-lines : reading s ≡ checkedLines (formOf s)
+    unfolding reading
+    open-lines = rw (le-leb (length s) 65536 short)
+
+    none-reads : (o : Option Lines) → isSome o ≡ false → checkedLines o ≡ refused 1
+    unfolding checkedLines
+    none-reads none e = refl
+    none-reads (some l) e = never (sym e)
+
+    pub reads-no-form : isSome (formOf s) ≡ false → reading s ≡ refused 1
+    reads-no-form e = open-lines ∙ none-reads (formOf s) e
+
+    module _ (l : Lines) (e : formOf s ≡ some l) where
+      pub reads-no-limits : check2 l ≡ false → reading s ≡ refused 2
+      unfolding checkedLines
+      reads-no-limits f = open-lines ∙ rw (e, f)
+
+      pub reads-failed : (n : ℕ) → check2 l ≡ true → firstFailed (stored l) ≡ n → (n ≡ 0 → ⊥) → reading s ≡ refused n
+      unfolding checkedLines
+      reads-failed n f g z = open-lines ∙ rw (e, f) (plan-failed (stored l) n g z)
+
+      pub reads-passed : check2 l ≡ true → firstFailed (stored l) ≡ 0 → reading s ≡ accepted (stored l)
+      unfolding checkedLines
+      reads-passed f g = open-lines ∙ rw (e, f) (plan-passed (stored l) g)
+
+-- the lines of a text in the form
+pub some-lines : (o : Option Lines) → isSome o ≡ true → (l : Lines) × (o ≡ some l)
+some-lines none e = never e
+some-lines (some l) e = (l, refl)
+
+-- the front of an array is the data
+pub take-over : {A : Type 0} (xs o : List A) (n : ℕ) → n ≡ length xs → take n (over xs o) ≡ xs
+take-over xs o n e = take-at xs _ n (sym e)
+
+within : {A : Type 0} (xs o ys : List A) → ys ≡ over xs o → length xs ≤ length ys
+within xs o ys e = rw (e, length-append) (omega arith)
+
+-- ---- the arrays of a plan's data
+module _ (p : PlanData) (r : Scanned) (sizes : List ℕ) (vias : List Bool) (halves uppers lowers sizes′ : List ℕ) (vias′ : List Bool) (halves′ uppers′ lowers′ : List ℕ)
+    (K : Kept p r sizes vias halves uppers lowers sizes′ vias′ halves′ uppers′ lowers′) (k : ℕ) (e : k ≡ r .levels) where
+  pub kept-fronts : length sizes′ ≡ 64 → length vias′ ≡ 1024 → length uppers′ ≡ 2048 → Fronts k (r .vertices) (r .segments) sizes′ vias′ uppers′ lowers′
+  kept-fronts a b c = record {
+    levels = omega (arith, e, K .level-lines, within (p .sizes) sizes sizes′ (K .sizes-kept));
+    vertices = omega (arith, K .vertices, within (p .vias) vias vias′ (K .vias-kept));
+    uppers-reach = omega (arith, K .segments, within (p .uppers) uppers uppers′ (K .uppers-kept));
+    lowers-reach = omega (arith, K .lower-ends, within (p .lowers) lowers lowers′ (K .lowers-kept));
+    few-levels = omega arith;
+    few-vertices = omega arith;
+    few-segments = omega arith;
+  }
+
+  pub kept-failed : firstFailed (graphOf (take k sizes′) (take (r .vertices) vias′) (take (r .segments) uppers′) (take (r .segments) lowers′)) ≡ firstFailed p
+  kept-failed =
+      let a : take k sizes′ ≡ p .sizes = ap (take k) (K .sizes-kept) ∙ take-over (p .sizes) sizes k (e ∙ K .level-lines) in
+      let b : take (r .vertices) vias′ ≡ p .vias = ap (take (r .vertices)) (K .vias-kept) ∙ take-over (p .vias) vias (r .vertices) (K .vertices) in
+      let c : take (r .segments) uppers′ ≡ p .uppers = ap (take (r .segments)) (K .uppers-kept) ∙ take-over (p .uppers) uppers (r .segments) (K .segments) in
+      let d : take (r .segments) lowers′ ≡ p .lowers = ap (take (r .segments)) (K .lowers-kept) ∙ take-over (p .lowers) lowers (r .segments) (K .lower-ends) in
+      (λ i. firstFailed (graphOf (a i) (b i) (c i) (d i))) ∙ same-failed p
+
+-- what is answered of the data, from arrays that were 0
+module _ (p : PlanData) (r : Scanned) (sizes′ : List ℕ) (vias′ : List Bool) (halves′ uppers′ lowers′ : List ℕ)
+    (K : Kept p r (replicate 64 0) (replicate 1024 false) (replicate 1024 0) (replicate 2048 0) (replicate 2048 0) sizes′ vias′ halves′ uppers′ lowers′) where
+  pub kept-answer : _≡_ {A = ReadText}
+      (record {
+        answer = Accepted (r .vertices) (r .segments);
+        plan = record { levels = r .levels; gap = r .gap; spacing = r .spacing; sizes = sizes′; vias = vias′; halves = halves′; uppers = uppers′; lowers = lowers′ };
+      })
+      (answerOf (accepted p))
+  unfolding answerOf planOf
+  kept-answer = λ i. record {
+    answer = Accepted (K .vertices i) (K .segments i);
+    plan = record {
+      levels = K .levels i;
+      gap = K .gap i;
+      spacing = K .spacing i;
+      sizes = K .sizes-kept i;
+      vias = K .vias-kept i;
+      halves = K .halves-kept i;
+      uppers = K .uppers-kept i;
+      lowers = K .lowers-kept i;
+    };
+  }
+
+-- ---- a text that passes checks 1 and 2
+module _ (s : List ℕ) (r : Scanned) (sizes : List ℕ) (vias : List Bool) (halves uppers lowers sizes′ : List ℕ) (vias′ : List Bool) (halves′ uppers′ lowers′ : List ℕ)
+    (S : Scans s r sizes vias halves uppers lowers sizes′ vias′ halves′ uppers′ lowers′) (f : r .form ≡ true) where
+  pub the-lines : Lines
+  the-lines = some-lines (formOf s) (sym (S .form) ∙ f) .0
+
+  pub the-form : formOf s ≡ some the-lines
+  unfolding the-lines
+  the-form = some-lines (formOf s) (sym (S .form) ∙ f) .1
+
+  pub no-limits : r .limits ≡ false → check2 the-lines ≡ false
+  no-limits g = sym (S .limits the-lines the-form) ∙ g
+
+  module _ (g : r .limits ≡ true) where
+    pub in-limits : check2 the-lines ≡ true
+    in-limits = sym (S .limits the-lines the-form) ∙ g
+
+    pub the-kept : Kept (stored the-lines) r sizes vias halves uppers lowers sizes′ vias′ halves′ uppers′ lowers′
+    the-kept = S .kept the-lines the-form in-limits
