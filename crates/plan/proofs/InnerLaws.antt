@@ -1,7 +1,7 @@
 -- Laws of `lowersRise` over the inner segments, as a walk over all segments meets them: the first i are behind. Assumes nothing.
 use Prim.Native.Nat.{ℕ, _+_, _<_, _≤_}
-use mathlib.Core.Path.{_≡_, refl, _∙_, ap}
-use mathlib.Core.Bool.{Bool, true, false, _&&_}
+use mathlib.Core.Path.{_≡_, refl, sym, _∙_, ap}
+use mathlib.Core.Bool.{Bool, true, false, cond, _&&_}
 use mathlib.Core.List.{List, [], _∷_}
 use borrow.Author.Tests.{lt-ltb, le-ltb}
 use lib.ListN.{length, getD}
@@ -33,12 +33,12 @@ module _ (vias : List Bool) («as» bs : List ℕ) where
     inner-end h = rw (after-all «as» bs i h)
 
     module _ (e : length «as» ≡ length bs) (h : i < length «as») where
-      pub inner-skip : (getD vias (getD «as» i 0) false && getD vias (getD bs i 0) false) ≡ false
+      inner-skip : (getD vias (getD «as» i 0) false && getD vias (getD bs i 0) false) ≡ false
           → riseFrom vias «as» bs i last ≡ riseFrom vias «as» bs (i + 1) last
       unfolding innerIn
       inner-skip t = rw (after-one «as» bs i h e, t)
 
-      pub inner-on : (getD vias (getD «as» i 0) false && getD vias (getD bs i 0) false) ≡ true → last ≤ getD bs i 0
+      inner-on : (getD vias (getD «as» i 0) false && getD vias (getD bs i 0) false) ≡ true → last ≤ getD bs i 0
           → riseFrom vias «as» bs i last ≡ riseFrom vias «as» bs (i + 1) (getD bs i 0)
       unfolding innerIn lowersRise
       inner-on t k = rw (after-one «as» bs i h e, t, le-ltb (getD bs i 0) last k)
@@ -46,3 +46,9 @@ module _ (vias : List Bool) («as» bs : List ℕ) where
       pub inner-stop : (getD vias (getD «as» i 0) false && getD vias (getD bs i 0) false) ≡ true → getD bs i 0 < last → riseFrom vias «as» bs i last ≡ false
       unfolding innerIn lowersRise
       inner-stop t k = rw (after-one «as» bs i h e, t, lt-ltb (getD bs i 0) last k)
+
+      -- t is whether the segment is inner
+      pub inner-go : (t : Bool) → t ≡ (getD vias (getD «as» i 0) false && getD vias (getD bs i 0) false) → (t ≡ true → last ≤ getD bs i 0)
+          → riseFrom vias «as» bs i last ≡ riseFrom vias «as» bs (i + 1) (cond t (getD bs i 0) last)
+      inner-go true q k = inner-on (sym q) (k refl)
+      inner-go false q k = inner-skip (sym q)

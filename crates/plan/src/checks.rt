@@ -3,7 +3,7 @@ use crate::data::Plan;
 use crate::levels::levels;
 use crate::levels::wide;
 ghost use mathlib.Core.Path.{_≡_};
-ghost use mathlib.Core.Bool.{Bool, true, false, _&&_};
+ghost use mathlib.Core.Bool.{Bool, true, false, cond, _&&_};
 ghost use mathlib.Core.List.{List};
 ghost use Prim.Native.Nat.{ℕ, _<_, _≤_};
 ghost use lib.ListN.{length, getD};
@@ -112,6 +112,13 @@ fn is_inner(vias: &[bool], a: u32, b: u32) -> bool
     vias[upper] && vias[lower]
 }
 
+// The lower end of the last inner segment: this one's if it is inner, else as before.
+fn latest(inner: bool, lower: u32, last: u32) -> u32
+    ensures { λ r. ⌜ r ≡ cond inner lower last ⌝ }
+{
+    if inner { lower } else { last }
+}
+
 // 6: no two inner segments between the same levels have their ends in opposite orders. By checks 3 and 4 that is so exactly
 // if no inner segment's lower end is less than that of the inner segment before.
 pub fn check_inner(vias: &[bool], uppers: &[u32], lowers: &[u32]) -> bool
@@ -122,12 +129,11 @@ pub fn check_inner(vias: &[bool], uppers: &[u32], lowers: &[u32]) -> bool
     let mut i: usize = 0;
     while i < uppers.len() {
         let lower = lowers[i];
-        if is_inner(vias, uppers[i], lower) {
-            if lower < last {
-                return false;
-            }
-            last = lower;
+        let inner = is_inner(vias, uppers[i], lower);
+        if inner && lower < last {
+            return false;
         }
+        last = latest(inner, lower, last);
         i += 1;
     }
     true

@@ -1,12 +1,14 @@
 -- `plan::checks::check_inner` meets its contract: whether the lower ends of the inner segments rise is whether those from the
 -- i-th segment on rise from the last one's; and that is check 6 (Crossings.antt).
-use Prim.Native.Nat.{_+_, _≤_, _-_}
+use Prim.Native.Nat.{ℕ, _+_, _≤_, _-_}
+use mathlib.Core.Bool.{true}
 use mathlib.Core.Logic.{⊎-elim}
 use mathlib.Core.Path.{_≡_, refl, sym, _∙_, ap}
 use borrow.Author.Needs.{needs}
+use borrow.Author.Tests.{ltb-true, ltb-false}
 use native.Mathlib.Omega.{arith}
-use lib.ListN.{length}
-use Rattle.plan.proofs.InnerLaws.{riseFrom, check6-same, inner-end, inner-skip, inner-on, inner-stop}
+use lib.ListN.{length, getD}
+use Rattle.plan.proofs.InnerLaws.{riseFrom, check6-same, inner-end, inner-stop, inner-go}
 use Rattle.plan.proofs.checks.check_inner.Statement.{statement}
 use Rattle.plan.proofs.checks.check_inner.Tie as tie
 
@@ -42,8 +44,11 @@ returns c =
     let s = c .before .before .before .before .before .before .before .before .before .before in
     let l = c .before .before .before .before .before .before .loop in
     let joins = sym (c .before .before .is-inner .ensures) ∙ c .before .if1 .taken in
-    let none = inner-stop (s .args .vias .now) (s .args .uppers .now) (s .args .lowers .now) (l .i) (l .last) (s .pre .ends) (omega arith) joins (c .if2 .taken) in
+    let none = inner-stop (s .args .vias .now) (s .args .uppers .now) (s .args .lowers .now) (l .i) (l .last) (s .pre .ends) (omega arith) joins (ltb-true _ _ (c .if2 .taken)) in
     λ sizes c3 c4. sym none ∙ l .inv .1 ∙ sym (check6-same (s .args .vias .now) (s .args .uppers .now) (s .args .lowers .now) sizes c3 c4)
+
+latest-requires : tie.Need-latest-requires Inv-loop μ-loop
+latest-requires c κs = search needs
 
 add-i : tie.Need-add-i Inv-loop μ-loop
 add-i c = search needs
@@ -51,20 +56,19 @@ add-i c = search needs
 loop-less : tie.Need-loop-less Inv-loop μ-loop
 loop-less c = search needs
 
+-- where the walk goes on, an inner segment's lower end is no less than the last one's
+kept : (c : tie.Joined1 Inv-loop μ-loop) → c .before .is-inner .result ≡ true
+    → c .before .before .before .before .before .loop .last ≤ getD (c .before .before .before .before .before .before .before .before .before .args .lowers .now) (c .before .before .before .before .before .loop .i) 0
+kept c q = ⊎-elim (λ w. ltb-false _ _ (w .1 .left)) (λ w. let n = w .left in let z : _≡_ {A = ℕ} 0 1 = cc in absurd (omega arith)) (c .if1 .came)
+
 loop-again : tie.Need-loop-again Inv-loop μ-loop
 loop-again c =
-    let s = c .before .before .before .before .before .before .before .before .before in
-    let l = c .before .before .before .before .before .loop in
-    let told = c .before .is-inner .ensures in
+    let s = c .before .before .before .before .before .before .before .before .before .before in
+    let l = c .before .before .before .before .before .before .loop in
+    let inner = c .before .before .is-inner .result in
+    let go = inner-go (s .args .vias .now) (s .args .uppers .now) (s .args .lowers .now) (l .i) (l .last) (s .pre .ends) (omega arith) inner (c .before .before .is-inner .ensures) (kept (c .before)) in
     let rise = riseFrom (s .args .vias .now) (s .args .uppers .now) (s .args .lowers .now) (l .i + 1) in
-    let on = inner-on (s .args .vias .now) (s .args .uppers .now) (s .args .lowers .now) (l .i) (l .last) (s .pre .ends) (omega arith) in
-    let skip = inner-skip (s .args .vias .now) (s .args .uppers .now) (s .args .lowers .now) (l .i) (l .last) (s .pre .ends) (omega arith) in (
-      omega arith,
-      ⊎-elim
-          (λ w. ap rise (w .2) ∙ sym (on (sym told ∙ w .0 .taken) (w .1 .left)) ∙ l .inv .1)
-          (λ w. ap rise (w .1) ∙ sym (skip (sym told ∙ w .0 .left)) ∙ l .inv .1)
-          (c .if1 .came),
-    )
+    (omega arith, ap rise (c .latest .ensures) ∙ sym go ∙ l .inv .1)
 
 returns-2 : tie.Need-returns-2 Inv-loop μ-loop
 returns-2 c =
@@ -86,6 +90,7 @@ check-inner-spec =
     shared-slice-read-is-inner
     is-inner-requires
     returns
+    latest-requires
     add-i
     loop-less
     loop-again

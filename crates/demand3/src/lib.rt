@@ -1,0 +1,1 @@
+// Demand 3 of every drawing: see proofs/Theorem.antt.
