@@ -1,8 +1,8 @@
 -- Level lines: a line of them, and all of them, as the loop over them has found and stored them so far.
-use mathlib.Core.Path.{_≡_, refl, sym, _∙_, ap}
+use mathlib.Core.Path.{_≡_, refl, sym, _∙_}
 use mathlib.Core.Bool.{Bool, true, false, cond, _&&_}
 use mathlib.Core.List.{List, [], _∷_, _++_, map, map-append, append-assoc, append-nil}
-use Prim.Native.Nat.{ℕ, suc, _+_, _≤_, _<_}
+use Prim.Native.Nat.{ℕ, suc, _+_, _≤_}
 use native.Mathlib.Omega.{arith}
 use lib.Dec.{leb}
 use lib.ListN.{length, drop, set, length-set, length-append, length-map}
@@ -11,7 +11,7 @@ use Rattle.plan.specs.Checks.{every}
 use Rattle.text.specs.Bytes.{bytes}
 use Rattle.text.specs.Parser.{Got, got, nothing, Rule, then, again, word, many}
 use Rattle.text.specs.Form.{Vertex, levelLine}
-use Rattle.text.specs.Reading.{halfInLimit, rowInLimit, inReadingOrder}
+use Rattle.text.specs.Reading.{rowInLimit, inReadingOrder}
 use Rattle.text.specs.Scanned.{vertex}
 use Rattle.text.specs.Filled.{viasOf, halvesOf, levelRest, FindsRow, FindsLevel, FindsRows}
 use Rattle.text.specs.declared.form.Row.{Row}

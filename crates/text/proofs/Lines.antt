@@ -1,14 +1,14 @@
 -- The cases of the rules for a vertex and for a line, as the program meets them.
 use mathlib.Core.Path.{_≡_, refl, sym, _∙_, ap}
 use mathlib.Core.Bool.{Bool, true, false, cond}
-use mathlib.Core.List.{List, [], _∷_}
-use Prim.Native.Nat.{ℕ, _+_, _≤_, _<_}
+use mathlib.Core.List.{List}
+use Prim.Native.Nat.{ℕ, _+_}
 use lib.ListN.{length, drop}
 use Rattle.text.specs.Bytes.{bytes}
 use Rattle.text.specs.Parser.{Got, got, nothing, Rule, then, word, number}
 use Rattle.plan.specs.Segments.{Segment}
 use Rattle.text.specs.Form.{Vertex, box, via, segmentLine}
-use Rattle.text.specs.Scanned.{Finds, HasWord, numberThen, vertex, Header, planLine}
+use Rattle.text.specs.Scanned.{Finds, HasWord, numberThen, vertex, planLine}
 
 -- ---- what a scanner found, or not
 module _ {w s : List ℕ} {at : ℕ} {t : Bool} (h : HasWord w s at t) where

@@ -1,18 +1,17 @@
 -- The vertices of a level line, as the loop over them has found and stored them so far.
-use mathlib.Core.Path.{_≡_, refl, sym, _∙_, ap}
-use mathlib.Core.Bool.{Bool, true, false, cond, _||_, _&&_}
+use mathlib.Core.Path.{_≡_, refl, sym, _∙_}
+use mathlib.Core.Bool.{Bool, true, _&&_}
 use mathlib.Core.List.{List, [], _∷_, _++_}
 use Prim.Native.Nat.{ℕ, suc, _+_, _≤_, _<_}
 use native.Mathlib.Omega.{arith}
 use lib.ListN.{length, drop, set, length-set}
 use lib.Seq.{sets}
 use Rattle.plan.specs.Checks.{every}
-use Rattle.text.specs.Parser.{got, nothing, many}
+use Rattle.text.specs.Parser.{got, nothing}
 use Rattle.text.specs.Form.{Vertex}
 use Rattle.text.specs.Reading.{halfInLimit}
 use Rattle.text.specs.Scanned.{vertex}
 use Rattle.text.specs.Filled.{viasOf, halvesOf, FindsRow}
-use Rattle.text.specs.declared.form.Row.{Row}
 use Rattle.text.proofs.Repeats.{Reached, reached-none, reached-more, reached-end}
 use Rattle.text.proofs.Stores.{sets-more, every-more, both-first, both-second}
 

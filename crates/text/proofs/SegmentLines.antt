@@ -1,16 +1,15 @@
 -- Segment lines, as the loop over them has found and stored them so far; and the text's end.
-use mathlib.Core.Path.{_≡_, refl, sym, _∙_, ap}
-use mathlib.Core.Bool.{Bool, true, false, cond}
+use mathlib.Core.Path.{_≡_, refl, sym, _∙_}
+use mathlib.Core.Bool.{true, false}
 use mathlib.Core.List.{List, [], _∷_, _++_, map}
-use mathlib.Core.Option.{Option, none, some}
-use Prim.Native.Nat.{ℕ, suc, _+_, _≤_, _<_}
+use Prim.Native.Nat.{ℕ, _+_, _≤_, _<_}
 use native.Mathlib.Omega.{arith}
-use lib.ListN.{length, drop, set, length-set, drop-of-length-le, length-drop}
+use lib.ListN.{length, drop, set, length-set, drop-of-length-le}
 use lib.Seq.{sets, drop-cons}
 use Rattle.plan.specs.Segments.{Segment}
 use Rattle.text.specs.Bytes.{bytes}
-use Rattle.text.specs.Parser.{got, nothing, then, word, many}
-use Rattle.text.specs.Form.{Lines, whole, segmentLine}
+use Rattle.text.specs.Parser.{got, nothing, word}
+use Rattle.text.specs.Form.{segmentLine}
 use Rattle.text.specs.Filled.{uppersOf, lowersOf, FindsSegments, Ends}
 use Rattle.text.proofs.Repeats.{Reached, reached-none, reached-more, reached-end}
 use Rattle.text.proofs.Stores.{sets-more}

@@ -1,10 +1,10 @@
 -- Laws of stores one after another, and of what is asked of every member of a list.
-use mathlib.Core.Path.{_≡_, refl, sym, _∙_, ap}
+use mathlib.Core.Path.{_≡_, refl, _∙_}
 use mathlib.Core.Bool.{Bool, true, false, cond, _&&_}
 use mathlib.Core.List.{List, [], _∷_, _++_, map, map-append}
-use Prim.Native.Nat.{ℕ, zero, suc, _+_, _≤_, _<_}
+use Prim.Native.Nat.{ℕ, suc, _+_, _≤_}
 use native.Mathlib.Omega.{arith}
-use lib.ListN.{length, drop, set, length-map}
+use lib.ListN.{length, set, length-map}
 use lib.Seq.{sets, sets-eq}
 use Rattle.ints.specs.Lists.{over}
 use Rattle.plan.specs.Checks.{every}

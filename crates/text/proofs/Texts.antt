@@ -1,9 +1,9 @@
 -- A whole text: from what stands on its lines to `formOf`, and from the program's counts to `check2` and `stored`.
-use mathlib.Core.Path.{_≡_, refl, sym, _∙_, ap, subst}
+use mathlib.Core.Path.{_≡_, refl, sym, _∙_, ap}
 use mathlib.Core.Bool.{Bool, true, false, cond, _&&_}
-use mathlib.Core.List.{List, [], _∷_, _++_, map}
-use mathlib.Core.Option.{Option, none, some}
-use Prim.Native.Nat.{ℕ, suc, _+_, _≤_, _<_}
+use mathlib.Core.List.{List, [], _∷_, map}
+use mathlib.Core.Option.{none, some}
+use Prim.Native.Nat.{ℕ, _≤_}
 use native.Mathlib.Omega.{arith}
 use borrow.Author.Tests.{leb-true, eqb-true}
 use lib.Dec.{leb, eqb}
@@ -12,16 +12,16 @@ use Rattle.plan.specs.Limits.{within, maxLevels, maxGap, maxSpacing, maxVertice
 use Rattle.plan.specs.Segments.{Segment}
 use Rattle.plan.specs.Checks.{every}
 use Rattle.text.specs.Bytes.{bytes}
-use Rattle.text.specs.Parser.{Got, got, nothing, Rule, then, word, many, number}
+use Rattle.text.specs.Parser.{got, nothing, Rule, then, word, many, number}
 use Rattle.text.specs.Form.{Vertex, Lines, levelLine, segmentLine, planText, whole, formOf}
 use Rattle.text.specs.Reading.{sum, rowInLimit, check2, inReadingOrder, stored}
 use Rattle.text.specs.Scanned.{numberThen, Header, planLine}
-use Rattle.text.specs.Filled.{Ends, FindsRows, FindsSegments, Kept, Scans, inLimits, isSome}
+use Rattle.text.specs.Filled.{Ends, FindsRows, FindsSegments, Kept, Scans, inLimits}
 use Rattle.text.specs.declared.scanners.FoundHeader.{FoundHeader}
 use Rattle.text.specs.declared.form.Rows.{Rows}
 use Rattle.text.specs.declared.form.Segments.{Segments}
 use Rattle.text.specs.declared.form.Scanned.{Scanned}
-use Rattle.text.proofs.Words.{never, word-is}
+use Rattle.text.proofs.Words.{word-is}
 use Rattle.text.proofs.Lines.{then-then, then-same, number-then}
 use Rattle.text.proofs.Repeats.{many-done}
 use Rattle.text.proofs.Stores.{sets-over, both-first, both-second}

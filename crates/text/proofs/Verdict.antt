@@ -1,9 +1,9 @@
 -- From what the program finds to `reading`: which check fails first.
 use mathlib.Core.Path.{_≡_, refl, sym, _∙_, ap}
-use mathlib.Core.Bool.{Bool, true, false, cond, not}
-use mathlib.Core.List.{List, [], _∷_, _++_}
+use mathlib.Core.Bool.{Bool, true, false, cond}
+use mathlib.Core.List.{List, [], _∷_}
 use mathlib.Core.Option.{Option, none, some}
-use Prim.Native.Nat.{ℕ, _+_, _≤_, _<_}
+use Prim.Native.Nat.{ℕ, _≤_, _<_}
 use native.Mathlib.Omega.{arith}
 use borrow.Author.Tests.{le-leb, lt-leb}
 use lib.ListN.{length, take, replicate, length-append}
@@ -11,10 +11,10 @@ use lib.Seq.{take-at}
 use Rattle.ints.specs.Lists.{over}
 use Rattle.plan.specs.Plan.{PlanData, levelOf}
 use Rattle.plan.specs.Segments.{Segment, segmentsOf, innerIn, innerSegments}
-use Rattle.plan.specs.Checks.{every, check3, check4, isThrough, check5, crosses, check6}
+use Rattle.plan.specs.Checks.{check3, check4, isThrough, check5, crosses, check6}
 use Rattle.plan.specs.Graph.{graphOf, firstFailed}
 use Rattle.text.specs.Form.{Lines, formOf}
-use Rattle.text.specs.Reading.{maxBytes, check2, stored, Reading, accepted, refused, checkedPlan, checkedLines, reading}
+use Rattle.text.specs.Reading.{check2, stored, accepted, refused, checkedPlan, checkedLines, reading}
 use Rattle.text.specs.Filled.{isSome, Kept, Scans, Fronts}
 use Rattle.text.specs.Answer.{planOf, answerOf}
 use Rattle.text.specs.declared.Answer.the-variants.{Accepted}
@@ -47,7 +47,7 @@ same6 : (p : PlanData) → check6 (graph p) ≡ check6 p
 unfolding check6 innerSegments segmentsOf crosses levelOf
 same6 p = rw (inner-same p (segmentsOf p))
 
-pub same-failed : (p : PlanData) → firstFailed (graph p) ≡ firstFailed p
+same-failed : (p : PlanData) → firstFailed (graph p) ≡ firstFailed p
 unfolding firstFailed
 same-failed p = rw (same3 p, same4 p, same5 p, same6 p)
 
@@ -91,29 +91,29 @@ module _ (s : List ℕ) where
     none-reads none e = refl
     none-reads (some l) e = never (sym e)
 
-    pub reads-no-form : isSome (formOf s) ≡ false → reading s ≡ refused 1
+    reads-no-form : isSome (formOf s) ≡ false → reading s ≡ refused 1
     reads-no-form e = open-lines ∙ none-reads (formOf s) e
 
     module _ (l : Lines) (e : formOf s ≡ some l) where
-      pub reads-no-limits : check2 l ≡ false → reading s ≡ refused 2
+      reads-no-limits : check2 l ≡ false → reading s ≡ refused 2
       unfolding checkedLines
       reads-no-limits f = open-lines ∙ rw (e, f)
 
-      pub reads-failed : (n : ℕ) → check2 l ≡ true → firstFailed (stored l) ≡ n → (n ≡ 0 → ⊥) → reading s ≡ refused n
+      reads-failed : (n : ℕ) → check2 l ≡ true → firstFailed (stored l) ≡ n → (n ≡ 0 → ⊥) → reading s ≡ refused n
       unfolding checkedLines
       reads-failed n f g z = open-lines ∙ rw (e, f) (plan-failed (stored l) n g z)
 
-      pub reads-passed : check2 l ≡ true → firstFailed (stored l) ≡ 0 → reading s ≡ accepted (stored l)
+      reads-passed : check2 l ≡ true → firstFailed (stored l) ≡ 0 → reading s ≡ accepted (stored l)
       unfolding checkedLines
       reads-passed f g = open-lines ∙ rw (e, f) (plan-passed (stored l) g)
 
 -- the lines of a text in the form
-pub some-lines : (o : Option Lines) → isSome o ≡ true → (l : Lines) × (o ≡ some l)
+some-lines : (o : Option Lines) → isSome o ≡ true → (l : Lines) × (o ≡ some l)
 some-lines none e = never e
 some-lines (some l) e = (l, refl)
 
 -- the front of an array is the data
-pub take-over : {A : Type 0} (xs o : List A) (n : ℕ) → n ≡ length xs → take n (over xs o) ≡ xs
+take-over : {A : Type 0} (xs o : List A) (n : ℕ) → n ≡ length xs → take n (over xs o) ≡ xs
 take-over xs o n e = take-at xs _ n (sym e)
 
 within : {A : Type 0} (xs o ys : List A) → ys ≡ over xs o → length xs ≤ length ys
@@ -122,7 +122,7 @@ within xs o ys e = rw (e, length-append) (omega arith)
 -- ---- the arrays of a plan's data
 module _ (p : PlanData) (r : Scanned) (sizes : List ℕ) (vias : List Bool) (halves uppers lowers sizes′ : List ℕ) (vias′ : List Bool) (halves′ uppers′ lowers′ : List ℕ)
     (K : Kept p r sizes vias halves uppers lowers sizes′ vias′ halves′ uppers′ lowers′) (k : ℕ) (e : k ≡ r .levels) where
-  pub kept-fronts : length sizes′ ≡ 64 → length vias′ ≡ 1024 → length uppers′ ≡ 2048 → Fronts k (r .vertices) (r .segments) sizes′ vias′ uppers′ lowers′
+  kept-fronts : length sizes′ ≡ 64 → length vias′ ≡ 1024 → length uppers′ ≡ 2048 → Fronts k (r .vertices) (r .segments) sizes′ vias′ uppers′ lowers′
   kept-fronts a b c = record {
     levels = omega (arith, e, K .level-lines, within (p .sizes) sizes sizes′ (K .sizes-kept));
     vertices = omega (arith, K .vertices, within (p .vias) vias vias′ (K .vias-kept));
@@ -133,7 +133,7 @@ module _ (p : PlanData) (r : Scanned) (sizes : List ℕ) (vias : List Bool) (hal
     few-segments = omega arith;
   }
 
-  pub kept-failed : firstFailed (graphOf (take k sizes′) (take (r .vertices) vias′) (take (r .segments) uppers′) (take (r .segments) lowers′)) ≡ firstFailed p
+  kept-failed : firstFailed (graphOf (take k sizes′) (take (r .vertices) vias′) (take (r .segments) uppers′) (take (r .segments) lowers′)) ≡ firstFailed p
   kept-failed =
       let a : take k sizes′ ≡ p .sizes = ap (take k) (K .sizes-kept) ∙ take-over (p .sizes) sizes k (e ∙ K .level-lines) in
       let b : take (r .vertices) vias′ ≡ p .vias = ap (take (r .vertices)) (K .vias-kept) ∙ take-over (p .vias) vias (r .vertices) (K .vertices) in
@@ -165,22 +165,39 @@ module _ (p : PlanData) (r : Scanned) (sizes′ : List ℕ) (vias′ : List Bool
     };
   }
 
--- ---- a text that passes checks 1 and 2
+-- ---- a text in the form, and what the program answers of it
 module _ (s : List ℕ) (r : Scanned) (sizes : List ℕ) (vias : List Bool) (halves uppers lowers sizes′ : List ℕ) (vias′ : List Bool) (halves′ uppers′ lowers′ : List ℕ)
-    (S : Scans s r sizes vias halves uppers lowers sizes′ vias′ halves′ uppers′ lowers′) (f : r .form ≡ true) where
-  pub the-lines : Lines
-  the-lines = some-lines (formOf s) (sym (S .form) ∙ f) .0
+    (S : Scans s r sizes vias halves uppers lowers sizes′ vias′ halves′ uppers′ lowers′) (short : length s ≤ 65536) where
+  pub no-form : r .form ≡ false → reading s ≡ refused 1
+  no-form f = reads-no-form s short (sym (S .form) ∙ f)
 
-  pub the-form : formOf s ≡ some the-lines
-  unfolding the-lines
-  the-form = some-lines (formOf s) (sym (S .form) ∙ f) .1
+  module _ (f : r .form ≡ true) where
+    the-lines : Lines
+    the-lines = some-lines (formOf s) (sym (S .form) ∙ f) .0
 
-  pub no-limits : r .limits ≡ false → check2 the-lines ≡ false
-  no-limits g = sym (S .limits the-lines the-form) ∙ g
+    the-form : formOf s ≡ some the-lines
+    unfolding the-lines
+    the-form = some-lines (formOf s) (sym (S .form) ∙ f) .1
 
-  module _ (g : r .limits ≡ true) where
-    pub in-limits : check2 the-lines ≡ true
-    in-limits = sym (S .limits the-lines the-form) ∙ g
+    pub no-limits : r .limits ≡ false → reading s ≡ refused 2
+    no-limits g = reads-no-limits s short the-lines the-form (sym (S .limits the-lines the-form) ∙ g)
 
-    pub the-kept : Kept (stored the-lines) r sizes vias halves uppers lowers sizes′ vias′ halves′ uppers′ lowers′
-    the-kept = S .kept the-lines the-form in-limits
+    module _ (g : r .limits ≡ true) (k : ℕ) (e : k ≡ r .levels) where
+      in-limits : check2 the-lines ≡ true
+      in-limits = sym (S .limits the-lines the-form) ∙ g
+
+      the-kept : Kept (stored the-lines) r sizes vias halves uppers lowers sizes′ vias′ halves′ uppers′ lowers′
+      the-kept = S .kept the-lines the-form in-limits
+
+      the-failed : firstFailed (graphOf (take k sizes′) (take (r .vertices) vias′) (take (r .segments) uppers′) (take (r .segments) lowers′)) ≡ firstFailed (stored the-lines)
+      the-failed = kept-failed (stored the-lines) r sizes vias halves uppers lowers sizes′ vias′ halves′ uppers′ lowers′ the-kept k e
+
+      pub the-fronts : length sizes′ ≡ 64 → length vias′ ≡ 1024 → length uppers′ ≡ 2048 → Fronts k (r .vertices) (r .segments) sizes′ vias′ uppers′ lowers′
+      the-fronts = kept-fronts (stored the-lines) r sizes vias halves uppers lowers sizes′ vias′ halves′ uppers′ lowers′ the-kept k e
+
+      module _ (n : ℕ) (h : n ≡ firstFailed (graphOf (take k sizes′) (take (r .vertices) vias′) (take (r .segments) uppers′) (take (r .segments) lowers′))) where
+        pub check-fails : (n ≡ 0 → ⊥) → reading s ≡ refused n
+        check-fails z = reads-failed s short the-lines the-form n in-limits (sym the-failed ∙ sym h) z
+
+        pub all-pass : n ≡ 0 → (p : PlanData) × (reading s ≡ accepted p) × Kept p r sizes vias halves uppers lowers sizes′ vias′ halves′ uppers′ lowers′
+        all-pass z = (stored the-lines, reads-passed s short the-lines the-form in-limits (sym the-failed ∙ sym h ∙ z), the-kept)

@@ -8,7 +8,6 @@ use Rattle.plan.specs.Plan.{PlanData, vertexCount}
 use Rattle.plan.specs.Stored.{emptyPlan}
 use Rattle.plan.specs.declared.data.Plan.{Plan}
 use Rattle.text.specs.Reading.{Reading, accepted, refused}
-use Rattle.text.specs.declared.Answer.{Answer}
 use Rattle.text.specs.declared.Answer.the-variants.{Accepted, Refused}
 use Rattle.text.specs.declared.ReadText.{ReadText}
 

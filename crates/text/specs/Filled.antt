@@ -2,9 +2,9 @@
 -- the limits can be asked after the whole text was read.
 use mathlib.Core.Path.{_≡_}
 use mathlib.Core.Bool.{Bool, true, false, cond, _&&_}
-use mathlib.Core.List.{List, [], _∷_, _++_, map}
+use mathlib.Core.List.{List, _∷_, map}
 use mathlib.Core.Option.{Option, none, some}
-use Prim.Native.Nat.{ℕ, suc, _+_, _-_, _≤_, _<_}
+use Prim.Native.Nat.{ℕ, suc, _+_, _≤_}
 use lib.Dec.{leb, eqb}
 use lib.ListN.{length, drop}
 use lib.Seq.{sets}
@@ -14,7 +14,7 @@ use Rattle.plan.specs.Segments.{Segment}
 use Rattle.plan.specs.Checks.{every}
 use Rattle.plan.specs.Limits.{within, maxLevels, maxGap, maxSpacing, maxVertices, maxSegments}
 use Rattle.text.specs.Bytes.{bytes}
-use Rattle.text.specs.Parser.{Got, got, nothing, Rule, give, then, _>>=_, _>>_, word, many}
+use Rattle.text.specs.Parser.{got, nothing, Rule, give, then, _>>=_, _>>_, word, many}
 use Rattle.text.specs.Form.{Vertex, Lines, levelLine, segmentLine, whole, formOf}
 use Rattle.text.specs.Reading.{maxBytes, halfInLimit, rowInLimit, check2, inReadingOrder, stored}
 use Rattle.text.specs.Scanned.{vertex}

@@ -7,7 +7,7 @@ use Prim.Native.Nat.{ℕ, _+_, _≤_, _<_}
 use lib.ListN.{length, drop}
 use Rattle.plan.specs.Segments.{Segment}
 use Rattle.text.specs.Bytes.{bytes}
-use Rattle.text.specs.Parser.{Got, got, nothing, Rule, give, then, _>>=_, _>>_, either, word, digitsAfter, number}
+use Rattle.text.specs.Parser.{got, nothing, Rule, give, _>>=_, _>>_, either, word, digitsAfter, number}
 use Rattle.text.specs.Form.{Vertex, box, via}
 use Rattle.text.specs.declared.scanners.FoundVertex.{FoundVertex}
 use Rattle.text.specs.declared.scanners.FoundSegment.{FoundSegment}

@@ -8,8 +8,8 @@ use crate::scanners::vertex_at;
 use crate::scanners::word_at;
 use plan::data::Plan;
 ghost use mathlib.Core.Path.{_≡_};
-ghost use mathlib.Core.Bool.{Bool, true, false, _&&_};
-ghost use Prim.Native.Nat.{ℕ, _+_, _≤_, _<_};
+ghost use mathlib.Core.Bool.{true, _&&_};
+ghost use Prim.Native.Nat.{_+_, _≤_, _<_};
 ghost use lib.ListN.{length, set};
 ghost use Rattle.text.specs.Reading.{halfInLimit};
 ghost use Rattle.text.specs.Scanned.{vertexOf};
@@ -239,7 +239,7 @@ fn in_range(lo: u32, hi: u32, n: u32) -> bool
     lo <= n && n <= hi
 }
 
-fn wide(n: u32) -> usize
+pub fn wide(n: u32) -> usize
     ensures { λ r. ⌜ r ≡ n ⌝ }
 {
     n as usize
@@ -249,7 +249,7 @@ fn wide(n: u32) -> usize
 fn in_limits(h: FoundHeader, r: Rows, segments: usize) -> bool
     ensures { λ b. ⌜ b ≡ inLimits h r segments ⌝ }
 {
-    let k = in_range(1, 64, h.levels);
+    let k = in_range(1, Plan::MAX_LEVELS as u32, h.levels);
     let g = both(k, in_range(1, Plan::MAX_GAP, h.gap));
     let s = both(g, in_range(1, Plan::MAX_SPACING, h.spacing));
     let n = both(s, r.levels == wide(h.levels));
@@ -258,8 +258,8 @@ fn in_limits(h: FoundHeader, r: Rows, segments: usize) -> bool
     both(v, segments <= Plan::MAX_SEGMENTS)
 }
 
-// Checks 1 and 2 of a text, "each over the whole text before the next". The arrays have room for what the limits allow; what
-// passes both is in their first places, and the rest is as it was.
+// Checks 1 and 2 of a text, 2 once the whole text was read. The arrays have room for what the limits allow; what passes both
+// is in their first places, and the rest is as it was.
 pub fn scan(
     text: &[u8],
     sizes: &mut [u16],

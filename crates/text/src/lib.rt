@@ -1,15 +1,15 @@
-// The text of a plan: reading it (document 01, "From the input", 1 to 6), and writing numbers.
+// The text of a plan: reading it (document 01, "From the input", 1 to 6).
 pub mod form;
 pub mod scanners;
 
 use crate::form::scan;
+use crate::form::wide;
 use plan::checks::check_plan;
 use plan::data::Plan;
 ghost use mathlib.Core.Path.{_≡_};
-ghost use Prim.Native.Nat.{ℕ, _≤_};
-ghost use lib.ListN.{length, take};
-ghost use Rattle.plan.specs.Graph.{graphOf, firstFailed, InLimits};
-ghost use Rattle.text.specs.Reading.{Reading, refused, reading};
+ghost use lib.ListN.{take};
+ghost use Rattle.plan.specs.Graph.{graphOf, firstFailed};
+ghost use Rattle.text.specs.Reading.{refused, reading};
 ghost use Rattle.text.specs.Filled.{Fronts};
 ghost use Rattle.text.specs.Answer.{answerOf};
 
@@ -22,6 +22,7 @@ pub enum Answer {
     Refused(u32),
 }
 
+// What reading a text gives. Where it is refused the plan is 0 throughout.
 pub struct ReadText {
     pub answer: Answer,
     pub plan: Plan,
@@ -52,12 +53,6 @@ fn check_front(
     check_plan(&sizes[..k], &vias[..n], &uppers[..e], &lowers[..e])
 }
 
-fn level_count(k: u32) -> usize
-    ensures { λ r. ⌜ r ≡ k ⌝ }
-{
-    k as usize
-}
-
 // Reads a plan text: checks 1 to 6, "in this order".
 pub fn read(text: &[u8]) -> ReadText
     ensures { λ r. ⌜ r ≡ answerOf (reading (now (text .entry))) ⌝ }
@@ -85,7 +80,7 @@ pub fn read(text: &[u8]) -> ReadText
         return refuse(2);
     }
     let failed = check_front(
-        level_count(s.levels),
+        wide(s.levels),
         s.vertices,
         s.segments,
         &sizes,

@@ -1,6 +1,6 @@
 // What stands at a position of a plan text: words, numbers, vertices and lines. A position is at most the text's length.
 ghost use mathlib.Core.Path.{_≡_};
-ghost use Prim.Native.Nat.{ℕ, _+_, _≤_, _<_};
+ghost use Prim.Native.Nat.{_+_, _≤_, _<_};
 ghost use lib.ListN.{length, getD};
 ghost use Rattle.text.specs.Parser.{isDigit, number};
 ghost use Rattle.text.specs.Form.{box, segmentLine};

@@ -1,37 +1,28 @@
-use borrow.Author.Needs.{needs}
-use mathlib.Core.Path.{_≡_}
-use mathlib.Core.Bool.{true, false}
+-- `text::form::ends` meets its contract: by whether the word stands there and whether the text ends after it.
 use Prim.Native.Nat.{_+_}
 use native.Mathlib.Omega.{arith}
 use native.Mathlib.Decide.{ℕ-discrete}
+use borrow.Author.Needs.{needs}
 use borrow.Author.Tests.{not-true, not-false, eq-eqb, ne-eqb}
 use lib.ListN.{length}
 use Rattle.text.proofs.SegmentLines.{end-none, end-is, end-more}
 use Rattle.text.proofs.Lines.{has, has-not}
 use Rattle.text.proofs.form.ends.Statement.{statement}
 use Rattle.text.proofs.form.ends.Tie as tie
-use Rattle.text.proofs.form.ends.Reads as reads
-use Rattle.text.proofs.form.ends.Lts as lts
-use Rattle.text.proofs.scanners.word_at.Reads as word-at-reads
 
--- src/form.rt:224:27
 slice-aggregate-word-at : tie.Need-slice-aggregate-word-at
 slice-aggregate-word-at c = search needs
 
--- src/form.rt:224:9
 word-at-requires : tie.Need-word-at-requires
 word-at-requires c κs = search needs
 
--- src/form.rt:225:9
 returns : tie.Need-returns
 returns c =
     let a = c .before .before .before .before .args in end-none (a .text .now) (a .at) (has-not (c .before .word-at .ensures) (not-true _ (c .if1 .taken)))
 
--- src/form.rt:227:5
 add-result : tie.Need-add-result
 add-result c = search needs
 
--- src/form.rt:220:1
 returns-2 : tie.Need-returns-2
 returns-2 c =
     let a = c .before .before .before .before .args in

@@ -1,19 +1,15 @@
+-- `text::form::half_fits` meets its contract: the tests are those of `halfInLimit`.
 use borrow.Author.Needs.{needs}
 use borrow.Author.Tests.{le-leb, lt-leb}
 use Rattle.text.proofs.form.half_fits.Statement.{statement}
 use Rattle.text.proofs.form.half_fits.Tie as tie
-use Rattle.text.proofs.form.half_fits.Reads as reads
-use Rattle.text.proofs.form.half_fits.Lts as lts
 
--- src/form.rt:75:1
 returns : tie.Need-returns
 returns c = search needs
 
--- src/form.rt:75:1
 returns-2 : tie.Need-returns-2
 returns-2 c = rw (c .before .before .before .if1 .left, le-leb _ _ (c .before .if2 .taken))
 
--- src/form.rt:75:1
 returns-3 : tie.Need-returns-3
 returns-3 c = rw (c .before .before .if1 .left, lt-leb _ _ (c .if2 .left))
 

@@ -1,53 +1,41 @@
+-- `text::form::in_limits` meets its contract: each step is one more question of `inLimits`.
 use borrow.Author.Needs.{needs}
 use Rattle.text.proofs.form.in_limits.Statement.{statement}
 use Rattle.text.proofs.form.in_limits.Tie as tie
-use Rattle.text.proofs.form.in_limits.Reads as reads
-use Rattle.text.proofs.form.in_limits.Lts as lts
-use Rattle.text.proofs.form.both.Reads as both-reads
-use Rattle.text.proofs.form.in_range.Reads as in-range-reads
-use Rattle.text.proofs.form.wide.Reads as wide-reads
 
--- src/form.rt:246:9
+cast-in-range : tie.Need-cast-in-range
+cast-in-range c = search needs
+
 in-range-requires : tie.Need-in-range-requires
 in-range-requires c κs = search needs
 
--- src/form.rt:247:21
 in-range-requires-2 : tie.Need-in-range-requires-2
 in-range-requires-2 c κs = search needs
 
--- src/form.rt:247:9
 both-requires : tie.Need-both-requires
 both-requires c κs = search needs
 
--- src/form.rt:248:21
 in-range-requires-3 : tie.Need-in-range-requires-3
 in-range-requires-3 c κs = search needs
 
--- src/form.rt:248:9
 both-requires-2 : tie.Need-both-requires-2
 both-requires-2 c κs = search needs
 
--- src/form.rt:249:33
 wide-requires : tie.Need-wide-requires
 wide-requires c κs = search needs
 
--- src/form.rt:249:9
 both-requires-3 : tie.Need-both-requires-3
 both-requires-3 c κs = search needs
 
--- src/form.rt:250:9
 both-requires-4 : tie.Need-both-requires-4
 both-requires-4 c κs = search needs
 
--- src/form.rt:251:9
 both-requires-5 : tie.Need-both-requires-5
 both-requires-5 c κs = search needs
 
--- src/form.rt:252:5
 both-requires-6 : tie.Need-both-requires-6
 both-requires-6 c κs = search needs
 
--- src/form.rt:243:1
 returns : tie.Need-returns
 returns c =
     simp (c .both6 .ensures, c .before .both5 .ensures, c .before .before .before .both4 .ensures, c .before .before .before .before .both3 .ensures, c .before .before .before .before .before .before .wide .ensures, c .before .before .before .before .before .before .before .both2 .ensures, c .before .before .before .before .before .before .before .before .in-range3 .ensures, c .before .before .before .before .before .before .before .before .before .both .ensures, c .before .before .before .before .before .before .before .before .before .before .in-range2 .ensures, c .before .before .before .before .before .before .before .before .before .before .before .in-range .ensures)
@@ -56,6 +44,7 @@ pub in-limits-spec : {M : Type 1} → statement M
 in-limits-spec =
     tie.close
     (tie.spec
+    cast-in-range
     in-range-requires
     in-range-requires-2
     both-requires

@@ -1,15 +1,11 @@
-use borrow.Author.Needs.{needs}
+-- `text::form::in_range` meets its contract: the two tests are those of `within`.
 use borrow.Author.Tests.{le-leb, lt-leb}
 use Rattle.text.proofs.form.in_range.Statement.{statement}
 use Rattle.text.proofs.form.in_range.Tie as tie
-use Rattle.text.proofs.form.in_range.Reads as reads
-use Rattle.text.proofs.form.in_range.Lts as lts
 
--- src/form.rt:230:1
 returns : tie.Need-returns
 returns c = rw (le-leb _ _ (c .if1 .taken))
 
--- src/form.rt:230:1
 returns-2 : tie.Need-returns-2
 returns-2 c = rw (lt-leb _ _ (c .if1 .left))
 

@@ -1,20 +1,16 @@
-use borrow.Author.Needs.{needs}
-use mathlib.Core.Path.{_≡_, refl, sym, _∙_, ap}
+-- `text::form::level_lines` meets its contract: the loop follows `many`: `RowsSoFar` says what was found and stored. A line that begins as a level line and is not in
+-- the form ends it.
+use mathlib.Core.Path.{_≡_, _∙_}
+use mathlib.Core.Bool.{false}
 use Prim.Native.Nat.{_-_}
 use native.Mathlib.Omega.{arith}
+use borrow.Author.Needs.{needs}
 use borrow.Author.Tests.{not-true, not-false}
 use lib.ListN.{length}
-use mathlib.Core.Bool.{true, false}
 use Rattle.text.proofs.Levels.{RowsSoFar, rows-none, rows-more, rows-end, rows-broken}
 use Rattle.text.proofs.Lines.{has, has-not}
 use Rattle.text.proofs.form.level_lines.Statement.{statement}
 use Rattle.text.proofs.form.level_lines.Tie as tie
-use Rattle.text.proofs.form.level_lines.Reads as reads
-use Rattle.text.proofs.form.level_lines.Lts as lts
-use Rattle.text.proofs.form.both.Reads as both-reads
-use Rattle.text.proofs.form.level_rest.Reads as level-rest-reads
-use Rattle.text.proofs.form.put_short.Reads as put-short-reads
-use Rattle.text.proofs.scanners.word_at.Reads as word-at-reads
 
 abbrev Inv-loop : tie.InvT-loop
 Inv-loop text from sizes₀ vias₀ halves₀ at₀ levels₀ vertices₀ fit₀ t11 sizes vias halves at levels vertices fit =
@@ -24,97 +20,77 @@ abbrev μ-loop : tie.MeasureT-loop
 μ-loop text from sizes₀ vias₀ halves₀ at₀ levels₀ vertices₀ fit₀ t11 sizes vias halves at levels vertices fit =
     length text - at
 
--- src/form.rt:172:5
 loop-holds : tie.Need-loop-holds Inv-loop μ-loop
 loop-holds c =
     let a = c .before .before .before .before .args in rows-none (a .text .now) (a .from) (a .sizes .now) (a .vias .now) (a .halves .now) (c .before .before .before .before .pre .0)
 
--- src/form.rt:173:31
 slice-aggregate-word-at : tie.Need-slice-aggregate-word-at Inv-loop μ-loop
 slice-aggregate-word-at c = search needs
 
--- src/form.rt:173:13
 word-at-requires : tie.Need-word-at-requires Inv-loop μ-loop
 word-at-requires c κs = c .before .loop .inv .reached .inside
 
--- src/form.rt:174:13
 same-length : tie.Need-same-length Inv-loop μ-loop
 same-length c = c .before .before .before .loop .inv .sizes-long
 
--- src/form.rt:174:13
 same-length-2 : tie.Need-same-length-2 Inv-loop μ-loop
 same-length-2 c = c .before .before .before .loop .inv .vias-long
 
--- src/form.rt:174:13
 same-length-3 : tie.Need-same-length-3 Inv-loop μ-loop
 same-length-3 c = c .before .before .before .loop .inv .halves-long
 
--- src/form.rt:174:13
 returns : tie.Need-returns Inv-loop μ-loop
 returns c =
     let a = c .before .before .before .before .before .before .before .before .args in rows-end (a .text .now) (a .from) (a .sizes .now) (a .vias .now) (a .halves .now) (c .before .before .before .loop .inv) (has-not (c .before .word-at .ensures) (not-true _ (c .if1 .taken)))
 
--- src/form.rt:182:36
 add-level-rest : tie.Need-add-level-rest Inv-loop μ-loop
 add-level-rest c =
     omega (arith, c .before .before .before .loop .inv .reached, c .before .before .before .before .before .before .before .before)
 
--- src/form.rt:182:13
 level-rest-requires : tie.Need-level-rest-requires Inv-loop μ-loop
 level-rest-requires c κs =
     omega (arith, c .before .before .before .word-at .ensures .inside (not-false _ (c .before .before .if1 .left)), c .before .before .before .before .before .loop .inv .fewer, c .before .before .before .before .before .loop .inv .reached)
 
--- src/form.rt:184:13
 same-length-4 : tie.Need-same-length-4 Inv-loop μ-loop
 same-length-4 c =
     c .before .before .before .before .before .before .before .before .before .before .before .before .loop .inv .sizes-long
 
--- src/form.rt:184:13
 same-length-5 : tie.Need-same-length-5 Inv-loop μ-loop
 same-length-5 c =
     c .before .before .before .before .before .before .level-rest .kept .1 .1 .1 .0 ∙ c .before .before .before .before .before .before .before .before .before .before .before .before .loop .inv .vias-long
 
--- src/form.rt:184:13
 same-length-6 : tie.Need-same-length-6 Inv-loop μ-loop
 same-length-6 c =
     c .before .before .before .before .before .before .level-rest .kept .1 .1 .1 .1 .0 ∙ c .before .before .before .before .before .before .before .before .before .before .before .before .loop .inv .halves-long
 
--- src/form.rt:184:13
 returns-2 : tie.Need-returns-2 Inv-loop μ-loop
 returns-2 c =
     let a = c .before .before .before .before .before .before .before .before .before .before .before .before .before .before .before .before .before .args in let l = c .before .before .before .before .before .before .level-rest in
     let f : l .result .form ≡ false = not-true _ (c .if2 .taken) in
     rows-broken (a .text .now) (a .from) (a .sizes .now) (a .vias .now) (a .halves .now) (c .before .before .before .before .before .before .before .before .before .before .before .before .loop .inv) (has (c .before .before .before .before .before .before .before .before .before .before .word-at .ensures) (not-false _ (c .before .before .before .before .before .before .before .before .before .if1 .left))) (l .ensures .gives ∙ rw f)
 
--- src/form.rt:192:34
 cast-put-short : tie.Need-cast-put-short Inv-loop μ-loop
 cast-put-short c =
     omega (arith, c .before .before .before .before .before .before .before .before .level-rest .ensures .inside, c .before .before .before .before .before .before .before .before .level-rest .ensures .onward, c .before .before .before .before .before .before .before .before .before .before .before .before .before .before .before .before .before .before .before .pre)
 
--- src/form.rt:192:9
 put-short-requires : tie.Need-put-short-requires Inv-loop μ-loop
 put-short-requires c κs = search needs
 
--- src/form.rt:193:9
 add-levels : tie.Need-add-levels Inv-loop μ-loop
 add-levels c =
     omega (arith, c .before .before .before .before .before .before .before .before .before .before .before .before .before .before .before .before .before .loop .inv .reached, c .before .before .before .before .before .before .before .before .before .before .before .before .before .before .before .before .before .before .before .before .before .before)
 
--- src/form.rt:194:9
 add-vertices : tie.Need-add-vertices Inv-loop μ-loop
 add-vertices c =
     omega (arith, c .before .before .before .before .before .before .before .before .before .before .before .before .before .before .before .before .before .before .loop .inv .fewer, c .before .before .before .before .before .before .before .before .before .before .before .before .level-rest .ensures .inside, c .before .before .before .before .before .before .before .before .before .before .before .before .level-rest .ensures .onward, c .before .before .before .before .before .before .before .before .before .before .before .before .before .before .before .before .before .before .before .before .before .before .before .pre)
 
--- src/form.rt:195:9
 both-requires : tie.Need-both-requires Inv-loop μ-loop
 both-requires c κs = search needs
 
--- src/form.rt:172:5
 loop-less : tie.Need-loop-less Inv-loop μ-loop
 loop-less c =
     omega (arith, c .before .before .before .before .before .before .before .before .before .before .before .before .before .level-rest .ensures .inside, c .before .before .before .before .before .before .before .before .before .before .before .before .before .level-rest .ensures .onward)
 
--- src/form.rt:172:5
 loop-again : tie.Need-loop-again Inv-loop μ-loop
 loop-again c =
     let a = c .before .before .before .before .before .before .before .before .before .before .before .before .before .before .before .before .before .before .before .before .before .before .before .before .args in let l = c .before .before .before .before .before .before .before .before .before .before .before .before .before .level-rest in

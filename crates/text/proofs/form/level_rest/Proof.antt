@@ -1,37 +1,28 @@
-use borrow.Author.Needs.{needs}
-use mathlib.Core.Path.{_≡_, refl, sym, _∙_}
+-- `text::form::level_rest` meets its contract: by the cases of `levelRest`: no vertex, no end of the line, or a line.
+use mathlib.Core.Path.{_≡_, sym, _∙_}
 use mathlib.Core.Bool.{true, false}
+use Prim.Native.Nat.{_+_}
 use native.Mathlib.Omega.{arith}
+use borrow.Author.Needs.{needs}
 use borrow.Author.Tests.{not-true, not-false}
 use lib.ListN.{length, drop}
-use Prim.Native.Nat.{_+_}
 use Rattle.text.proofs.Levels.{rest-none, rest-open, rest-found, level-row}
 use Rattle.text.proofs.Lines.{has, has-not}
 use Rattle.text.proofs.form.level_rest.Statement.{statement}
 use Rattle.text.proofs.form.level_rest.Tie as tie
-use Rattle.text.proofs.form.level_rest.Reads as reads
-use Rattle.text.proofs.form.level_rest.Lts as lts
-use Rattle.text.proofs.form.both.Reads as both-reads
-use Rattle.text.proofs.form.vertices.Reads as vertices-reads
-use Rattle.text.proofs.scanners.word_at.Reads as word-at-reads
 
--- src/form.rt:137:9
 vertices-requires : tie.Need-vertices-requires
 vertices-requires c κs = search needs
 
--- src/form.rt:138:9
 both-requires : tie.Need-both-requires
 both-requires c κs = search needs
 
--- src/form.rt:140:9
 same-length : tie.Need-same-length
 same-length c = search needs
 
--- src/form.rt:140:9
 same-length-2 : tie.Need-same-length-2
 same-length-2 c = search needs
 
--- src/form.rt:140:9
 returns : tie.Need-returns
 returns c =
     let a = c .before .before .before .before .before .before .before .before .before .before .before .before .before .before .args in let v = c .before .before .before .before .before .before .before .before .vertices in
@@ -39,42 +30,33 @@ returns c =
     level-row (a .text .now) (a .from) (a .first) (v .result) (a .vias .now) (a .halves .now) _ _ (v .ensures) false _ (v .result .next) (c .before .before .both .ensures)
     (rest-none (length (a .text .now)) (drop (a .from) (a .text .now)) _ (v .ensures .vertices) (v .ensures .gives) z) (v .ensures .inside) (omega arith)
 
--- src/form.rt:147:33
 slice-aggregate-word-at : tie.Need-slice-aggregate-word-at
 slice-aggregate-word-at c = search needs
 
--- src/form.rt:147:9
 word-at-requires : tie.Need-word-at-requires
 word-at-requires c κs = search needs
 
--- src/form.rt:148:9
 same-length-3 : tie.Need-same-length-3
 same-length-3 c = search needs
 
--- src/form.rt:148:9
 same-length-4 : tie.Need-same-length-4
 same-length-4 c = search needs
 
--- src/form.rt:148:9
 returns-2 : tie.Need-returns-2
 returns-2 c =
     let a = c .before .before .before .before .before .before .before .before .before .before .before .before .before .before .before .before .before .args in let v = c .before .before .before .before .before .before .before .before .before .before .before .vertices in
     level-row (a .text .now) (a .from) (a .first) (v .result) (a .vias .now) (a .halves .now) _ _ (v .ensures) false _ (v .result .next) (c .before .before .before .before .before .both .ensures)
     (rest-open (length (a .text .now)) (drop (a .from) (a .text .now)) _ (v .ensures .vertices) (v .ensures .gives) (has-not (c .before .word-at .ensures) (not-true _ (c .if2 .taken)))) (v .ensures .inside) (omega arith)
 
--- src/form.rt:159:15
 add-t17 : tie.Need-add-t17
 add-t17 c = search needs
 
--- src/form.rt:133:1
 same-length-5 : tie.Need-same-length-5
 same-length-5 c = search needs
 
--- src/form.rt:133:1
 same-length-6 : tie.Need-same-length-6
 same-length-6 c = search needs
 
--- src/form.rt:133:1
 returns-3 : tie.Need-returns-3
 returns-3 c =
     let a = c .before .before .before .before .before .before .before .before .before .before .before .before .before .before .before .before .before .before .args in let v = c .before .before .before .before .before .before .before .before .before .before .before .before .vertices in

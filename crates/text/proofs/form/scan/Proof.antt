@@ -1,82 +1,61 @@
-use borrow.Author.Needs.{needs}
-use mathlib.Core.Path.{_≡_, refl, sym, _∙_}
+-- `text::form::scan` meets its contract: by what stands on the lines, `Texts` says whether the text is in the form, and what is stored of it.
+use mathlib.Core.Path.{_≡_, refl, _∙_}
 use mathlib.Core.Bool.{true, false}
+use borrow.Author.Needs.{needs}
 use borrow.Author.Tests.{not-true, not-false}
+use Rattle.text.specs.Scanned.{headerOf}
 use Rattle.text.proofs.Texts.{form-none, form-broken, form-ends, scans-none, scans-lines}
 use Rattle.text.proofs.Lines.{found, found-not}
-use Rattle.text.specs.Scanned.{headerOf}
 use Rattle.text.proofs.form.scan.Statement.{statement}
 use Rattle.text.proofs.form.scan.Tie as tie
-use Rattle.text.proofs.form.scan.Reads as reads
-use Rattle.text.proofs.form.scan.Lts as lts
-use Rattle.text.proofs.form.ends.Reads as ends-reads
-use Rattle.text.proofs.form.in_limits.Reads as in-limits-reads
-use Rattle.text.proofs.form.level_lines.Reads as level-lines-reads
-use Rattle.text.proofs.form.segment_lines.Reads as segment-lines-reads
-use Rattle.text.proofs.scanners.header_at.Reads as header-at-reads
 
--- src/form.rt:270:9
 header-at-requires : tie.Need-header-at-requires
 header-at-requires c κs = search needs
 
--- src/form.rt:272:9
 returns : tie.Need-returns
 returns c =
     let a = c .before .before .before .before .before .before .before .before .before .args in
     scans-none (a .text .now) _ _ _ _ _ _ _ _ _ _ _ refl (form-none (a .text .now) (found-not (c .before .before .header-at .ensures) (not-true _ (c .if1 .taken))))
 
--- src/form.rt:274:9
 level-lines-requires : tie.Need-level-lines-requires
 level-lines-requires c κs = search needs
 
--- src/form.rt:276:9
 same-length : tie.Need-same-length
 same-length c = search needs
 
--- src/form.rt:276:9
 same-length-2 : tie.Need-same-length-2
 same-length-2 c = search needs
 
--- src/form.rt:276:9
 same-length-3 : tie.Need-same-length-3
 same-length-3 c = search needs
 
--- src/form.rt:276:9
 returns-2 : tie.Need-returns-2
 returns-2 c =
     let a = c .before .before .before .before .before .before .before .before .before .before .before .before .before .before .before .before .before .before .before .before .before .args in let h = c .before .before .before .before .before .before .before .before .before .before .before .before .before .before .header-at in let r = c .before .before .before .before .before .before .before .before .level-lines in
     scans-none (a .text .now) _ _ _ _ _ _ _ _ _ _ _ refl
     (form-broken (a .text .now) (headerOf (h .result)) _ _ (r .ensures .rows) (found (h .ensures) (not-false _ (c .before .before .before .before .before .before .before .before .before .before .before .before .if1 .left))) (r .ensures .gives) _ (r .ensures .broken (not-true _ (c .if2 .taken))))
 
--- src/form.rt:278:9
 segment-lines-requires : tie.Need-segment-lines-requires
 segment-lines-requires c κs = search needs
 
--- src/form.rt:279:9
 ends-requires : tie.Need-ends-requires
 ends-requires c κs = search needs
 
--- src/form.rt:280:9
 same-length-4 : tie.Need-same-length-4
 same-length-4 c = search needs
 
--- src/form.rt:280:9
 same-length-5 : tie.Need-same-length-5
 same-length-5 c = search needs
 
--- src/form.rt:280:9
 same-length-6 : tie.Need-same-length-6
 same-length-6 c = search needs
 
--- src/form.rt:280:9
 same-length-7 : tie.Need-same-length-7
 same-length-7 c = search needs
 
--- src/form.rt:280:9
 same-length-8 : tie.Need-same-length-8
 same-length-8 c = search needs
 
--- src/form.rt:280:9
 returns-3 : tie.Need-returns-3
 returns-3 c =
     let a = c .before .before .before .before .before .before .before .before .before .before .before .before .before .before .before .before .before .before .before .before .before .before .before .before .before .before .before .before .before .before .args in let h = c .before .before .before .before .before .before .before .before .before .before .before .before .before .before .before .before .before .before .before .before .before .before .before .header-at in let r = c .before .before .before .before .before .before .before .before .before .before .before .before .before .before .before .before .before .level-lines in let s = c .before .before .before .before .before .before .segment-lines in
@@ -84,31 +63,24 @@ returns-3 c =
     scans-none (a .text .now) _ _ _ _ _ _ _ _ _ _ _ refl
     (form-ends (a .text .now) (headerOf (h .result)) _ _ (r .ensures .rows) (found (h .ensures) (not-false _ (c .before .before .before .before .before .before .before .before .before .before .before .before .before .before .before .before .before .before .before .before .before .if1 .left))) (r .ensures .gives) (s .ensures .segments) (s .result .next) _ (s .ensures .gives) (c .before .ends .ensures) ∙ rw f)
 
--- src/form.rt:284:17
 in-limits-requires : tie.Need-in-limits-requires
 in-limits-requires c κs = search needs
 
--- src/form.rt:257:1
 same-length-9 : tie.Need-same-length-9
 same-length-9 c = search needs
 
--- src/form.rt:257:1
 same-length-10 : tie.Need-same-length-10
 same-length-10 c = search needs
 
--- src/form.rt:257:1
 same-length-11 : tie.Need-same-length-11
 same-length-11 c = search needs
 
--- src/form.rt:257:1
 same-length-12 : tie.Need-same-length-12
 same-length-12 c = search needs
 
--- src/form.rt:257:1
 same-length-13 : tie.Need-same-length-13
 same-length-13 c = search needs
 
--- src/form.rt:257:1
 returns-4 : tie.Need-returns-4
 returns-4 c =
     let a = c .before .before .before .before .before .before .before .before .before .before .before .before .before .before .before .before .before .before .before .before .before .before .before .before .before .before .before .before .before .before .before .args in let h = c .before .before .before .before .before .before .before .before .before .before .before .before .before .before .before .before .before .before .before .before .before .before .before .before .header-at in let r = c .before .before .before .before .before .before .before .before .before .before .before .before .before .before .before .before .before .before .level-lines in let s = c .before .before .before .before .before .before .before .segment-lines in let p = c .before .before .before .before .before .before .before .before .before .before .before .before .before .before .before .before .before .before .before .before .before .before .before .before .before .before .before .before .before .before .before .pre in

@@ -1,18 +1,14 @@
-use borrow.Author.Needs.{needs}
-use mathlib.Core.Path.{_≡_, refl, sym, _∙_, ap}
+-- `text::form::segment_lines` meets its contract: the loop follows `many`: `SegmentsSoFar` says what was found and stored.
 use Prim.Native.Nat.{_-_}
 use native.Mathlib.Omega.{arith}
+use borrow.Author.Needs.{needs}
 use borrow.Author.Tests.{not-true, not-false}
 use lib.ListN.{length}
+use Rattle.text.specs.Scanned.{segmentOf}
 use Rattle.text.proofs.SegmentLines.{SegmentsSoFar, segments-none, segments-more, segments-end}
 use Rattle.text.proofs.Lines.{found, found-not}
-use Rattle.text.specs.Scanned.{segmentOf}
 use Rattle.text.proofs.form.segment_lines.Statement.{statement}
 use Rattle.text.proofs.form.segment_lines.Tie as tie
-use Rattle.text.proofs.form.segment_lines.Reads as reads
-use Rattle.text.proofs.form.segment_lines.Lts as lts
-use Rattle.text.proofs.form.put.Reads as put-reads
-use Rattle.text.proofs.scanners.segment_at.Reads as segment-at-reads
 
 abbrev Inv-loop : tie.InvT-loop
 Inv-loop text from uppers₀ lowers₀ at₀ count₀ uppers lowers at count = SegmentsSoFar text from uppers₀ lowers₀ uppers lowers at count
@@ -20,47 +16,37 @@ Inv-loop text from uppers₀ lowers₀ at₀ count₀ uppers lowers at count = S
 abbrev μ-loop : tie.MeasureT-loop
 μ-loop text from uppers₀ lowers₀ at₀ count₀ uppers lowers at count = length text - at
 
--- src/form.rt:207:5
 loop-holds : tie.Need-loop-holds Inv-loop μ-loop
 loop-holds c =
     let a = c .before .before .before .args in segments-none (a .text .now) (a .from) (a .uppers .now) (a .lowers .now) (c .before .before .before .pre)
 
--- src/form.rt:208:13
 segment-at-requires : tie.Need-segment-at-requires Inv-loop μ-loop
 segment-at-requires c κs = c .loop .inv .reached .inside
 
--- src/form.rt:210:13
 same-length : tie.Need-same-length Inv-loop μ-loop
 same-length c = c .before .before .before .loop .inv .uppers-long
 
--- src/form.rt:210:13
 same-length-2 : tie.Need-same-length-2 Inv-loop μ-loop
 same-length-2 c = c .before .before .before .loop .inv .lowers-long
 
--- src/form.rt:210:13
 returns : tie.Need-returns Inv-loop μ-loop
 returns c =
     let a = c .before .before .before .before .before .before .before .args in segments-end (a .text .now) (a .from) (a .uppers .now) (a .lowers .now) (c .before .before .before .loop .inv) (found-not (c .before .before .segment-at .ensures) (not-true _ (c .if1 .taken)))
 
--- src/form.rt:212:9
 put-requires : tie.Need-put-requires Inv-loop μ-loop
 put-requires c κs = search needs
 
--- src/form.rt:213:9
 put-requires-2 : tie.Need-put-requires-2 Inv-loop μ-loop
 put-requires-2 c κs = search needs
 
--- src/form.rt:214:9
 add-count : tie.Need-add-count Inv-loop μ-loop
 add-count c =
     omega (arith, c .before .before .before .before .before .before .before .before .before .before .before .loop .inv .reached, c .before .before .before .before .before .before .before .before .before .before .before .before .before .before .before)
 
--- src/form.rt:207:5
 loop-less : tie.Need-loop-less Inv-loop μ-loop
 loop-less c =
     omega (arith, c .before .before .before .before .before .before .before .before .before .before .before .loop .inv .reached, c .before .before .before .before .before .before .before .before .before .before .segment-at .ensures .inside, c .before .before .before .before .before .before .before .before .before .before .segment-at .ensures .onward (not-false _ (c .before .before .before .before .before .before .before .before .if1 .left)))
 
--- src/form.rt:207:5
 loop-again : tie.Need-loop-again Inv-loop μ-loop
 loop-again c =
     let a = c .before .before .before .before .before .before .before .before .before .before .before .before .before .before .before .args in let s = c .before .before .before .before .before .before .before .before .before .before .segment-at in

@@ -1,23 +1,15 @@
-use borrow.Author.Needs.{needs}
-use mathlib.Core.Path.{_≡_, refl, sym, _∙_, ap}
-use Prim.Native.Nat.{_≤_, _<_, _+_, _-_}
+-- `text::form::vertices` meets its contract: the loop follows `many`: `RowSoFar` says what was found and stored.
+use mathlib.Core.Path.{_∙_}
+use Prim.Native.Nat.{_-_}
 use native.Mathlib.Omega.{arith}
+use borrow.Author.Needs.{needs}
 use borrow.Author.Tests.{not-true, not-false}
-use lib.ListN.{length, drop}
-use lib.Seq.{length-sets}
+use lib.ListN.{length}
+use Rattle.text.specs.Scanned.{vertexOf}
 use Rattle.text.proofs.Rows.{RowSoFar, row-none, row-more, row-end}
 use Rattle.text.proofs.Lines.{found, found-not}
-use Rattle.text.specs.Scanned.{vertexOf}
 use Rattle.text.proofs.form.vertices.Statement.{statement}
 use Rattle.text.proofs.form.vertices.Tie as tie
-use Rattle.text.proofs.form.vertices.Reads as reads
-use Rattle.text.proofs.form.vertices.Lts as lts
-use Rattle.text.proofs.form.both.Reads as both-reads
-use Rattle.text.proofs.form.half_fits.Reads as half-fits-reads
-use Rattle.text.proofs.form.half_of.Reads as half-of-reads
-use Rattle.text.proofs.form.put_short.Reads as put-short-reads
-use Rattle.text.proofs.form.put_via.Reads as put-via-reads
-use Rattle.text.proofs.scanners.vertex_at.Reads as vertex-at-reads
 
 abbrev Inv-loop : tie.InvT-loop
 Inv-loop text from first vias₀ halves₀ at₀ count₀ fit₀ vias halves at count fit = RowSoFar text from first vias₀ halves₀ vias halves at count fit
@@ -25,69 +17,54 @@ Inv-loop text from first vias₀ halves₀ at₀ count₀ fit₀ vias halves at 
 abbrev μ-loop : tie.MeasureT-loop
 μ-loop text from first vias₀ halves₀ at₀ count₀ fit₀ vias halves at count fit = length text - at
 
--- src/form.rt:108:5
 loop-holds : tie.Need-loop-holds Inv-loop μ-loop
 loop-holds c =
     let a = c .before .before .before .args in row-none (a .text .now) (a .from) (a .first) (a .vias .now) (a .halves .now) (c .before .before .before .pre .0)
 
--- src/form.rt:109:13
 vertex-at-requires : tie.Need-vertex-at-requires Inv-loop μ-loop
 vertex-at-requires c κs = c .loop .inv .reached .inside
 
--- src/form.rt:111:13
 same-length : tie.Need-same-length Inv-loop μ-loop
 same-length c = c .before .before .before .loop .inv .vias-long
 
--- src/form.rt:111:13
 same-length-2 : tie.Need-same-length-2 Inv-loop μ-loop
 same-length-2 c = c .before .before .before .loop .inv .halves-long
 
--- src/form.rt:111:13
 returns : tie.Need-returns Inv-loop μ-loop
 returns c =
     let a = c .before .before .before .before .before .before .before .args in row-end (a .text .now) (a .from) (a .first) (a .vias .now) (a .halves .now) (c .before .before .before .loop .inv) _ (found-not (c .before .before .vertex-at .ensures) (not-true _ (c .if1 .taken)))
 
--- src/form.rt:118:23
 add-put-via : tie.Need-add-put-via Inv-loop μ-loop
 add-put-via c =
     omega (arith, c .before .before .before .before .loop .inv .reached, c .before .before .before .before .before .before .before .before)
 
--- src/form.rt:118:9
 put-via-requires : tie.Need-put-via-requires Inv-loop μ-loop
 put-via-requires c κs = search needs
 
--- src/form.rt:119:27
 add-put-short : tie.Need-add-put-short Inv-loop μ-loop
 add-put-short c =
     omega (arith, c .before .before .before .before .before .before .before .before .loop .inv .reached, c .before .before .before .before .before .before .before .before .before .before .before .before)
 
--- src/form.rt:119:42
 half-of-requires : tie.Need-half-of-requires Inv-loop μ-loop
 half-of-requires c κs = search needs
 
--- src/form.rt:119:9
 put-short-requires : tie.Need-put-short-requires Inv-loop μ-loop
 put-short-requires c κs = search needs
 
--- src/form.rt:120:25
 half-fits-requires : tie.Need-half-fits-requires Inv-loop μ-loop
 half-fits-requires c κs = search needs
 
--- src/form.rt:120:9
 both-requires : tie.Need-both-requires Inv-loop μ-loop
 both-requires c κs = search needs
 
--- src/form.rt:121:9
 add-count : tie.Need-add-count Inv-loop μ-loop
 add-count c =
     omega (arith, c .before .before .before .before .before .before .before .before .before .before .before .before .before .before .loop .inv .reached, c .before .before .before .before .before .before .before .before .before .before .before .before .before .before .before .before .before .before)
 
--- src/form.rt:108:5
 loop-less : tie.Need-loop-less Inv-loop μ-loop
 loop-less c =
     omega (arith, c .before .before .before .before .before .before .before .before .before .before .before .before .before .before .loop .inv .reached, c .before .before .before .before .before .before .before .before .before .before .before .before .before .before .before .before .before .before, c .before .before .before .before .before .before .before .before .before .before .before .before .before .vertex-at .ensures .inside, c .before .before .before .before .before .before .before .before .before .before .before .before .before .vertex-at .ensures .onward (not-false _ (c .before .before .before .before .before .before .before .before .before .before .before .if1 .left)))
 
--- src/form.rt:108:5
 loop-again : tie.Need-loop-again Inv-loop μ-loop
 loop-again c =
     let a = c .before .before .before .before .before .before .before .before .before .before .before .before .before .before .before .before .before .before .args in let v = c .before .before .before .before .before .before .before .before .before .before .before .before .before .vertex-at in

@@ -1,20 +1,16 @@
-use borrow.Author.Needs.{needs}
+-- `text::scanners::byte_at` meets its contract: past the end `getD` gives 0.
 use mathlib.Core.Path.{sym}
+use borrow.Author.Needs.{needs}
 use lib.ListN.{List·getD-eq-default}
 use Rattle.text.proofs.scanners.byte_at.Statement.{statement}
 use Rattle.text.proofs.scanners.byte_at.Tie as tie
-use Rattle.text.proofs.scanners.byte_at.Reads as reads
-use Rattle.text.proofs.scanners.byte_at.Lts as lts
 
--- src/scanners.rt:37:26
 shared-slice-read-result : tie.Need-shared-slice-read-result
 shared-slice-read-result c = search needs
 
--- src/scanners.rt:34:1
 returns : tie.Need-returns
 returns c = search needs
 
--- src/scanners.rt:34:1
 returns-2 : tie.Need-returns-2
 returns-2 c = sym (List·getD-eq-default (c .before .args .text .now) 0 (c .if1 .left))
 

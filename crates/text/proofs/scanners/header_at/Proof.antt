@@ -1,45 +1,35 @@
-use borrow.Author.Needs.{needs}
-use mathlib.Core.Path.{_≡_, refl, sym, _∙_}
-use mathlib.Core.Bool.{true, false}
+-- `text::scanners::header_at` meets its contract: by the cases of `planLine`.
+use mathlib.Core.Path.{_≡_}
+use mathlib.Core.Bool.{true}
 use native.Mathlib.Omega.{arith}
+use borrow.Author.Needs.{needs}
 use borrow.Author.Tests.{not-true, not-false}
 use lib.ListN.{drop}
 use Rattle.text.proofs.Lines.{has, has-not, found, found-not, plan-none, plan-no-levels, plan-no-gap, plan-gives}
 use Rattle.text.proofs.Words.{never}
 use Rattle.text.proofs.scanners.header_at.Statement.{statement}
 use Rattle.text.proofs.scanners.header_at.Tie as tie
-use Rattle.text.proofs.scanners.header_at.Reads as reads
-use Rattle.text.proofs.scanners.header_at.Lts as lts
-use Rattle.text.proofs.scanners.number_then.Reads as number-then-reads
-use Rattle.text.proofs.scanners.word_at.Reads as word-at-reads
 
--- src/scanners.rt:238:27
 slice-aggregate-word-at : tie.Need-slice-aggregate-word-at
 slice-aggregate-word-at c = search needs
 
--- src/scanners.rt:238:9
 word-at-requires : tie.Need-word-at-requires
 word-at-requires c κs = search needs
 
--- src/scanners.rt:239:9
 returns : tie.Need-returns
 returns c =
     let a = c .before .before .before .before .args in
     record { gives = plan-none (drop (a .at) (a .text .now)) (has-not (c .before .word-at .ensures) (not-true _ (c .if1 .taken))); inside = c .before .before .before .before .pre; onward = never }
 
--- src/scanners.rt:241:31
 add-number-then : tie.Need-add-number-then
 add-number-then c = search needs
 
--- src/scanners.rt:241:39
 slice-aggregate-number-then : tie.Need-slice-aggregate-number-then
 slice-aggregate-number-then c = search needs
 
--- src/scanners.rt:241:9
 number-then-requires : tie.Need-number-then-requires
 number-then-requires c κs = omega (arith, c .before .before .word-at .ensures .inside (not-false _ (c .before .if1 .left)))
 
--- src/scanners.rt:243:9
 returns-2 : tie.Need-returns-2
 returns-2 c =
     let a = c .before .before .before .before .before .before .before .before .args in
@@ -49,15 +39,12 @@ returns-2 c =
       onward = never;
     }
 
--- src/scanners.rt:245:39
 slice-aggregate-number-then-2 : tie.Need-slice-aggregate-number-then-2
 slice-aggregate-number-then-2 c = search needs
 
--- src/scanners.rt:245:9
 number-then-requires-2 : tie.Need-number-then-requires-2
 number-then-requires-2 c κs = search needs
 
--- src/scanners.rt:247:9
 returns-3 : tie.Need-returns-3
 returns-3 c =
     let a = c .before .before .before .before .before .before .before .before .before .before .before .before .args in let k = c .before .before .before .before .before .before .number-then in
@@ -67,15 +54,12 @@ returns-3 c =
       onward = never;
     }
 
--- src/scanners.rt:249:39
 slice-aggregate-number-then-3 : tie.Need-slice-aggregate-number-then-3
 slice-aggregate-number-then-3 c = search needs
 
--- src/scanners.rt:249:9
 number-then-requires-3 : tie.Need-number-then-requires-3
 number-then-requires-3 c κs = search needs
 
--- src/scanners.rt:227:1
 returns-4 : tie.Need-returns-4
 returns-4 c =
     let a = c .before .before .before .before .before .before .before .before .before .before .before .before .before .before .args in let k = c .before .before .before .before .before .before .before .before .number-then in let g = c .before .before .before .before .number-then2 in let s = c .number-then3 in

@@ -1,15 +1,11 @@
-use borrow.Author.Needs.{needs}
+-- `text::scanners::is_digit` meets its contract: the two tests are those of `isDigit`.
 use borrow.Author.Tests.{le-leb, lt-leb}
 use Rattle.text.proofs.scanners.is_digit.Statement.{statement}
 use Rattle.text.proofs.scanners.is_digit.Tie as tie
-use Rattle.text.proofs.scanners.is_digit.Reads as reads
-use Rattle.text.proofs.scanners.is_digit.Lts as lts
 
--- src/scanners.rt:40:1
 returns : tie.Need-returns
 returns c = rw (le-leb _ _ (c .if1 .taken))
 
--- src/scanners.rt:40:1
 returns-2 : tie.Need-returns-2
 returns-2 c = rw (lt-leb _ _ (c .if1 .left))
 

@@ -1,20 +1,16 @@
-use borrow.Author.Needs.{needs}
+-- `text::scanners::more_digits` meets its contract: before each turn the digits still to come, after the value so far, give what all of them give; the value stays below
+-- 10 to the digits read.
 use mathlib.Core.Path.{_≡_, refl, sym, _∙_}
-use Prim.Native.Nat.{_≤_, _<_, _+_, _-_, _*_}
-use native.Mathlib.Omega.{arith}
-use lib.ListN.{length, drop}
 use mathlib.Core.Bool.{true, false}
+use Prim.Native.Nat.{_≤_, _<_, _-_}
+use native.Mathlib.Omega.{arith}
+use borrow.Author.Needs.{needs}
 use borrow.Author.Tests.{not-true, not-false}
-use Rattle.text.specs.Parser.{isDigit}
+use lib.ListN.{length, drop}
+use Rattle.text.specs.Parser.{isDigit, digitsAfter}
 use Rattle.text.proofs.Numbers.{digit-low, digit-high, digit-within, cap, cap-all, cap-go, digits-none, digits-stop, digits-go}
-use Rattle.text.specs.Parser.{digitsAfter}
 use Rattle.text.proofs.scanners.more_digits.Statement.{statement}
 use Rattle.text.proofs.scanners.more_digits.Tie as tie
-use Rattle.text.proofs.scanners.more_digits.Reads as reads
-use Rattle.text.proofs.scanners.more_digits.Lts as lts
-use Rattle.text.proofs.scanners.byte_at.Reads as byte-at-reads
-use Rattle.text.proofs.scanners.is_digit.Reads as is-digit-reads
-use Rattle.text.proofs.scanners.wide.Reads as wide-reads
 
 abbrev Inv-loop : tie.InvT-loop
 Inv-loop text from first at₀ value₀ left₀ at value left = (left ≤ 4) × (at ≤ length text) × (from ≤ at) × (value < cap left) × (digitsAfter 4 first (drop from text) ≡ digitsAfter left value (drop at text))
@@ -22,61 +18,49 @@ Inv-loop text from first at₀ value₀ left₀ at value left = (left ≤ 4) × 
 abbrev μ-loop : tie.MeasureT-loop
 μ-loop text from first at₀ value₀ left₀ at value left = left
 
--- src/scanners.rt:60:5
 loop-holds : tie.Need-loop-holds Inv-loop μ-loop
 loop-holds c = (omega arith, omega arith, omega arith, omega arith, refl)
 
--- src/scanners.rt:61:13
 byte-at-requires : tie.Need-byte-at-requires Inv-loop μ-loop
 byte-at-requires c κs = search needs
 
--- src/scanners.rt:62:13
 is-digit-requires : tie.Need-is-digit-requires Inv-loop μ-loop
 is-digit-requires c κs = search needs
 
--- src/scanners.rt:63:13
 returns : tie.Need-returns Inv-loop μ-loop
 returns c =
     let a = c .before .before .before .before .before .before .args in let l = c .before .before .before .before .loop in
     let d : isDigit (c .before .before .byte-at .result) ≡ false = sym (c .before .is-digit .ensures) ∙ not-true _ (c .if1 .taken) in
     record { gives = l .inv .4 ∙ digits-stop (a .text .now) (l .left) (l .value) (l .at) _ (c .before .before .byte-at .ensures) d; inside = l .inv .1; onward = l .inv .2 }
 
--- src/scanners.rt:69:17
 mul-value : tie.Need-mul-value Inv-loop μ-loop
 mul-value c = let l = c .before .before .before .before .loop in omega (arith, cap-all (l .left) (l .value) (l .inv .3))
 
--- src/scanners.rt:69:31
 wide-requires : tie.Need-wide-requires Inv-loop μ-loop
 wide-requires c κs = search needs
 
--- src/scanners.rt:69:31
 sub-value : tie.Need-sub-value Inv-loop μ-loop
 sub-value c =
     let d : isDigit (c .before .before .before .byte-at .result) ≡ true = sym (c .before .before .is-digit .ensures) ∙ not-false _ (c .before .if1 .left) in
     omega (arith, digit-low (c .before .before .before .byte-at .result) d)
 
--- src/scanners.rt:69:17
 add-value : tie.Need-add-value Inv-loop μ-loop
 add-value c =
     let l = c .before .before .before .before .before .loop in
     omega (arith, cap-all (l .left) (l .value) (l .inv .3))
 
--- src/scanners.rt:70:9
 add-at : tie.Need-add-at Inv-loop μ-loop
 add-at c =
     let a = c .before .before .before .before .before .before .before .args in let l = c .before .before .before .before .before .loop in
     let d : isDigit (c .before .before .before .byte-at .result) ≡ true = sym (c .before .before .is-digit .ensures) ∙ not-false _ (c .before .if1 .left) in
     omega (arith, digit-within (a .text .now) (l .at) (c .before .before .before .byte-at .result) (c .before .before .before .byte-at .ensures) d)
 
--- src/scanners.rt:71:9
 sub-left : tie.Need-sub-left Inv-loop μ-loop
 sub-left c = search needs
 
--- src/scanners.rt:60:5
 loop-less : tie.Need-loop-less Inv-loop μ-loop
 loop-less c = search needs
 
--- src/scanners.rt:60:5
 loop-again : tie.Need-loop-again Inv-loop μ-loop
 loop-again c =
     let a = c .before .before .before .before .before .before .before .args in let l = c .before .before .before .before .before .loop in
@@ -87,7 +71,6 @@ loop-again c =
     let h = digit-within (a .text .now) (l .at) b (c .before .before .before .byte-at .ensures) d in
     (omega arith, omega arith, omega arith, cap-go (l .left) (l .value) (c .wide .result - 48) (c .before .before .before .before .loop-test .taken) (l .inv .0) (l .inv .3) (omega arith), l .inv .4 ∙ digits-go (a .text .now) (l .left) (l .value) (l .at) b (c .before .before .before .before .loop-test .taken) (c .before .before .before .byte-at .ensures) d ∙ rw w)
 
--- src/scanners.rt:53:1
 returns-2 : tie.Need-returns-2 Inv-loop μ-loop
 returns-2 c =
     let a = c .before .before .before .args in let l = c .before .loop in

@@ -1,45 +1,36 @@
-use borrow.Author.Needs.{needs}
-use mathlib.Core.Path.{_≡_, refl, sym, _∙_}
+-- `text::scanners::number_then` meets its contract: by the cases of `numberThen`: no number, no word after it, or both.
+use mathlib.Core.Path.{_≡_, _∙_}
 use mathlib.Core.Bool.{true, false}
 use native.Mathlib.Omega.{arith}
+use borrow.Author.Needs.{needs}
 use borrow.Author.Tests.{not-true, not-false}
 use lib.ListN.{drop}
 use Rattle.text.proofs.Lines.{has, has-not, found, found-not, then-none, then-not, then-found}
 use Rattle.text.proofs.Words.{never}
 use Rattle.text.proofs.scanners.number_then.Statement.{statement}
 use Rattle.text.proofs.scanners.number_then.Tie as tie
-use Rattle.text.proofs.scanners.number_then.Reads as reads
-use Rattle.text.proofs.scanners.number_then.Lts as lts
-use Rattle.text.proofs.scanners.number_at.Reads as number-at-reads
-use Rattle.text.proofs.scanners.word_at.Reads as word-at-reads
 
--- src/scanners.rt:109:9
 number-at-requires : tie.Need-number-at-requires
 number-at-requires c κs = search needs
 
--- src/scanners.rt:111:9
 returns : tie.Need-returns
 returns c =
     let a = c .before .before .before .before .before .args in let n = c .before .before .number-at in
     let e : n .result .found ≡ false = not-true _ (c .if1 .taken) in
     record { gives = then-none (a .word .now) (drop (a .at) (a .text .now)) (found-not (n .ensures) e) ∙ rw e; inside = n .ensures .inside; onward = n .ensures .onward }
 
--- src/scanners.rt:113:9
 word-at-requires : tie.Need-word-at-requires
 word-at-requires c κs = search needs
 
--- src/scanners.rt:114:9
 returns-2 : tie.Need-returns-2
 returns-2 c =
     let a = c .before .before .before .before .before .before .before .args in let n = c .before .before .before .before .number-at in
     let e : n .result .found ≡ true = not-false _ (c .before .before .if1 .left) in
     record { gives = then-not (a .word .now) (drop (a .at) (a .text .now)) _ _ (found (n .ensures) e) (has-not (c .before .word-at .ensures) (not-true _ (c .if2 .taken))); inside = c .before .before .before .before .before .before .before .pre; onward = never }
 
--- src/scanners.rt:123:15
 add-t8 : tie.Need-add-t8
 add-t8 c = search needs
 
--- src/scanners.rt:105:1
 returns-3 : tie.Need-returns-3
 returns-3 c =
     let a = c .before .before .before .before .before .before .before .before .args in let n = c .before .before .before .before .before .number-at in

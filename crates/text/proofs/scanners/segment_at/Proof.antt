@@ -1,45 +1,35 @@
-use borrow.Author.Needs.{needs}
-use mathlib.Core.Path.{_≡_, refl, sym, _∙_}
-use mathlib.Core.Bool.{true, false}
+-- `text::scanners::segment_at` meets its contract: by the cases of `segmentLine`.
+use mathlib.Core.Path.{_≡_}
+use mathlib.Core.Bool.{true}
 use native.Mathlib.Omega.{arith}
+use borrow.Author.Needs.{needs}
 use borrow.Author.Tests.{not-true, not-false}
 use lib.ListN.{drop}
 use Rattle.text.proofs.Lines.{has, has-not, found, found-not, segment-none, segment-not, segment-gives}
 use Rattle.text.proofs.Words.{never}
 use Rattle.text.proofs.scanners.segment_at.Statement.{statement}
 use Rattle.text.proofs.scanners.segment_at.Tie as tie
-use Rattle.text.proofs.scanners.segment_at.Reads as reads
-use Rattle.text.proofs.scanners.segment_at.Lts as lts
-use Rattle.text.proofs.scanners.number_then.Reads as number-then-reads
-use Rattle.text.proofs.scanners.word_at.Reads as word-at-reads
 
--- src/scanners.rt:201:27
 slice-aggregate-word-at : tie.Need-slice-aggregate-word-at
 slice-aggregate-word-at c = search needs
 
--- src/scanners.rt:201:9
 word-at-requires : tie.Need-word-at-requires
 word-at-requires c κs = search needs
 
--- src/scanners.rt:202:9
 returns : tie.Need-returns
 returns c =
     let a = c .before .before .before .before .args in
     record { gives = segment-none (drop (a .at) (a .text .now)) (has-not (c .before .word-at .ensures) (not-true _ (c .if1 .taken))); inside = c .before .before .before .before .pre; onward = never }
 
--- src/scanners.rt:204:31
 add-number-then : tie.Need-add-number-then
 add-number-then c = search needs
 
--- src/scanners.rt:204:39
 slice-aggregate-number-then : tie.Need-slice-aggregate-number-then
 slice-aggregate-number-then c = search needs
 
--- src/scanners.rt:204:9
 number-then-requires : tie.Need-number-then-requires
 number-then-requires c κs = omega (arith, c .before .before .word-at .ensures .inside (not-false _ (c .before .if1 .left)))
 
--- src/scanners.rt:206:9
 returns-2 : tie.Need-returns-2
 returns-2 c =
     let a = c .before .before .before .before .before .before .before .before .args in
@@ -49,15 +39,12 @@ returns-2 c =
       onward = never;
     }
 
--- src/scanners.rt:208:39
 slice-aggregate-number-then-2 : tie.Need-slice-aggregate-number-then-2
 slice-aggregate-number-then-2 c = search needs
 
--- src/scanners.rt:208:9
 number-then-requires-2 : tie.Need-number-then-requires-2
 number-then-requires-2 c κs = search needs
 
--- src/scanners.rt:191:1
 returns-3 : tie.Need-returns-3
 returns-3 c =
     let a = c .before .before .before .before .before .before .before .before .before .before .args in let n = c .before .before .before .before .number-then in let m = c .number-then2 in

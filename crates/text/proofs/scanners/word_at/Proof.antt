@@ -1,16 +1,13 @@
-use mathlib.Core.Path.{_≡_, refl, sym, _∙_}
-use mathlib.Core.List.{List}
-use Prim.Native.Nat.{ℕ, _≤_, _+_, _-_}
+-- `text::scanners::word_at` meets its contract: the loop passes the bytes of the word that stand in the text; the word from there on is found exactly if the whole is.
+use mathlib.Core.Path.{_≡_, _∙_}
+use Prim.Native.Nat.{_≤_, _+_, _-_}
 use native.Mathlib.Omega.{arith}
 use borrow.Author.Needs.{needs}
 use lib.ListN.{length, drop, length-drop}
-use Rattle.text.proofs.Words.{never}
 use Rattle.text.specs.Parser.{word}
-use Rattle.text.proofs.Words.{word-short, word-end, word-same, word-other}
+use Rattle.text.proofs.Words.{never, word-short, word-end, word-same, word-other}
 use Rattle.text.proofs.scanners.word_at.Statement.{statement}
 use Rattle.text.proofs.scanners.word_at.Tie as tie
-use Rattle.text.proofs.scanners.word_at.Reads as reads
-use Rattle.text.proofs.scanners.word_at.Lts as lts
 
 abbrev Inv-loop : tie.InvT-loop
 Inv-loop text at w i₀ i = (i ≤ length w) × (at + length w ≤ length text) × (word w (drop at text) ≡ word (drop i w) (drop (at + i) text))
@@ -18,56 +15,45 @@ Inv-loop text at w i₀ i = (i ≤ length w) × (at + length w ≤ length text) 
 abbrev μ-loop : tie.MeasureT-loop
 μ-loop text at w i₀ i = length w - i
 
--- src/scanners.rt:20:8
 sub-if1 : tie.Need-sub-if1 Inv-loop μ-loop
 sub-if1 c = search needs
 
--- src/scanners.rt:21:9
 returns : tie.Need-returns Inv-loop μ-loop
 returns c =
     let a = c .before .args in
     record { gives = word-short (a .word .now) (drop (a .at) (a .text .now)) (simp length-drop (omega arith)); inside = never }
 
--- src/scanners.rt:24:5
 loop-holds : tie.Need-loop-holds Inv-loop μ-loop
 loop-holds c =
     let a = c .before .args in
     let e : a .at + 0 ≡ a .at = omega arith in (omega arith, omega arith, rw e)
 
--- src/scanners.rt:25:17
 add-if2 : tie.Need-add-if2 Inv-loop μ-loop
 add-if2 c = search needs
 
--- src/scanners.rt:25:12
 shared-slice-read-if2 : tie.Need-shared-slice-read-if2 Inv-loop μ-loop
 shared-slice-read-if2 c = search needs
 
--- src/scanners.rt:25:28
 shared-slice-read-if2-2 : tie.Need-shared-slice-read-if2-2 Inv-loop μ-loop
 shared-slice-read-if2-2 c = search needs
 
--- src/scanners.rt:26:13
 returns-2 : tie.Need-returns-2 Inv-loop μ-loop
 returns-2 c =
     let a = c .before .before .before .before .before .before .args in let l = c .before .before .before .before .loop in
     record { gives = l .inv .2 ∙ word-other (a .word .now) (a .text .now) (l .i) (a .at + l .i) (c .before .before .before .loop-test .taken) (omega arith) (c .if2 .taken); inside = never }
 
--- src/scanners.rt:28:9
 add-i : tie.Need-add-i Inv-loop μ-loop
 add-i c = search needs
 
--- src/scanners.rt:24:5
 loop-less : tie.Need-loop-less Inv-loop μ-loop
 loop-less c = search needs
 
--- src/scanners.rt:24:5
 loop-again : tie.Need-loop-again Inv-loop μ-loop
 loop-again c =
     let a = c .before .before .before .before .before .before .args in let l = c .before .before .before .before .loop in
     let e : a .at + l .i + 1 ≡ a .at + (l .i + 1) = omega arith in
     (omega arith, omega arith, l .inv .2 ∙ word-same (a .word .now) (a .text .now) (l .i) (a .at + l .i) (c .before .before .before .loop-test .taken) (omega arith) (c .if2 .left) ∙ rw e)
 
--- src/scanners.rt:16:1
 returns-3 : tie.Need-returns-3 Inv-loop μ-loop
 returns-3 c =
     let a = c .before .before .before .args in let l = c .before .loop in
