@@ -1,0 +1,239 @@
+-- A run placed by halves over its columns is placed as the definition has it. Assumes nothing.
+use mathlib.Core.Path.{_≡_, refl, sym, _∙_, ap, fun-ext}
+use mathlib.Core.Bool.{Bool, true, false, cond, not}
+use mathlib.Core.List.{List, [], _∷_, _++_}
+use Prim.Native.Nat.{ℕ, zero, suc, _+_, _-_, _≤_, _<_, _/_}
+use native.Mathlib.Omega.{arith}
+use lib.ListN.{length, take, drop, getD, set, length-take, length-drop, length-append, List·getD-append}
+use lib.Seq.{take-at, drop-at, take-take, drop-drop, take-all, drop-nil, getD-append-add}
+use lib.IntN.{ℤ, pos, _-ℤ_}
+use lib.Signed.{ltZ}
+use Rattle.ints.specs.Ints.{P, size}
+use Rattle.run.specs.Run.{Bound as Limit, Box, startOf, firstOf, lastOf}
+use Rattle.run.proofs.PlaceBest.{clamp}
+use Rattle.run.proofs.Sorted.{countUpTo}
+use Rattle.run.proofs.Meet.{cutAt, raiseTo}
+use Rattle.run.proofs.Fast.{bisect, leftUpTo, leftBeyond, rightUpTo, rightBeyond, moreUpTo, meetingPlace, joinFast, placeFast}
+use Rattle.ints.specs.Lists.{sum}
+use Rattle.place_run.specs.Call.{boxesFrom}
+use Rattle.place_run.specs.Columns.{Small, maxSize, Cut, upTo, beyond, more, lastBefore, firstAfter, meetAt, joined}
+use Rattle.place_run.specs.Halves.{Ready, Placed}
+use Rattle.place_run.proofs.Columns.{drop-take, columns-take, columns-drop}
+use Rattle.place_run.proofs.Small.{sized-take, sized-drop, sized-append, small-one, small-joined}
+
+-- ---- the boxes of the columns
+pub length-boxes : (os : List ℤ) (ds cs : List ℕ) (ns : List ℤ) → length os ≡ length cs → length (boxesFrom os ds cs ns) ≡ length os
+unfolding boxesFrom
+length-boxes [] ds cs ns e = refl
+length-boxes (o ∷ os) ds [] ns e = absurd (omega arith)
+length-boxes (o ∷ os) ds (c ∷ cs) ns e = ap suc (length-boxes os (drop 1 ds) cs (drop c ns) (omega arith))
+
+pub take-boxes : (k : ℕ) (os : List ℤ) (ds cs : List ℕ) (ns : List ℤ) → take k (boxesFrom os ds cs ns) ≡ boxesFrom (take k os) ds (take k cs) (take (sum (take k cs)) ns)
+unfolding boxesFrom sum
+take-boxes zero os ds cs ns = refl
+take-boxes (suc k) [] ds cs ns = refl
+take-boxes (suc k) (o ∷ os) ds [] ns = refl
+take-boxes (suc k) (o ∷ os) ds (c ∷ cs) ns = let s = sum (take k cs) in
+    rw (take-take c (c + s) ns (omega arith), drop-take c s ns, take-boxes k os (drop 1 ds) cs (drop c ns))
+
+pub drop-boxes : (k : ℕ) (os : List ℤ) (ds cs : List ℕ) (ns : List ℤ) → drop k (boxesFrom os ds cs ns) ≡ boxesFrom (drop k os) (drop k ds) (drop k cs) (drop (sum (take k cs)) ns)
+unfolding boxesFrom sum
+drop-boxes zero os ds cs ns = refl
+drop-boxes (suc k) [] ds cs ns = refl
+drop-boxes (suc k) (o ∷ os) ds [] ns = no-counts (drop k os)
+  where
+    no-counts : (os : List ℤ) → [] ≡ boxesFrom os (drop (suc k) ds) [] (drop 0 ns)
+    no-counts [] = refl
+    no-counts (o ∷ os) = refl
+drop-boxes (suc k) (o ∷ os) ds (c ∷ cs) ns =
+    drop-boxes k os (drop 1 ds) cs (drop c ns) ∙ rw (drop-one k ds, drop-drop (sum (take k cs)) c ns)
+  where
+    drop-one : (k : ℕ) (ds : List ℕ) → drop k (drop 1 ds) ≡ drop (suc k) ds
+    drop-one k [] = drop-nil k
+    drop-one k (d ∷ ds) = refl
+
+-- ---- the counts of a half of them
+swap : (t : Bool) (a : ℕ) → cond (not t) a 0 ≡ cond t 0 a
+swap true a = refl
+swap false a = refl
+
+module _ (m : ℤ) where
+  left-up : (zs os : List ℤ) (ds cs : List ℕ) (ns : List ℤ) → length os ≡ length cs → upTo true zs cs ns m ≡ leftUpTo (boxesFrom os ds cs ns) zs m
+  unfolding upTo leftUpTo boxesFrom
+  left-up [] [] ds [] ns e = refl
+  left-up [] [] ds (c ∷ cs) ns e = absurd (omega arith)
+  left-up [] (o ∷ os) ds [] ns e = absurd (omega arith)
+  left-up [] (o ∷ os) ds (c ∷ cs) ns e = refl
+  left-up (z ∷ zs) [] ds [] ns e = refl
+  left-up (z ∷ zs) [] ds (c ∷ cs) ns e = absurd (omega arith)
+  left-up (z ∷ zs) (o ∷ os) ds [] ns e = absurd (omega arith)
+  left-up (z ∷ zs) (o ∷ os) ds (c ∷ cs) ns e = ap (λ (n : ℕ). cond (ltZ m z) (countUpTo m (take c ns)) 0 + n) (left-up zs os (drop 1 ds) cs (drop c ns) (omega arith))
+
+  left-beyond : (zs os : List ℤ) (ds cs : List ℕ) (ns : List ℤ) → length os ≡ length cs → beyond true zs cs ns m ≡ leftBeyond (boxesFrom os ds cs ns) zs m
+  unfolding beyond leftBeyond boxesFrom
+  left-beyond [] [] ds [] ns e = refl
+  left-beyond [] [] ds (c ∷ cs) ns e = absurd (omega arith)
+  left-beyond [] (o ∷ os) ds [] ns e = absurd (omega arith)
+  left-beyond [] (o ∷ os) ds (c ∷ cs) ns e = refl
+  left-beyond (z ∷ zs) [] ds [] ns e = refl
+  left-beyond (z ∷ zs) [] ds (c ∷ cs) ns e = absurd (omega arith)
+  left-beyond (z ∷ zs) (o ∷ os) ds [] ns e = absurd (omega arith)
+  left-beyond (z ∷ zs) (o ∷ os) ds (c ∷ cs) ns e = ap (λ (n : ℕ). cond (ltZ m z) (length (take c ns) - countUpTo m (take c ns)) 0 + n) (left-beyond zs os (drop 1 ds) cs (drop c ns) (omega arith))
+
+  right-up : (zs os : List ℤ) (ds cs : List ℕ) (ns : List ℤ) → length os ≡ length cs → upTo false zs cs ns m ≡ rightUpTo (boxesFrom os ds cs ns) zs m
+  unfolding upTo rightUpTo boxesFrom
+  right-up [] [] ds [] ns e = refl
+  right-up [] [] ds (c ∷ cs) ns e = absurd (omega arith)
+  right-up [] (o ∷ os) ds [] ns e = absurd (omega arith)
+  right-up [] (o ∷ os) ds (c ∷ cs) ns e = refl
+  right-up (z ∷ zs) [] ds [] ns e = refl
+  right-up (z ∷ zs) [] ds (c ∷ cs) ns e = absurd (omega arith)
+  right-up (z ∷ zs) (o ∷ os) ds [] ns e = absurd (omega arith)
+  right-up (z ∷ zs) (o ∷ os) ds (c ∷ cs) ns e = rw (swap (ltZ m z) (countUpTo m (take c ns)), right-up zs os (drop 1 ds) cs (drop c ns) (omega arith))
+
+  right-beyond : (zs os : List ℤ) (ds cs : List ℕ) (ns : List ℤ) → length os ≡ length cs → beyond false zs cs ns m ≡ rightBeyond (boxesFrom os ds cs ns) zs m
+  unfolding beyond rightBeyond boxesFrom
+  right-beyond [] [] ds [] ns e = refl
+  right-beyond [] [] ds (c ∷ cs) ns e = absurd (omega arith)
+  right-beyond [] (o ∷ os) ds [] ns e = absurd (omega arith)
+  right-beyond [] (o ∷ os) ds (c ∷ cs) ns e = refl
+  right-beyond (z ∷ zs) [] ds [] ns e = refl
+  right-beyond (z ∷ zs) [] ds (c ∷ cs) ns e = absurd (omega arith)
+  right-beyond (z ∷ zs) (o ∷ os) ds [] ns e = absurd (omega arith)
+  right-beyond (z ∷ zs) (o ∷ os) ds (c ∷ cs) ns e = rw (swap (ltZ m z) (length (take c ns) - countUpTo m (take c ns)), right-beyond zs os (drop 1 ds) cs (drop c ns) (omega arith))
+
+-- ---- the join
+last-is : (xs : List ℤ) → 0 < length xs → getD xs (length xs - 1) (pos 0) ≡ lastOf xs
+unfolding lastOf
+last-is [] h = absurd (omega arith)
+last-is (x ∷ []) h = refl
+last-is (x ∷ y ∷ xs) h = let e : length (x ∷ y ∷ xs) - 1 ≡ suc (length (y ∷ xs) - 1) = omega arith in rw e (last-is (y ∷ xs) (omega arith))
+
+first-is : (ys : List ℤ) → 0 < length ys → getD ys 0 (pos 0) ≡ firstOf ys
+unfolding firstOf
+first-is [] h = absurd (omega arith)
+first-is (y ∷ ys) h = refl
+
+module _ (k n : ℕ) (xs ys os os′ : List ℤ) (ds ds′ cs : List ℕ) (ns : List ℤ) (ek : length xs ≡ k) (eo : length os ≡ length (take k cs)) (eo′ : length os′ ≡ length (drop k cs)) where
+  pub more-is : (m : ℤ) → more k n (xs ++ ys) cs ns m ≡ moreUpTo (boxesFrom os ds (take k cs) (take n ns)) (boxesFrom os′ ds′ (drop k cs) (drop n ns)) xs ys m
+  unfolding more
+  more-is m = rw (
+    take-at xs ys k ek,
+    drop-at xs ys k ek,
+    left-beyond m xs os ds (take k cs) (take n ns) eo,
+    right-beyond m ys os′ ds′ (drop k cs) (drop n ns) eo′,
+    left-up m xs os ds (take k cs) (take n ns) eo,
+    right-up m ys os′ ds′ (drop k cs) (drop n ns) eo′,
+  )
+
+  last-before : 0 < k → lastBefore k (xs ++ ys) ≡ lastOf xs
+  last-before h = let e : k - 1 ≡ length xs - 1 = omega arith in
+      ap (λ (i : ℕ). getD (xs ++ ys) i (pos 0)) e ∙ List·getD-append xs ys (pos 0) (length xs - 1) (omega arith) ∙ last-is xs (omega arith)
+
+  first-after : 0 < length ys → firstAfter k (xs ++ ys) ≡ firstOf ys
+  first-after h = let e : k ≡ length xs + 0 = omega arith in
+      ap (λ (i : ℕ). getD (xs ++ ys) i (pos 0)) e ∙ getD-append-add xs ys 0 (pos 0) ∙ first-is ys h
+
+  pub meeting-is : 0 < k → 0 < length ys → meetAt k n (xs ++ ys) cs ns ≡ meetingPlace (boxesFrom os ds (take k cs) (take n ns)) (boxesFrom os′ ds′ (drop k cs) (drop n ns)) xs ys
+  unfolding meetAt meetingPlace
+  meeting-is hk hy = let w = P (lastOf xs -ℤ firstOf ys) in
+      rw (last-before hk, first-after hy) (ap (λ (t : ℤ → Bool). bisect t w (firstOf ys) w) (fun-ext more-is))
+
+  pub joined-is : 0 < k → 0 < length ys → joined k n (xs ++ ys) cs ns ≡ joinFast (boxesFrom os ds (take k cs) (take n ns)) (boxesFrom os′ ds′ (drop k cs) (drop n ns)) xs ys
+  unfolding joined joinFast
+  joined-is hk hy = rw (last-before hk, first-after hy, take-at xs ys k ek, drop-at xs ys k ek, meeting-is hk hy)
+
+-- ---- the run
+fast-many : (L H : Limit) (f : ℕ) (bs : List Box) → 1 < length bs
+    → placeFast L H (suc f) bs ≡ joinFast (take (length bs / 2) bs) (drop (length bs / 2) bs) (placeFast L H f (take (length bs / 2) bs)) (placeFast L H f (drop (length bs / 2) bs))
+unfolding placeFast
+fast-many L H f [] h = absurd (omega arith)
+fast-many L H f (b ∷ []) h = absurd (omega arith)
+fast-many L H f (b ∷ c ∷ bs) h = refl
+
+pub placed-none : (L H : Limit) (old : List ℤ) (cs : List ℕ) (ns zs : List ℤ) → length old ≡ 0 → length zs ≡ length old → Placed L H old cs ns zs
+unfolding placeFast boxesFrom
+placed-none L H [] cs ns [] e h = record { answer = λ ds f k. none f; small = λ i k. absurd (omega arith) }
+  where
+    none : (f : ℕ) → [] ≡ placeFast L H f []
+    none zero = refl
+    none (suc f) = refl
+placed-none L H [] cs ns (z ∷ zs) e h = absurd (omega arith)
+placed-none L H (o ∷ old) cs ns zs e h = absurd (omega arith)
+
+pub placed-one : (L H : Limit) (old : List ℤ) (cs : List ℕ) (ns zs : List ℤ) (x : ℤ) → length old ≡ 1 → Ready L H old cs ns zs
+    → x ≡ clamp L H (startOf (getD old 0 (pos 0)) ns) → Placed L H old cs ns (set zs 0 x)
+unfolding placeFast boxesFrom sum
+placed-one L H [] cs ns zs x e r q = absurd (omega arith)
+placed-one L H (o ∷ []) [] ns zs x e r q = absurd (omega (arith, r .columns .boxes))
+placed-one L H (o ∷ []) (c ∷ []) ns [] x e r q = absurd (omega (arith, r .answer))
+placed-one L H (o ∷ []) (c ∷ []) ns (z ∷ []) x e r q = record {
+  answer = λ ds f h. one ds f h;
+  small = λ i h. lone i h;
+}
+  where
+    one : (ds : List ℕ) (f : ℕ) → 1 ≤ f → x ∷ [] ≡ placeFast L H f (boxesFrom (o ∷ []) ds (c ∷ []) ns)
+    one ds zero h = absurd (omega arith)
+    one ds (suc f) h = rw (take-all c ns (omega (arith, r .columns .neighbours))) (ap (λ (y : ℤ). y ∷ []) q)
+
+    lone : (i : ℕ) → i < 1 → size (getD (x ∷ []) i (pos 0)) ≤ maxSize
+    lone zero h = rw q (small-one L H o ns (r .left) (r .right) (r .olds 0 (omega arith)) (r .nears))
+    lone (suc i) h = absurd (omega arith)
+placed-one L H (o ∷ []) (c ∷ []) ns (z ∷ z′ ∷ zs) x e r q = absurd (omega (arith, r .answer))
+placed-one L H (o ∷ []) (c ∷ c′ ∷ cs) ns zs x e r q = absurd (omega (arith, r .columns .boxes))
+placed-one L H (o ∷ o′ ∷ old) cs ns zs x e r q = absurd (omega arith)
+
+-- the two halves of a run that is cut after k boxes, which have n neighbours
+pub record Halved (k n : ℕ) (old : List ℤ) (cs : List ℕ) : Type 0 where
+  pub many : 1 < length old
+  pub half : k ≡ length old / 2
+  pub before : n ≡ sum (take k cs)
+
+module _ (L H : Limit) (k n : ℕ) (old : List ℤ) (cs : List ℕ) (ns zs : List ℤ) (v : Halved k n old cs) (r : Ready L H old cs ns zs) where
+  pub ready-left : Ready L H (take k old) (take k cs) (take n ns) (take k zs)
+  ready-left = record {
+    columns = rw (v .before) (columns-take k old cs ns (r .columns));
+    answer = omega (arith, length-take k zs, length-take k old, r .answer);
+    left = r .left;
+    right = r .right;
+    olds = sized-take maxSize k old (r .olds);
+    nears = sized-take maxSize n ns (r .nears);
+  }
+
+  pub ready-right : (ys : List ℤ) → length ys ≡ length old - k → Ready L H (drop k old) (drop k cs) (drop n ns) ys
+  ready-right ys e = record {
+    columns = rw (v .before) (columns-drop k old cs ns (r .columns));
+    answer = omega (arith, length-drop k old);
+    left = r .left;
+    right = r .right;
+    olds = sized-drop maxSize k old (r .olds);
+    nears = sized-drop maxSize n ns (r .nears);
+  }
+
+  module _ (xs ys : List ℤ) (ex : length xs ≡ k) (ey : length ys ≡ length old - k) (p : Placed L H (take k old) (take k cs) (take n ns) xs) (q : Placed L H (drop k old) (drop k cs) (drop n ns) ys) where
+    pub halves-cut : Cut k n (xs ++ ys) cs ns
+    halves-cut = let e = length-append xs ys in record {
+      columns = record { boxes = omega (arith, r .columns .boxes, v .half); neighbours = r .columns .neighbours; order = r .columns .order };
+      some = omega (arith, v .many, v .half);
+      others = omega (arith, v .many, v .half);
+      before = v .before;
+    }
+
+    pub halves-small : Small (xs ++ ys)
+    halves-small = sized-append maxSize xs ys (p .small) (q .small)
+
+    pub placed-more : Placed L H old cs ns (joined k n (xs ++ ys) cs ns)
+    placed-more = record { answer = λ ds f h. more-answer ds f h; small = small-joined k n (xs ++ ys) cs ns halves-cut halves-small }
+      where
+        more-answer : (ds : List ℕ) (f : ℕ) → length old ≤ f → joined k n (xs ++ ys) cs ns ≡ placeFast L H f (boxesFrom old ds cs ns)
+        more-answer ds zero h = absurd (omega (arith, v .many))
+        more-answer ds (suc f) h = let bs = boxesFrom old ds cs ns in let el = length-boxes old ds cs ns (r .columns .boxes) in
+            let C = boxesFrom (take k old) ds (take k cs) (take n ns) in let B = boxesFrom (drop k old) (drop k ds) (drop k cs) (drop n ns) in
+            let b = r .columns .boxes in let vh = v .half in let vm = v .many in
+            let ek : length bs / 2 ≡ k = ap (λ (i : ℕ). i / 2) el ∙ sym (v .half) in
+            let et : take k bs ≡ C = take-boxes k old ds cs ns ∙ ap (λ (i : ℕ). boxesFrom (take k old) ds (take k cs) (take i ns)) (sym (v .before)) in
+            let ed : drop k bs ≡ B = drop-boxes k old ds cs ns ∙ ap (λ (i : ℕ). boxesFrom (drop k old) (drop k ds) (drop k cs) (drop i ns)) (sym (v .before)) in
+            joined-is k n xs ys (take k old) (drop k old) ds (drop k ds) cs ns ex (omega (arith, length-take k old, length-take k cs)) (omega (arith, length-drop k old, length-drop k cs)) (omega arith) (omega arith)
+            ∙ ap (λ us. joinFast C B us ys) (p .answer ds f (omega (arith, length-take k old)))
+            ∙ ap (joinFast C B (placeFast L H f C)) (q .answer (drop k ds) f (omega (arith, length-drop k old)))
+            ∙ sym (rw (ek, et, ed) at (fast-many L H f bs (omega arith)))

@@ -1,0 +1,152 @@
+-- Laws of a run's columns: a half of them, and the counts of a half box by box. Assumes nothing.
+use mathlib.Core.Path.{_≡_, refl, sym, ap}
+use mathlib.Core.Bool.{Bool, true, false, cond}
+use mathlib.Core.List.{List, [], _∷_}
+use Prim.Native.Nat.{ℕ, zero, suc, _+_, _-_, _≤_, _<_}
+use native.Mathlib.Omega.{arith}
+use native.Mathlib.Numerals.{add-one}
+use lib.ListN.{length, take, drop, getD, length-take, length-drop, drop-of-length-le}
+use lib.Seq.{drop-cons, drop-drop, take-take, take-nil}
+use native.Mathlib.Nat.{zero-add, suc-add}
+use lib.IntN.{ℤ, pos}
+use Rattle.run.specs.Run.{nondecreasing}
+use Rattle.run.proofs.Sorted.{and-left, and-right, and-make, countUpTo, count-bound}
+use Rattle.ints.specs.Lists.{sum}
+use Rattle.place_run.specs.Columns.{partsInOrder, Columns, Cut, counted, upTo, beyond}
+
+-- ---- the first box, and the columns of the others
+pub record First (c : ℕ) (zs : List ℤ) (cs : List ℕ) (ns : List ℤ) : Type 0 where
+  pub fits : c ≤ length ns
+  pub order : nondecreasing (take c ns) ≡ true
+  pub others : Columns zs cs (drop c ns)
+
+pub first-box : {z : ℤ} {c : ℕ} {zs : List ℤ} {cs : List ℕ} {ns : List ℤ} → Columns (z ∷ zs) (c ∷ cs) ns → First c zs cs ns
+unfolding partsInOrder sum
+first-box {c = c} {cs = cs} {ns = ns} q = let e = q .neighbours in record {
+  fits = omega arith;
+  order = and-left _ _ (q .order);
+  others = record {
+    boxes = omega (arith, q .boxes);
+    neighbours = omega (arith, length-drop c ns);
+    order = and-right (nondecreasing (take c ns)) _ (q .order);
+  };
+}
+
+-- ---- the counts of a half, after i of its boxes, which have a neighbours
+pub record Counting (left : Bool) (zs : List ℤ) (cs : List ℕ) (ns : List ℤ) (m : ℤ) (u v a i : ℕ) : Type 0 where
+  pub rest : Columns (drop i zs) (drop i cs) (drop a ns)
+  pub within : a ≤ length ns
+  pub sizes : u + v ≤ a
+  pub ups : u + upTo left (drop i zs) (drop i cs) (drop a ns) m ≡ upTo left zs cs ns m
+  pub beyonds : v + beyond left (drop i zs) (drop i cs) (drop a ns) m ≡ beyond left zs cs ns m
+
+-- what the next box adds
+abbrev pub boxUpTo : Bool → ℤ → List ℤ → ℤ → ℕ
+boxUpTo left z ns m = cond (counted left z m) (countUpTo m ns) 0
+
+abbrev pub boxBeyond : Bool → ℤ → List ℤ → ℤ → ℕ
+boxBeyond left z ns m = cond (counted left z m) (length ns - countUpTo m ns) 0
+
+pub box-sizes : (left : Bool) (z : ℤ) (ns : List ℤ) (m : ℤ) → boxUpTo left z ns m + boxBeyond left z ns m ≤ length ns
+box-sizes left z ns m = let h = count-bound m ns in go (counted left z m)
+  where
+    go : (t : Bool) → cond t (countUpTo m ns) 0 + cond t (length ns - countUpTo m ns) 0 ≤ length ns
+    go true = omega (arith, count-bound m ns)
+    go false = omega arith
+
+pub counting-start : (left : Bool) (zs : List ℤ) (cs : List ℕ) (ns : List ℤ) (m : ℤ) → Columns zs cs ns → Counting left zs cs ns m 0 0 0 0
+counting-start left zs cs ns m q = record { rest = q; within = omega arith; sizes = omega arith; ups = omega arith; beyonds = omega arith }
+
+module _ (left : Bool) (zs : List ℤ) (cs : List ℕ) (ns : List ℤ) (m : ℤ) (u v a i : ℕ) (h : i < length zs) (q : Counting left zs cs ns m u v a i) where
+  counted-index : i < length cs
+  counted-index = let e = q .rest .boxes in omega (arith, length-drop i zs, length-drop i cs)
+
+  pub next-first : First (getD cs i 0) (drop (i + 1) zs) (drop (i + 1) cs) (drop a ns)
+  next-first = let k = counted-index in let d = i + 1 in
+      let r : Columns (getD zs i (pos 0) ∷ drop (i + 1) zs) (getD cs i 0 ∷ drop (i + 1) cs) (drop a ns) = rw (add-one, ← drop-cons zs i (pos 0) h, ← drop-cons cs i 0 k) (q .rest) in
+      first-box r
+
+  next-up : upTo left (drop i zs) (drop i cs) (drop a ns) m ≡ boxUpTo left (getD zs i (pos 0)) (take (getD cs i 0) (drop a ns)) m + upTo left (drop (i + 1) zs) (drop (i + 1) cs) (drop (a + getD cs i 0) ns) m
+  unfolding upTo
+  next-up = let k = counted-index in rw (add-one, drop-cons zs i (pos 0) h, drop-cons cs i 0 k, drop-drop)
+
+  next-beyond : beyond left (drop i zs) (drop i cs) (drop a ns) m ≡ boxBeyond left (getD zs i (pos 0)) (take (getD cs i 0) (drop a ns)) m + beyond left (drop (i + 1) zs) (drop (i + 1) cs) (drop (a + getD cs i 0) ns) m
+  unfolding beyond
+  next-beyond = let k = counted-index in rw (add-one, drop-cons zs i (pos 0) h, drop-cons cs i 0 k, drop-drop)
+
+  pub counting-next : (s t : ℕ) → let ps = take (getD cs i 0) (drop a ns) in s ≡ boxUpTo left (getD zs i (pos 0)) ps m → t ≡ boxBeyond left (getD zs i (pos 0)) ps m
+      → Counting left zs cs ns m (u + s) (v + t) (a + getD cs i 0) (i + 1)
+  counting-next s t es et = let c = getD cs i 0 in let f = next-first in let ps = take c (drop a ns) in record {
+    rest = rw (← drop-drop c a ns) (f .others);
+    within = omega (arith, f .fits, length-drop a ns);
+    sizes = omega (arith, q .sizes, f .fits, length-take c (drop a ns), box-sizes left (getD zs i (pos 0)) ps m);
+    ups = omega (arith, next-up, q .ups);
+    beyonds = omega (arith, next-beyond, q .beyonds);
+  }
+
+-- after the last box nothing is left to count
+pub up-end : (left : Bool) (zs : List ℤ) (cs : List ℕ) (ns : List ℤ) (m : ℤ) (i : ℕ) → length zs ≤ i → upTo left (drop i zs) cs ns m ≡ 0
+unfolding upTo
+up-end left zs cs ns m i h = rw (drop-of-length-le zs h)
+
+pub beyond-end : (left : Bool) (zs : List ℤ) (cs : List ℕ) (ns : List ℤ) (m : ℤ) (i : ℕ) → length zs ≤ i → beyond left (drop i zs) cs ns m ≡ 0
+unfolding beyond
+beyond-end left zs cs ns m i h = rw (drop-of-length-le zs h)
+
+-- ---- sums of counts
+pub sum-next : (cs : List ℕ) (i : ℕ) → i < length cs → sum (drop i cs) ≡ getD cs i 0 + sum (drop (i + 1) cs)
+unfolding sum
+sum-next cs i h = rw (add-one, drop-cons cs i 0 h)
+
+pub sum-end : (cs : List ℕ) (i : ℕ) → length cs ≤ i → sum (drop i cs) ≡ 0
+unfolding sum
+sum-end cs i h = rw (drop-of-length-le cs h)
+
+-- ---- the columns of the first k boxes, and of the others
+pub sum-cut : (k : ℕ) (cs : List ℕ) → sum (take k cs) + sum (drop k cs) ≡ sum cs
+unfolding sum
+sum-cut zero cs = omega arith
+sum-cut (suc k) [] = refl
+sum-cut (suc k) (c ∷ cs) = omega (arith, sum-cut k cs)
+
+pub drop-take : (a b : ℕ) (ns : List ℤ) → drop a (take (a + b) ns) ≡ take b (drop a ns)
+drop-take zero b ns = ap (λ (k : ℕ). take k ns) (zero-add b)
+drop-take (suc a) b [] = rw (suc-add a b) (sym (take-nil b))
+drop-take (suc a) b (n ∷ ns) = rw (suc-add a b) (drop-take a b ns)
+
+order-take : (k : ℕ) (cs : List ℕ) (ns : List ℤ) → partsInOrder cs ns ≡ true → partsInOrder (take k cs) (take (sum (take k cs)) ns) ≡ true
+unfolding partsInOrder sum
+order-take zero cs ns e = refl
+order-take (suc k) [] ns e = refl
+order-take (suc k) (c ∷ cs) ns e = let s = sum (take k cs) in
+    rw (take-take c (c + s) ns (omega arith), drop-take c s ns)
+    (and-make {s = nondecreasing (take c ns)} (and-left (nondecreasing (take c ns)) _ e) (order-take k cs (drop c ns) (and-right (nondecreasing (take c ns)) _ e)))
+
+order-drop : (k : ℕ) (cs : List ℕ) (ns : List ℤ) → partsInOrder cs ns ≡ true → partsInOrder (drop k cs) (drop (sum (take k cs)) ns) ≡ true
+unfolding partsInOrder sum
+order-drop zero cs ns e = e
+order-drop (suc k) [] ns e = refl
+order-drop (suc k) (c ∷ cs) ns e = rw (← drop-drop (sum (take k cs)) c ns) (order-drop k cs (drop c ns) (and-right (nondecreasing (take c ns)) _ e))
+
+pub columns-take : (k : ℕ) (zs : List ℤ) (cs : List ℕ) (ns : List ℤ) → Columns zs cs ns → Columns (take k zs) (take k cs) (take (sum (take k cs)) ns)
+columns-take k zs cs ns q = record {
+  boxes = omega (arith, length-take k zs, length-take k cs, q .boxes);
+  neighbours = omega (arith, length-take (sum (take k cs)) ns, sum-cut k cs, q .neighbours);
+  order = order-take k cs ns (q .order);
+}
+
+pub columns-drop : (k : ℕ) (zs : List ℤ) (cs : List ℕ) (ns : List ℤ) → Columns zs cs ns → Columns (drop k zs) (drop k cs) (drop (sum (take k cs)) ns)
+columns-drop k zs cs ns q = record {
+  boxes = omega (arith, length-drop k zs, length-drop k cs, q .boxes);
+  neighbours = omega (arith, length-drop (sum (take k cs)) ns, sum-cut k cs, q .neighbours);
+  order = order-drop k cs ns (q .order);
+}
+
+pub cut-within : {k n : ℕ} {zs : List ℤ} {cs : List ℕ} {ns : List ℤ} → Cut k n zs cs ns → n ≤ length ns
+cut-within {k = k} {cs = cs} q = omega (arith, sum-cut k cs, q .columns .neighbours, q .before)
+
+pub cut-left : {k n : ℕ} {zs : List ℤ} {cs : List ℕ} {ns : List ℤ} → Cut k n zs cs ns → Columns (take k zs) (take k cs) (take n ns)
+cut-left {k = k} {zs = zs} {cs = cs} {ns = ns} q = rw (q .before) (columns-take k zs cs ns (q .columns))
+
+pub cut-right : {k n : ℕ} {zs : List ℤ} {cs : List ℕ} {ns : List ℤ} → Cut k n zs cs ns → Columns (drop k zs) (drop k cs) (drop n ns)
+cut-right {k = k} {zs = zs} {cs = cs} {ns = ns} q = rw (q .before) (columns-drop k zs cs ns (q .columns))

@@ -1,0 +1,9 @@
+pub mod Columns
+pub mod Fill
+pub mod Bisect
+pub mod Small
+pub mod ByHalves
+pub mod Offsets
+pub mod Taken
+pub mod RefusalLaws
+pub mod TakenLaws

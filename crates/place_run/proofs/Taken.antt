@@ -1,0 +1,178 @@
+-- What the tests of a run that is taken say of its columns, and the definition's outcome of it. Assumes nothing.
+use mathlib.Core.Path.{_≡_, refl, sym, _∙_, ap}
+use mathlib.Core.Bool.{Bool, true, _&&_}
+use mathlib.Core.List.{List, [], _∷_}
+use Prim.Native.Nat.{ℕ, zero, suc, _+_, _-_, _*_, _≤_, _<_}
+use native.Mathlib.Omega.{arith}
+use lib.Dec.{leb, eqb}
+use borrow.Author.Tests.{leb-true, eqb-true}
+use lib.ListN.{length, take, drop, getD, length-drop}
+use lib.IntN.{ℤ, pos, negsuc}
+use Rattle.ints.specs.Ints.{size}
+use Rattle.ints.proofs.Laws.{sum as sum-of, dif}
+use Rattle.run.specs.Run.{Bound as Limit, nondecreasing, neighboursInOrder, span}
+use Rattle.run.specs.Place.{placeRun, placeBoxes}
+use Rattle.run.specs.Words.{isPossible}
+use Rattle.run.proofs.Sorted.{and-left, and-right}
+use Rattle.run.proofs.Coordinates.{leftLimit, rightLimit}
+use Rattle.run.proofs.Fast.{fast-run}
+use Rattle.place_run.specs.declared.types.Bound.{Bound}
+use Rattle.place_run.specs.declared.types.Bound.the-variants.{Free, At}
+use Rattle.ints.specs.Lists.{sum}
+use Rattle.place_run.specs.Call.{limitOf, memberOf, positionsOf, leftDistance, otherDistances, boxesFrom, maxBoxes, maxNeighbours, isSmall, isFitting, reach, isWithin, allWithin, isDistance, allDistances, isInReach, isSound, isTaken, placedOf}
+use Rattle.place_run.specs.Columns.{partsInOrder, Columns}
+use Rattle.place_run.specs.Halves.{SmallLimit}
+use Rattle.place_run.specs.Offsets.{Near, maxOffset, Fits, placedBetween, requestOf}
+use Rattle.place_run.proofs.Columns.{sum-cut}
+use Rattle.place_run.proofs.Offsets.{sum-step, span-is}
+
+-- ---- the tests
+within-size : (x : ℤ) → isWithin x ≡ true → size x ≤ reach
+within-size (pos n) e = omega (arith, leb-true n reach e)
+within-size (negsuc n) e = omega (arith, leb-true (suc n) reach e)
+
+all-near : (xs : List ℤ) → allWithin xs ≡ true → Near xs
+unfolding allWithin
+all-near [] e i h = absurd (omega arith)
+all-near (x ∷ xs) e zero h = within-size x (and-left _ _ e)
+all-near (x ∷ xs) e (suc i) h = all-near xs (and-right (isWithin x) _ e) i (omega arith)
+
+sum-bound : (ds : List ℕ) → allDistances ds ≡ true → sum ds ≤ length ds * (2 * reach)
+unfolding allDistances sum
+sum-bound [] e = omega arith
+sum-bound (d ∷ ds) e = let h = leb-true d (2 * reach) (and-right (leb 1 d) _ (and-left (isDistance d) _ e)) in
+    omega (arith, sum-bound ds (and-right (isDistance d) _ e))
+
+order-is : (os : List ℤ) (ds cs : List ℕ) (ns : List ℤ) → length os ≡ length cs → neighboursInOrder (boxesFrom os ds cs ns) ≡ partsInOrder cs ns
+unfolding boxesFrom neighboursInOrder partsInOrder
+order-is [] ds [] ns e = refl
+order-is [] ds (c ∷ cs) ns e = absurd (omega arith)
+order-is (o ∷ os) ds [] ns e = absurd (omega arith)
+order-is (o ∷ os) ds (c ∷ cs) ns e = ap (λ (t : Bool). nondecreasing (take c ns) && t) (order-is os (drop 1 ds) cs (drop c ns) (omega arith))
+
+pub others-is : (l : Bound) (ds : List ℕ) → otherDistances l ds ≡ drop (memberOf l) ds
+others-is Free ds = refl
+others-is (At x) ds = refl
+
+-- ---- a run that is taken
+pub record Taken (l r : Bound) (old : List ℤ) (ds cs : List ℕ) (ns zs : List ℤ) : Type 0 where
+  pub boxes : length old ≤ maxBoxes
+  pub neighbours : length ns ≤ maxNeighbours
+  pub answer : length zs ≡ length old
+  pub columns : Columns old cs ns
+  pub distances : length ds ≡ memberOf l + length old + memberOf r - 1
+  pub left : Near (positionsOf l)
+  pub right : Near (positionsOf r)
+  pub olds : Near old
+  pub nears : Near ns
+  pub offsets : sum ds ≤ length ds * (2 * reach)
+  pub order : neighboursInOrder (boxesFrom old (otherDistances l ds) cs ns) ≡ true
+  pub possible : isPossible (limitOf l) (leftDistance l ds) (boxesFrom old (otherDistances l ds) cs ns) (limitOf r) ≡ true
+
+pub taken : (l r : Bound) (old : List ℤ) (ds cs : List ℕ) (ns zs : List ℤ) → isTaken (requestOf l r old ds cs ns) zs ≡ true → Taken l r old ds cs ns zs
+unfolding isTaken
+taken l r old ds cs ns zs e =
+    let q = requestOf l r old ds cs ns in
+    let e3 : isSmall q && isFitting q zs && isInReach q ≡ true = and-left _ (isSound q) e in
+    let so : isSound q ≡ true = and-right (isSmall q && isFitting q zs && isInReach q) _ e in
+    let e2 : isSmall q && isFitting q zs ≡ true = and-left _ (isInReach q) e3 in
+    let re : isInReach q ≡ true = and-right (isSmall q && isFitting q zs) _ e3 in
+    let sm : isSmall q ≡ true = and-left _ (isFitting q zs) e2 in
+    let fi : isFitting q zs ≡ true = and-right (isSmall q) _ e2 in
+    let f1 = eqb (length zs) (length old) in let f2 = eqb (length old) (length old) in let f3 = eqb (length cs) (length old) in
+    let f4 = eqb (length ns) (sum cs) in let f5 = eqb (length ds) (memberOf l + length old + memberOf r - 1) in
+    let g4 : f1 && f2 && f3 && f4 ≡ true = and-left _ f5 fi in
+    let g3 : f1 && f2 && f3 ≡ true = and-left _ f4 g4 in
+    let g2 : f1 && f2 ≡ true = and-left _ f3 g3 in
+    let h1 = allWithin (positionsOf l) in let h2 = allWithin (positionsOf r) in let h3 = allWithin old in let h4 = allWithin ns in let h5 = allDistances ds in
+    let k4 : h1 && h2 && h3 && h4 ≡ true = and-left _ h5 re in
+    let k3 : h1 && h2 && h3 ≡ true = and-left _ h4 k4 in
+    let k2 : h1 && h2 ≡ true = and-left _ h3 k3 in
+    let en : length ns ≡ sum cs = eqb-true (length ns) (sum cs) (and-right (f1 && f2 && f3) f4 g4) in
+    let ec : length cs ≡ length old = eqb-true (length cs) (length old) (and-right (f1 && f2) f3 g3) in
+    let bs = boxesFrom old (otherDistances l ds) cs ns in
+    let po = isPossible (limitOf l) (leftDistance l ds) bs (limitOf r) in
+    let or : neighboursInOrder bs ≡ true = and-left (neighboursInOrder bs) po so in record {
+      boxes = leb-true (length old) maxBoxes (and-left _ (leb (sum cs) maxNeighbours) sm);
+      neighbours = omega (arith, en, leb-true (sum cs) maxNeighbours (and-right (leb (length old) maxBoxes) _ sm));
+      answer = eqb-true (length zs) (length old) (and-left f1 f2 g2);
+      columns = record { boxes = sym ec; neighbours = en; order = sym (order-is old (otherDistances l ds) cs ns (sym ec)) ∙ or };
+      distances = eqb-true (length ds) (memberOf l + length old + memberOf r - 1) (and-right (f1 && f2 && f3 && f4) f5 fi);
+      left = all-near (positionsOf l) (and-left h1 h2 k2);
+      right = all-near (positionsOf r) (and-right h1 h2 k2);
+      olds = all-near old (and-right (h1 && h2) h3 k3);
+      nears = all-near ns (and-right (h1 && h2 && h3) h4 k4);
+      offsets = sum-bound ds (and-right (h1 && h2 && h3 && h4) h5 re);
+      order = or;
+      possible = and-right (neighboursInOrder bs) po so;
+    }
+
+-- ---- its limits and offsets are small
+pub member-at-most : (l : Bound) → memberOf l ≤ 1
+member-at-most Free = omega arith
+member-at-most (At x) = omega arith
+
+pub near-limit : (l : Bound) → Near (positionsOf l) → SmallLimit (limitOf l)
+near-limit Free q = tt
+near-limit (At x) q = let h : size x ≤ reach = q 0 (omega arith) in omega arith
+
+small-left : (l : Bound) (d : ℕ) → Near (positionsOf l) → d ≤ maxOffset → SmallLimit (leftLimit (limitOf l) d)
+small-left Free d q h = tt
+small-left (At x) d q h = let k : size x ≤ reach = q 0 (omega arith) in omega (arith, sum-of x (pos d))
+
+small-right : (r : Bound) (d : ℕ) → Near (positionsOf r) → d ≤ maxOffset → SmallLimit (rightLimit (limitOf r) d)
+small-right Free d q h = tt
+small-right (At x) d q h = let k : size x ≤ reach = q 0 (omega arith) in omega (arith, dif x (pos d))
+
+module _ (l r : Bound) (old : List ℤ) (ds cs : List ℕ) (ns zs : List ℤ) (t : Taken l r old ds cs ns zs) where
+  sum-small : sum ds ≤ maxOffset
+  sum-small = omega (arith, t .offsets, t .distances, t .boxes, member-at-most l, member-at-most r)
+
+  pub steps-small : sum (drop (memberOf l) ds) ≤ maxOffset
+  steps-small = omega (arith, sum-small, sum-cut (memberOf l) ds)
+
+  pub first-small : getD ds 0 0 ≤ maxOffset
+  first-small = omega (arith, sum-small, sum-step ds 0)
+
+  left-small : leftDistance l ds ≤ maxOffset
+  left-small = go l
+    where
+      go : (l : Bound) → leftDistance l ds ≤ maxOffset
+      go Free = omega arith
+      go (At x) = first-small
+
+  -- with a box, every left bound has a distance, and no box lacks one but the last
+  pub members-within : 0 < length old → memberOf l ≤ length ds
+  members-within h = omega (arith, t .distances, member-at-most l, member-at-most r)
+
+  pub fits-between : 0 < length old → (L H : Limit) → L ≡ leftLimit (limitOf l) (leftDistance l ds) → H ≡ rightLimit (limitOf r) (sum (drop (memberOf l) ds))
+      → Fits L H (drop (memberOf l) ds) old cs ns zs
+  fits-between h L H eL eH = record {
+    columns = t .columns;
+    answer = t .answer;
+    left = rw eL (small-left l (leftDistance l ds) (t .left) left-small);
+    right = rw eH (small-right r (sum (drop (memberOf l) ds)) (t .right) steps-small);
+    olds = t .olds;
+    nears = t .nears;
+    offsets = steps-small;
+  }
+
+  pub between-is : 0 < length old → placedBetween (leftLimit (limitOf l) (leftDistance l ds)) (rightLimit (limitOf r) (sum (drop (memberOf l) ds))) (boxesFrom old (drop (memberOf l) ds) cs ns)
+      ≡ placedOf (requestOf l r old ds cs ns)
+  unfolding placedOf
+  between-is h = let bs = boxesFrom old (otherDistances l ds) cs ns in let L = leftLimit (limitOf l) (leftDistance l ds) in
+      let e = others-is l ds in let c = t .columns .boxes in let d = t .distances in
+      let k : length (drop (memberOf l) ds) ≤ length old = omega (arith, length-drop (memberOf l) ds, member-at-most l, member-at-most r) in
+      let s : span bs ≡ sum (drop (memberOf l) ds) = ap (λ es. span (boxesFrom old es cs ns)) e ∙ span-is old (drop (memberOf l) ds) cs ns c k in
+      sym (fast-run (limitOf l) (leftDistance l ds) bs (limitOf r) (t .order) (t .possible)
+      ∙ ap (λ (w : ℕ). placedBetween L (rightLimit (limitOf r) w) bs) s
+      ∙ ap (λ es. placedBetween L (rightLimit (limitOf r) (sum (drop (memberOf l) ds))) (boxesFrom old es cs ns)) e)
+
+  pub none-is : length old ≡ 0 → zs ≡ placedOf (requestOf l r old ds cs ns)
+  unfolding placedOf placeRun placeBoxes boxesFrom
+  none-is e = go old zs e (t .answer)
+    where
+      go : (os xs : List ℤ) → length os ≡ 0 → length xs ≡ length os → xs ≡ placedOf (requestOf l r os ds cs ns)
+      go [] [] e f = refl
+      go [] (x ∷ xs) e f = absurd (omega arith)
+      go (o ∷ os) xs e f = absurd (omega arith)

@@ -1,0 +1,4 @@
+pub mod Call
+pub mod Columns
+pub mod Halves
+pub mod Offsets

@@ -1,0 +1,54 @@
+-- Between positions and run coordinates, by columns: the sum o of the distances before a box is taken from its positions, and
+-- put back. ds are the distances from each box to the next member.
+use mathlib.Core.Path.{_≡_}
+use mathlib.Core.List.{List, [], _∷_, _++_, map}
+use Prim.Native.Nat.{ℕ, _+_, _≤_, _^_}
+use lib.ListN.{length, take, drop, getD}
+use lib.IntN.{ℤ, pos, _+ℤ_}
+use Rattle.run.specs.Run.{Bound as Limit, Box}
+use Rattle.run.proofs.Sorted.{less}
+use Rattle.run.proofs.Coordinates.{inRun, addOffsets}
+use Rattle.run.proofs.Fast.{placeFast}
+use Rattle.place_run.specs.declared.types.Bound.{Bound}
+use Rattle.ints.specs.Lists.{sum}
+use Rattle.place_run.specs.Call.{Request, reach}
+use Rattle.place_run.specs.Columns.{Columns, Sized}
+use Rattle.place_run.specs.Halves.{SmallLimit}
+
+unfoldable pub lessOffsets : ℕ → List ℕ → List ℤ → List ℤ
+lessOffsets o ds [] = []
+lessOffsets o ds (x ∷ xs) = less o x ∷ lessOffsets (o + getD ds 0 0) (drop 1 ds) xs
+
+-- of all neighbours, those of a box by its offset
+unfoldable pub lessNear : ℕ → List ℕ → List ℕ → List ℤ → List ℤ
+lessNear o ds [] ns = []
+lessNear o ds (c ∷ cs) ns = map (less o) (take c ns) ++ lessNear (o + getD ds 0 0) (drop 1 ds) cs (drop c ns)
+
+unfoldable pub plusOffsets : ℕ → List ℕ → List ℤ → List ℤ
+plusOffsets o ds [] = []
+plusOffsets o ds (z ∷ zs) = (z +ℤ pos o) ∷ plusOffsets (o + getD ds 0 0) (drop 1 ds) zs
+
+-- "within ±2^40", and the sum of all distances of a run: at most 65 of at most 2^41
+abbrev pub Near : List ℤ → Type 0
+Near xs = Sized reach xs
+
+abbrev pub maxOffset : ℕ
+maxOffset = 2 ^ 48
+
+-- What placing between limits asks.
+pub record Fits (L H : Limit) (ds : List ℕ) (old : List ℤ) (cs : List ℕ) (ns zs : List ℤ) : Type 0 where
+  pub columns : Columns old cs ns
+  pub answer : length zs ≡ length old
+  pub left : SmallLimit L
+  pub right : SmallLimit H
+  pub olds : Near old
+  pub nears : Near ns
+  pub offsets : sum ds ≤ maxOffset
+
+-- Boxes placed between two limits: into run coordinates, by halves, and back.
+abbrev pub placedBetween : Limit → Limit → List Box → List ℤ
+placedBetween L H bs = addOffsets 0 bs (placeFast L H (length bs) (inRun 0 bs))
+
+-- The run of a call: as many boxes as old positions.
+abbrev pub requestOf : Bound → Bound → List ℤ → List ℕ → List ℕ → List ℤ → Request
+requestOf l r old ds cs ns = record { boxes = length old; left = l; right = r; old = old; distances = ds; counts = cs; neighbours = ns }

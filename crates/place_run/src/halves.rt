@@ -1,0 +1,103 @@
+// Placing a run by halves, in run coordinates: the bounds are the same limits for every box, and no distance is left.
+use crate::meet::join;
+use crate::types::Bound;
+use ints::greater;
+use ints::lesser;
+ghost use mathlib.Core.Path.{_≡_};
+ghost use Prim.Native.Nat.{_<_, _^_};
+ghost use Rattle.run.specs.Run.{startOf};
+ghost use Rattle.run.proofs.PlaceBest.{clampLow, clampHigh, clamp};
+ghost use Rattle.ints.specs.Lists.{sum};
+ghost use Rattle.place_run.specs.Call.{limitOf};
+ghost use Rattle.place_run.specs.Halves.{Ready, Placed};
+
+// Where a lone box starts: the middle one of its neighbours, the left one of two, or its old position if it has none.
+fn start(old: i64, near: &[i64]) -> i64
+    ensures { λ r. ⌜ r ≡ startOf old (now (near .entry)) ⌝ }
+{
+    if near.len() == 0 {
+        old
+    } else {
+        near[(near.len() - 1) / 2]
+    }
+}
+
+fn raised(left: Bound, x: i64) -> i64
+    ensures { λ r. ⌜ r ≡ clampLow (limitOf left) x ⌝ }
+{
+    match left {
+        Bound::Free => x,
+        Bound::At(l) => greater(x, l),
+    }
+}
+
+fn lowered(right: Bound, x: i64) -> i64
+    ensures { λ r. ⌜ r ≡ clampHigh (limitOf right) x ⌝ }
+{
+    match right {
+        Bound::Free => x,
+        Bound::At(h) => lesser(x, h),
+    }
+}
+
+// One box: from its start raised to the left limit, then lowered to the right one.
+fn place_one(left: Bound, right: Bound, old: i64, near: &[i64]) -> i64
+    ensures { λ r. ⌜ r ≡ clamp (limitOf left) (limitOf right) (startOf old (now (near .entry))) ⌝ }
+{
+    lowered(right, raised(left, start(old, near)))
+}
+
+pub fn total(counts: &[u64]) -> usize
+    requires { ⌜ sum (now counts) < 2 ^ 64 ⌝ }
+    ensures { λ r. ⌜ r ≡ sum (now (counts .entry)) ⌝ }
+{
+    let mut s: usize = 0;
+    let mut i: usize = 0;
+    while i < counts.len() {
+        s += counts[i] as usize;
+        i += 1;
+    }
+    s
+}
+
+// "The run is cut after its first ⌊r/2⌋ boxes. Each half is placed so", then the halves are joined.
+pub fn place_halves(
+    left: Bound,
+    right: Bound,
+    old: &[i64],
+    counts: &[u64],
+    near: &[i64],
+    z: &mut [i64],
+)
+    requires { ⌜ Ready (limitOf left) (limitOf right) (now old) (now counts) (now near) (now z) ⌝ }
+    ensures { λ _. ⌜ Placed (limitOf left) (limitOf right) (now (old .entry)) (now (counts .entry)) (now (near .entry)) (now (z .exit)) ⌝ }
+{
+    let r = old.len();
+    if r == 0 {
+        return;
+    }
+    if r == 1 {
+        let x = place_one(left, right, old[0], near);
+        z[0] = x;
+        return;
+    }
+    let k = r / 2;
+    let n = total(&counts[..k]);
+    place_halves(
+        left,
+        right,
+        &old[..k],
+        &counts[..k],
+        &near[..n],
+        &mut z[..k],
+    );
+    place_halves(
+        left,
+        right,
+        &old[k..],
+        &counts[k..],
+        &near[n..],
+        &mut z[k..],
+    );
+    join(k, n, counts, near, z);
+}
