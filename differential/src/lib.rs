@@ -1,0 +1,3 @@
+//! The proved libraries behind safe wrappers.
+
+pub mod proved;
