@@ -1,0 +1,35 @@
+-- `requests` is safe and ends: it stops where the position does not rise, so what is left of the text falls.
+use Prim.Native.Nat.{_-_}
+use lib.ListN.{length}
+use borrow.Author.Needs.{needs}
+use Rattle.run_vectors.proofs.requests.Statement.{statement}
+use Rattle.run_vectors.proofs.requests.Tie as tie
+
+abbrev Inv-loop : tie.InvT-loop
+Inv-loop text at₀ at = Unit {0}
+
+abbrev μ-loop : tie.MeasureT-loop
+μ-loop text at₀ at = length text - at
+
+loop-holds : tie.Need-loop-holds Inv-loop μ-loop
+loop-holds c = search needs
+
+request-requires : tie.Need-request-requires Inv-loop μ-loop
+request-requires c κs = search needs
+
+returns : tie.Need-returns Inv-loop μ-loop
+returns c = search needs
+
+loop-less : tie.Need-loop-less Inv-loop μ-loop
+loop-less c = search needs
+
+loop-again : tie.Need-loop-again Inv-loop μ-loop
+loop-again c = search needs
+
+returns-2 : tie.Need-returns-2 Inv-loop μ-loop
+returns-2 c = search needs
+
+pub requests-spec : {M : Type 1} → statement M
+requests-spec =
+    tie.close
+    (tie.spec Inv-loop μ-loop loop-holds request-requires returns loop-less loop-again returns-2)

@@ -1,0 +1,114 @@
+-- A plan as it was read is stored with the very data of the reading, so its text is the reading's.
+use mathlib.Core.Path.{_≡_, refl, sym, _∙_, ap}
+use mathlib.Core.Bool.{true, false}
+use mathlib.Core.List.{List, [], _∷_, _++_}
+use Prim.Native.Nat.{ℕ, _≤_, _<_, _^_}
+use native.Mathlib.Omega.{arith}
+use borrow.Author.Tests.{leb-true}
+use lib.Dec.{leb}
+use lib.ListN.{length, take, drop, replicate, length-append}
+use lib.Seq.{take-at}
+use Rattle.ints.specs.Lists.{over}
+use Rattle.plan.specs.Plan.{PlanData}
+use Rattle.plan.specs.Limits.{maxLevels, maxVertices, maxSegments}
+use Rattle.plan.specs.Stored.{planData}
+use Rattle.plan.specs.Acceptable.{acceptable}
+use Rattle.plan.specs.declared.data.Plan.{Plan}
+use Rattle.text.specs.Decimal.{decimal}
+use Rattle.text.specs.Reading.{Reading, accepted, refused, reading}
+use Rattle.text.specs.Writing.{textOf, isPlanOfText}
+use Rattle.text.specs.Answer.{planOf, answerOf}
+use Rattle.text.specs.declared.Answer.the-variants.{Accepted, Refused}
+use Rattle.text.specs.declared.ReadText.{ReadText}
+use Rattle.text.proofs.TestLaws.{conj-at}
+use Rattle.text.proofs.DecimalLaws.{decimal-length}
+use Rattle.text.proofs.PlanLimits.{Limits}
+use Rattle.text.proofs.PlanOfText.{plan-of-text, acceptable-of, read-acceptable}
+use Rattle.writing.specs.Data.{isStoredPlan}
+use Rattle.writing.specs.Again.{refusedLine, writtenAgain}
+use Rattle.writing.proofs.Limits.{within-most, stored-is}
+use Rattle.writing.proofs.LineLaws.{halves-long}
+
+-- ---- a stored plan that is that of a text
+pub record StoredPlan (p : Plan) (v e : ℕ) : Type 0 where
+  pub levels : p .levels ≤ maxLevels
+  pub vertices : v ≤ maxVertices
+  pub segments : e ≤ maxSegments
+  pub plan : acceptable (planData p v e) ≡ true
+
+pub stored-of : (p : Plan) (v e : ℕ) → isStoredPlan p v e ≡ true → StoredPlan p v e
+unfolding isStoredPlan
+stored-of p v e h =
+    let test = conj-at (leb v maxVertices) (leb e maxSegments ∷ isPlanOfText (planData p v e) ∷ []) h in
+    let a : acceptable (planData p v e) ≡ true = sym (plan-of-text (planData p v e)) ∙ test 2 in
+    record {
+      levels = within-most 1 maxLevels (p .levels) (acceptable-of (planData p v e) a .limits .levels);
+      vertices = leb-true v maxVertices (test 0);
+      segments = leb-true e maxSegments (test 1);
+      plan = a;
+    }
+
+-- ---- what was read
+front : {A : Type 0} (xs o : List A) (n : ℕ) → length xs ≡ n → take n (over xs o) ≡ xs
+front xs o n e = take-at xs (drop (length xs) o) n e
+
+stored-data : (p : PlanData) → Limits p → planData (planOf p) (length (p .vias)) (length (p .uppers)) ≡ p
+unfolding planOf
+stored-data p l =
+    let s = front (p .sizes) (replicate maxLevels 0) (p .levels) (l .counted) in
+    let v = front (p .vias) (replicate maxVertices false) (length (p .vias)) refl in
+    let h = front (p .halves) (replicate maxVertices 0) (length (p .vias)) (halves-long (p .vias) (p .halves) (l .halves)) in
+    let a = front (p .uppers) (replicate maxSegments 0) (length (p .uppers)) refl in
+    let b = front (p .lowers) (replicate maxSegments 0) (length (p .uppers)) (l .ends) in
+    rw (s, v, h, a, b)
+
+-- a plan that was read, and its text
+pub record Again (s : List ℕ) (p : Plan) (v e : ℕ) : Type 0 where
+  pub stored : isStoredPlan p v e ≡ true
+  pub text : writtenAgain (reading s) ≡ textOf (planData p v e)
+
+plan-again : (s : List ℕ) (p : PlanData) → reading s ≡ accepted p → Again s (planOf p) (length (p .vias)) (length (p .uppers))
+unfolding writtenAgain
+plan-again s p e =
+    let a = read-acceptable s p e in
+    let l = acceptable-of p a .limits in
+    let same = stored-data p l in
+    record {
+      stored = stored-is (planOf p) (length (p .vias)) (length (p .uppers)) (l .vertices) (l .segments) ∙ ap acceptable same ∙ a;
+      text = ap writtenAgain e ∙ ap textOf (sym same);
+    }
+
+pub again-accepted : (s : List ℕ) (r : ReadText) (v e : ℕ) → r ≡ answerOf (reading s) → r .answer ≡ Accepted v e → Again s (r .plan) v e
+unfolding answerOf
+again-accepted s r v e q a = go (reading s) refl
+  where
+    go : (g : Reading) → reading s ≡ g → Again s (r .plan) v e
+    go (accepted p) h =
+        let whole : r ≡ answerOf (accepted p) = q ∙ ap answerOf h in
+        let told : Accepted v e ≡ Accepted (length (p .vias)) (length (p .uppers)) = sym a ∙ ap (λ (x : ReadText). x .answer) whole in
+        let plan : planOf p ≡ r .plan = sym (ap (λ (x : ReadText). x .plan) whole) in
+        let vs : length (p .vias) ≡ v = cc told in
+        let es : length (p .uppers) ≡ e = cc told in
+        rw (plan, vs, es) at (plan-again s p h)
+    go (refused n) h =
+        let told : Accepted v e ≡ Refused n = sym a ∙ ap (λ (x : ReadText). x .answer) (q ∙ ap answerOf h) in
+        let z : _≡_ {A = ℕ} 0 1 = cc told in
+        absurd (omega arith)
+
+pub again-refused : (s : List ℕ) (r : ReadText) (n : ℕ) → r ≡ answerOf (reading s) → r .answer ≡ Refused n → writtenAgain (reading s) ≡ refusedLine n
+unfolding answerOf writtenAgain
+again-refused s r n q a = go (reading s) refl
+  where
+    go : (g : Reading) → reading s ≡ g → writtenAgain (reading s) ≡ refusedLine n
+    go (accepted p) h =
+        let told : Refused n ≡ Accepted (length (p .vias)) (length (p .uppers)) = sym a ∙ ap (λ (x : ReadText). x .answer) (q ∙ ap answerOf h) in
+        let z : _≡_ {A = ℕ} 0 1 = cc told in
+        absurd (omega arith)
+    go (refused m) h =
+        let told : Refused n ≡ Refused m = sym a ∙ ap (λ (x : ReadText). x .answer) (q ∙ ap answerOf h) in
+        let same : m ≡ n = cc told in
+        ap writtenAgain h ∙ ap refusedLine same
+
+pub refused-short : (n : ℕ) → n < 2 ^ 32 → length (refusedLine n) ≤ 21
+unfolding refusedLine
+refused-short n h = let d = decimal-length 9 n (omega arith) in simp length-append (omega arith)

@@ -1,0 +1,5 @@
+pub mod Written
+pub mod Walks
+pub mod Limits
+pub mod LineLaws
+pub mod AgainLaws

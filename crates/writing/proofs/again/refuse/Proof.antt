@@ -1,0 +1,47 @@
+use Rattle.writing.proofs.AgainLaws.{refused-short}
+use Rattle.writing.proofs.Written.{room-after, wrote-long, and-then, and-both, front-of}
+use Rattle.writing.specs.Again.{refusedLine}
+use Rattle.text.specs.Decimal.{decimal}
+use Rattle.text.specs.Bytes.{bytes}
+use lib.ListN.{length-append}
+use mathlib.Core.List.{_++_}
+use native.Mathlib.Omega.{arith}
+use mathlib.Core.Path.{_≡_, refl, sym, _∙_}
+use borrow.Author.Needs.{needs}
+use Rattle.writing.proofs.again.refuse.Statement.{statement}
+use Rattle.writing.proofs.again.refuse.Tie as tie
+use Rattle.writing.proofs.again.refuse.Reads as reads
+use Rattle.writing.proofs.again.refuse.Lts as lts
+use Rattle.writing.proofs.number.put_then.Reads as put-then-reads
+use Rattle.writing.proofs.number.put_word.Reads as put-word-reads
+
+slice-aggregate-put-word : tie.Need-slice-aggregate-put-word
+slice-aggregate-put-word c = refl
+
+put-word-requires : tie.Need-put-word-requires
+put-word-requires c κs = search needs
+
+slice-aggregate-put-then : tie.Need-slice-aggregate-put-then
+slice-aggregate-put-then c = refl
+
+put-then-requires : tie.Need-put-then-requires
+unfolding refusedLine
+put-then-requires c κs = room-after (decimal (c .before .before .before .before .before .before .before .before .args .n) ++ bytes ")\n") (refusedLine (c .before .before .before .before .before .before .before .before .args .n)) (c .before .before .before .before .put-word .ensures) (omega (arith, refused-short (c .before .before .before .before .before .before .before .before .args .n) (omega (arith, c .before .before .before .before .before .before .before .before .fits .n)), c .before .before .before .before .before .before .before .before .pre)) (simp length-append (omega arith))
+
+same-length : tie.Need-same-length
+same-length c = wrote-long (and-then (c .before .before .before .before .before .before .before .put-word .ensures) (c .before .before .put-then .ensures))
+
+returns : tie.Need-returns
+unfolding refusedLine
+returns c = front-of (and-both (decimal (c .before .before .before .before .before .before .before .before .before .before .before .args .n)) (bytes ")\n") (c .before .before .before .before .before .before .before .put-word .ensures) (c .before .before .put-then .ensures)) (omega (arith, refused-short (c .before .before .before .before .before .before .before .before .before .before .before .args .n) (omega (arith, c .before .before .before .before .before .before .before .before .before .before .before .fits .n)), c .before .before .before .before .before .before .before .before .before .before .before .pre))
+
+pub refuse-spec : {M : Type 1} → statement M
+refuse-spec =
+    tie.close
+    (tie.spec
+    slice-aggregate-put-word
+    put-word-requires
+    slice-aggregate-put-then
+    put-then-requires
+    same-length
+    returns)

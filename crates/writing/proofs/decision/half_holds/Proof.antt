@@ -1,0 +1,18 @@
+use borrow.Author.Tests.{le-leb, lt-leb}
+use borrow.Author.Needs.{needs}
+use Rattle.writing.proofs.decision.half_holds.Statement.{statement}
+use Rattle.writing.proofs.decision.half_holds.Tie as tie
+use Rattle.writing.proofs.decision.half_holds.Reads as reads
+use Rattle.writing.proofs.decision.half_holds.Lts as lts
+
+returns : tie.Need-returns
+returns c = rw (c .if1 .taken)
+
+returns-2 : tie.Need-returns-2
+returns-2 c = rw (c .before .if1 .left, le-leb _ _ (c .if2 .taken))
+
+returns-3 : tie.Need-returns-3
+returns-3 c = rw (c .before .if1 .left, lt-leb _ _ (c .if2 .left))
+
+pub half-holds-spec : {M : Type 1} → statement M
+half-holds-spec = tie.close (tie.spec returns returns-2 returns-3)

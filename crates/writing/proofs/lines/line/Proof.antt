@@ -1,0 +1,20 @@
+use Rattle.writing.proofs.Written.{wrote-long, front-of}
+use native.Mathlib.Omega.{arith}
+use borrow.Author.Needs.{needs}
+use Rattle.writing.proofs.lines.line.Statement.{statement}
+use Rattle.writing.proofs.lines.line.Tie as tie
+use Rattle.writing.proofs.lines.line.Reads as reads
+use Rattle.writing.proofs.lines.line.Lts as lts
+use Rattle.writing.proofs.lines.put_line.Reads as put-line-reads
+
+put-line-requires : tie.Need-put-line-requires
+put-line-requires c κs = c .before .before .before .before .before .before .before .pre
+
+same-length : tie.Need-same-length
+same-length c = wrote-long (c .before .before .put-line .ensures)
+
+returns : tie.Need-returns
+returns c = front-of (c .before .before .put-line .ensures) (omega (arith, c .before .before .before .before .before .before .before .before .before .before .pre .room))
+
+pub line-spec : {M : Type 1} → statement M
+line-spec = tie.close (tie.spec put-line-requires same-length returns)

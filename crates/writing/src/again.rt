@@ -1,0 +1,69 @@
+// A plan text read and written again.
+use crate::lines::text as write_text;
+use crate::number::put_then;
+use crate::number::put_word;
+use plan::data::Plan;
+use text::Answer;
+use text::read;
+ghost use mathlib.Core.Path.{_≡_};
+ghost use mathlib.Core.Bool.{true};
+ghost use Prim.Native.Nat.{ℕ, _≤_};
+ghost use lib.ListN.{length};
+ghost use Rattle.plan.specs.Stored.{planData};
+ghost use Rattle.text.specs.Reading.{reading};
+ghost use Rattle.text.specs.Writing.{textOf};
+ghost use Rattle.writing.specs.Written.{Fronts};
+ghost use Rattle.writing.specs.Data.{isStoredPlan, maxText};
+ghost use Rattle.writing.specs.Again.{refusedLine, writtenAgain};
+
+// "(refused N)"
+fn refuse(n: u32, out: &mut [u8]) -> usize
+    requires { ⌜ maxText ≤ length (now out) ⌝ }
+    ensures { λ r. ⌜ Fronts (refusedLine n) (now (out .entry)) r (now (out .exit)) ⌝ }
+{
+    let at = put_word(out, 0, b"(refused ");
+    put_then(out, at, n as u64, b")\n")
+}
+
+fn level_count(k: u32) -> usize
+    ensures { λ r. ⌜ r ≡ k ⌝ }
+{
+    k as usize
+}
+
+// The text of a plan with these numbers of vertices and segments that is that of a text.
+fn stored_text(plan: Plan, vertices: usize, segments: usize, out: &mut [u8]) -> usize
+    requires { ⌜ (isStoredPlan plan vertices segments ≡ true) × (maxText ≤ length (now out)) ⌝ }
+    ensures { λ r. ⌜ Fronts (textOf (planData plan vertices segments)) (now (out .entry)) r (now (out .exit)) ⌝ }
+{
+    let k = level_count(plan.levels);
+    let sizes = plan.sizes;
+    let vias = plan.vias;
+    let halves = plan.halves;
+    let uppers = plan.uppers;
+    let lowers = plan.lowers;
+    write_text(
+        plan.levels,
+        plan.gap,
+        plan.spacing,
+        &sizes[..k],
+        &vias[..vertices],
+        &halves[..vertices],
+        &uppers[..segments],
+        &lowers[..segments],
+        out,
+    )
+}
+
+// The plan's text again, or the line "(refused N)", at the front of the buffer: how many bytes it has.
+pub fn reread(text: &[u8], out: &mut [u8]) -> usize
+    requires { ⌜ maxText ≤ length (now out) ⌝ }
+    ensures { λ r. ⌜ Fronts (writtenAgain (reading (now (text .entry)))) (now (out .entry)) r (now (out .exit)) ⌝ }
+{
+    let r = read(text);
+    let answer = r.answer;
+    match answer {
+        Answer::Accepted(v, e) => stored_text(r.plan, v, e, out),
+        Answer::Refused(n) => refuse(n, out),
+    }
+}
