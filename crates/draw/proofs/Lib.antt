@@ -1,0 +1,13 @@
+pub mod ListLaws
+pub mod LevelLaws
+pub mod DistanceLaws
+pub mod RowLaws
+pub mod PositionLaws
+pub mod RunLaws
+pub mod JoinLaws
+pub mod OutcomeLaws
+pub mod ListingLaws
+pub mod Neighbours
+pub mod Nearest
+pub mod Between
+pub mod SettledMarks

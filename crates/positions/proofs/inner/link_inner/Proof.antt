@@ -1,0 +1,60 @@
+-- `positions::inner::link_inner` meets its contract by its tests.
+use mathlib.Core.Path.{_≡_, refl}
+use mathlib.Core.Bool.{true, false}
+use lib.ListN.{getD}
+use borrow.Author.Tests.{not-true, not-false}
+use borrow.Author.Needs.{needs}
+use Rattle.positions.proofs.inner.link_inner.Statement.{statement}
+use Rattle.positions.proofs.inner.link_inner.Tie as tie
+use Rattle.positions.proofs.inner.link_inner.Reads as reads
+use Rattle.positions.proofs.inner.link_inner.Lts as lts
+
+-- src/inner.rt:15:9
+shared-slice-read-if1 : tie.Need-shared-slice-read-if1
+shared-slice-read-if1 c = search needs
+
+-- src/inner.rt:16:9
+returns : tie.Need-returns
+returns c = let z : getD (c .before .before .args .vias .now) (c .before .before .args .a) false ≡ false = not-true _ (c .if1 .taken) in rw z refl
+
+-- src/inner.rt:18:9
+shared-slice-read-if2 : tie.Need-shared-slice-read-if2
+shared-slice-read-if2 c = search needs
+
+-- src/inner.rt:19:9
+returns-2 : tie.Need-returns-2
+returns-2 c = let y : getD (c .before .before .before .before .args .vias .now) (c .before .before .before .before .args .a) false ≡ true = not-false _ (c .before .before .if1 .left) in let z : getD (c .before .before .before .before .args .vias .now) (c .before .before .before .before .args .b) false ≡ false = not-true _ (c .if2 .taken) in rw (y, z) refl
+
+-- src/inner.rt:21:15
+cast-link : tie.Need-cast-link
+cast-link c = search needs
+
+-- src/inner.rt:21:5
+mul-link : tie.Need-mul-link
+mul-link c = search needs
+
+-- src/inner.rt:21:5
+slice-write-link : tie.Need-slice-write-link
+slice-write-link c = search needs
+
+-- src/inner.rt:11:1
+same-length : tie.Need-same-length
+same-length c = search needs
+
+-- src/inner.rt:11:1
+returns-3 : tie.Need-returns-3
+returns-3 c = let y : getD (c .before .before .before .before .args .vias .now) (c .before .before .before .before .args .a) false ≡ true = not-false _ (c .before .before .if1 .left) in let z : getD (c .before .before .before .before .args .vias .now) (c .before .before .before .before .args .b) false ≡ true = not-false _ (c .if2 .left) in rw (y, z) refl
+
+pub link-inner-spec : {M : Type 1} → statement M
+link-inner-spec =
+    tie.close
+    (tie.spec
+    shared-slice-read-if1
+    returns
+    shared-slice-read-if2
+    returns-2
+    cast-link
+    mul-link
+    slice-write-link
+    same-length
+    returns-3)

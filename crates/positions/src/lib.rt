@@ -1,0 +1,12 @@
+// The program of preliminary positions: see the crate preliminary for what it computes.
+mod arrange;
+mod asked;
+mod classes;
+mod inner;
+mod keys;
+mod links;
+mod middle;
+mod place;
+mod shift;
+mod side;
+mod strands;

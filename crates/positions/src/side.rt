@@ -1,0 +1,101 @@
+// x₋ on levels in the order in hand: strands classed, placed and shifted.
+use crate::arrange::arrange;
+use crate::arrange::lefts;
+use crate::asked::asked;
+use crate::classes::class;
+use crate::inner::link_vias;
+use crate::inner::tops;
+use crate::links::NONE;
+use crate::place::place;
+use crate::shift::shift;
+ghost use mathlib.Core.Path.{_≡_};
+ghost use mathlib.Core.Bool.{Bool};
+ghost use mathlib.Core.List.{List, map};
+ghost use Prim.Native.Nat.{ℕ, _≤_, _<_};
+ghost use lib.ListN.{length, getD, replicate};
+ghost use lib.IntN.{ℤ, pos};
+ghost use Rattle.plan.specs.Graph.{Below};
+ghost use Rattle.positions.specs.Counts.{SizedTo};
+ghost use Rattle.positions.specs.Sides.{Ready, SideIs, Fresh, StrandLists};
+
+fn place_of(x: u32) -> i64
+    ensures { λ r. ⌜ r ≡ pos x ⌝ }
+{
+    x as i64
+}
+
+// Places as signed numbers.
+fn widen(at: &[u32], xs: &mut [i64])
+    requires { ⌜ length (now xs) ≡ length (now at) ⌝ }
+    ensures { λ _. ⌜ now (xs .exit) ≡ map pos (now (at .entry)) ⌝ }
+{
+    let mut v: usize = 0;
+    while v < at.len() {
+        let x = place_of(at[v]);
+        xs[v] = x;
+        v += 1;
+    }
+}
+
+// Of each vertex the one below it and above it in its strand, and the topmost.
+pub fn strands(
+    vias: &[bool],
+    uppers: &[u32],
+    lowers: &[u32],
+    next: &mut [u16],
+    prev: &mut [u16],
+    top: &mut [u16],
+)
+    requires { ⌜ (length (now uppers) ≡ length (now lowers)) × Below (length (now vias)) (now uppers) × Below (length (now vias)) (now lowers) × (length (now vias) ≤ 1024) ⌝ }
+    requires { ⌜ (now next ≡ replicate (length (now vias)) 2048) × (now prev ≡ replicate (length (now vias)) 2048) × (length (now top) ≡ length (now vias)) ⌝ }
+    ensures { λ _. ⌜ StrandLists (now (vias .entry)) (now (uppers .entry)) (now (lowers .entry)) (now (next .exit)) (now (prev .exit)) (now (top .exit)) ⌝ }
+{
+    link_vias(vias, uppers, lowers, next);
+    link_vias(vias, lowers, uppers, prev);
+    tops(prev, top);
+}
+
+// The positions, by lists of scratch.
+fn side_in(
+    reversed: bool,
+    gap: u32,
+    sizes: &[u16],
+    halves: &[u16],
+    next: &[u16],
+    top: &[u16],
+    uppers: &[u32],
+    lowers: &[u32],
+    order: &mut [u16],
+    right: &mut [u16],
+    left: &mut [u16],
+    classes: &mut [u32],
+    sibling: &mut [u16],
+    apart: &mut [u32],
+    at: &mut [u32],
+    begun: &mut [bool],
+    xs: &mut [i64],
+)
+    requires { ⌜ Ready gap (now sizes) (now halves) (now next) (now top) (now uppers) (now lowers) ⌝ }
+    requires { ⌜ Fresh (length (now next)) (now order) (now right) (now left) (now classes) (now sibling) (now apart) (now at) (now begun) × (length (now xs) ≡ length (now next)) ⌝ }
+    ensures { λ _. ⌜ SizedTo 33312000 (now (xs .exit)) ⌝ }
+    ensures { λ _. ⌜ SideIs reversed gap (now (sizes .entry)) (now (halves .entry)) (now (next .entry)) (now (top .entry)) (now (uppers .entry)) (now (lowers .entry)) (now (xs .exit)) ⌝ }
+{
+    arrange(reversed, sizes, order, right);
+    lefts(order, right, left);
+    class(sizes, order, next, top, classes);
+    asked(gap, halves, left, classes, sibling, apart);
+    place(next, top, sibling, apart, at, begun);
+    widen(at, xs);
+    let levels = sizes.len() as u32;
+    shift(
+        levels,
+        gap,
+        order,
+        right,
+        halves,
+        uppers,
+        lowers,
+        classes,
+        xs,
+    );
+}
