@@ -11,3 +11,4 @@ pub mod CodeArrange
 pub mod CodeLevels
 pub mod CodeStrands
 pub mod CodeSide
+pub mod CodePositions

@@ -58,3 +58,28 @@ pub record StrandLists (vias : List Bool) (uppers lowers next prev top : List �
   pub down : InnerLinks vias uppers lowers next
   pub up : InnerLinks vias lowers uppers prev
   pub tops : Tops prev top
+
+-- Lists of a plan whose inner segments link its vias into strands.
+pub record Proper (gap : ℕ) (sizes : List ℕ) (vias : List Bool) (halves uppers lowers : List ℕ) : Type 0 where
+  pub strung : (next prev top : List ℕ) → StrandLists vias uppers lowers next prev top → Strung next top
+  pub gaps : gap ≤ 100
+  pub levels : length sizes ≤ 64
+  pub vertices : sum sizes ≡ length vias
+  pub few : length vias ≤ 1024
+  pub boxes : length halves ≡ length vias
+  pub within : (i : ℕ) → i < length halves → getD halves i 0 ≤ 200
+  pub segments : length uppers ≤ 2048
+  pub ends : length uppers ≡ length lowers
+  pub upperEnds : Below (length vias) uppers
+  pub lowerEnds : Below (length vias) lowers
+
+-- The plan that has these lists, whatever its spacing.
+pub record PlanOf (p : PlanData) (gap : ℕ) (sizes : List ℕ) (vias : List Bool) (halves uppers lowers : List ℕ) : Type 0 where
+  pub levels : p .levels ≡ length sizes
+  pub gaps : p .gap ≡ gap
+  pub sizesAre : p .sizes ≡ sizes
+  pub kinds : p .vias ≡ vias
+  pub widths : p .halves ≡ halves
+  pub uppersAre : p .uppers ≡ uppers
+  pub lowersAre : p .lowers ≡ lowers
+  pub strands : (next prev top : List ℕ) → StrandLists vias uppers lowers next prev top → StrandsBy (strandIn (innerSegments p) (p .levels)) next top

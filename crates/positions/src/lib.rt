@@ -7,6 +7,7 @@ mod keys;
 mod links;
 mod middle;
 mod place;
+pub mod positions;
 mod shift;
 mod side;
 mod strands;

@@ -99,3 +99,50 @@ fn side_in(
         xs,
     );
 }
+
+// The positions on levels in the order in hand.
+pub fn side(
+    reversed: bool,
+    gap: u32,
+    sizes: &[u16],
+    halves: &[u16],
+    next: &[u16],
+    top: &[u16],
+    uppers: &[u32],
+    lowers: &[u32],
+    xs: &mut [i64],
+)
+    requires { ⌜ Ready gap (now sizes) (now halves) (now next) (now top) (now uppers) (now lowers) ⌝ }
+    requires { ⌜ length (now xs) ≡ length (now next) ⌝ }
+    ensures { λ _. ⌜ SizedTo 33312000 (now (xs .exit)) ⌝ }
+    ensures { λ _. ⌜ SideIs reversed gap (now (sizes .entry)) (now (halves .entry)) (now (next .entry)) (now (top .entry)) (now (uppers .entry)) (now (lowers .entry)) (now (xs .exit)) ⌝ }
+{
+    let n = next.len();
+    let mut order = [NONE; 1024];
+    let mut right = [NONE; 1024];
+    let mut left = [NONE; 1024];
+    let mut classes = [0u32; 1024];
+    let mut sibling = [NONE; 1024];
+    let mut apart = [0u32; 1024];
+    let mut at = [0u32; 1024];
+    let mut begun = [false; 1024];
+    side_in(
+        reversed,
+        gap,
+        sizes,
+        halves,
+        next,
+        top,
+        uppers,
+        lowers,
+        &mut order[..n],
+        &mut right[..n],
+        &mut left[..n],
+        &mut classes[..n],
+        &mut sibling[..n],
+        &mut apart[..n],
+        &mut at[..n],
+        &mut begun[..n],
+        xs,
+    );
+}

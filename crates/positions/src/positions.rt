@@ -1,0 +1,78 @@
+// Preliminary positions: x₋ and, from the reversed levels, x₊; then their sum.
+use crate::links::NONE;
+use crate::side::side;
+use crate::side::strands;
+use ints::difference;
+ghost use mathlib.Core.Path.{_≡_};
+ghost use mathlib.Core.List.{List, map};
+ghost use Prim.Native.Nat.{ℕ, _≤_, _<_};
+ghost use lib.ListN.{length, getD};
+ghost use lib.IntN.{ℤ, pos, negℤ};
+ghost use Rattle.plan.specs.Plan.{PlanData};
+ghost use Rattle.positions.specs.Counts.{SizedTo};
+ghost use Rattle.preliminary.specs.Positions as spec;
+ghost use Rattle.positions.specs.Sides.{Proper, PlanOf};
+
+// Takes from each number that of the other list: adds the other list negated.
+fn subtract(xs: &mut [i64], ys: &[i64])
+    requires { ⌜ (length (now xs) ≡ length (now ys)) × SizedTo 33312000 (now xs) × SizedTo 33312000 (now ys) ⌝ }
+    ensures { λ _. ⌜ now (xs .exit) ≡ spec.sums (now (xs .entry)) (map negℤ (now (ys .entry))) ⌝ }
+{
+    let mut i: usize = 0;
+    while i < xs.len() {
+        let x = difference(xs[i], ys[i]);
+        xs[i] = x;
+        i += 1;
+    }
+}
+
+// The preliminary position of every vertex, in half steps.
+pub fn preliminary(
+    gap: u32,
+    sizes: &[u16],
+    vias: &[bool],
+    halves: &[u16],
+    uppers: &[u32],
+    lowers: &[u32],
+    out: &mut [i64],
+)
+    requires { ⌜ Proper gap (now sizes) (now vias) (now halves) (now uppers) (now lowers) × (length (now out) ≡ length (now vias)) ⌝ }
+    ensures { λ _. ⌜ ((p : PlanData) → PlanOf p gap (now (sizes .entry)) (now (vias .entry)) (now (halves .entry)) (now (uppers .entry)) (now (lowers .entry)) → now (out .exit) ≡ spec.preliminary p) ⌝ }
+{
+    let n = vias.len();
+    let mut next = [NONE; 1024];
+    let mut prev = [NONE; 1024];
+    let mut top = [NONE; 1024];
+    strands(
+        vias,
+        uppers,
+        lowers,
+        &mut next[..n],
+        &mut prev[..n],
+        &mut top[..n],
+    );
+    side(
+        false,
+        gap,
+        sizes,
+        halves,
+        &next[..n],
+        &top[..n],
+        uppers,
+        lowers,
+        out,
+    );
+    let mut other = [0i64; 1024];
+    side(
+        true,
+        gap,
+        sizes,
+        halves,
+        &next[..n],
+        &top[..n],
+        uppers,
+        lowers,
+        &mut other[..n],
+    );
+    subtract(out, &other[..n]);
+}
