@@ -112,23 +112,23 @@ isSound q =
 unfoldable pub isTaken : Request → List ℤ → Bool
 isTaken q answer = isSmall q && isFitting q answer && isInReach q && isSound q
 
--- Answer and answer buffer afterwards; refused, the buffer is as it was.
+-- Document 01's number, 0 where nothing is refused, and the answer buffer afterwards; refused, the buffer is as it was.
 pub record Out : Type 0 where
-  pub answer : Answer
+  pub number : ℕ
   pub buffer : List ℤ
 
 unfoldable pub placedOf : Request → List ℤ
 placedOf q = placeRun (limitOf (q .left)) (leftDistance (q .left) (q .distances)) (boxesOf q) (limitOf (q .right))
 
-abbrev pub out : Answer → List ℤ → Out
-out a b = record { answer = a; buffer = b }
+abbrev pub out : ℕ → List ℤ → Out
+out n b = record { number = n; buffer = b }
 
 unfoldable pub callOf : Request → List ℤ → Out
 callOf q answer =
-    let placed = out Accepted (placedOf q) in
-    cond (isTaken q answer) placed (out Refused answer)
+    let placed = out 0 (placedOf q) in
+    cond (isTaken q answer) placed (out 8 answer)
 
--- The promise: the answer and what the buffer holds at the end are those of o.
+-- The promise: the answer's number and what the buffer holds at the end are those of o.
 pub record Outcome (o : Out) (a : Answer) (b : List ℤ) : Type 0 where
-  pub answered : a ≡ o .answer
+  pub answered : numberOf a ≡ o .number
   pub left : b ≡ o .buffer
