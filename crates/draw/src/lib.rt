@@ -1,9 +1,9 @@
 // The three passes, as a program over slices: see the crate passes for what they compute.
-mod distances;
-mod list;
-mod outcome;
-mod ready;
-mod request;
-mod rows;
-mod runs;
-mod slack;
+pub mod distances;
+pub mod list;
+pub mod outcome;
+pub mod ready;
+pub mod request;
+pub mod rows;
+pub mod runs;
+pub mod slack;

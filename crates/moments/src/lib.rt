@@ -1,0 +1,1 @@
+// What the program of the three passes holds between two visits: definitions and laws, no program.
