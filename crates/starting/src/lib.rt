@@ -1,0 +1,2 @@
+// Preliminary positions of a plan that passes the checks.
+pub mod start;
