@@ -5,3 +5,4 @@ pub mod Passes
 pub mod Drawing
 pub mod Words
 pub mod Demand3
+pub mod Stored
