@@ -1,0 +1,2 @@
+// Placing one run where the passes are: from what they hold to what they hold afterwards.
+pub mod one;
