@@ -1,0 +1,5 @@
+pub mod RunsAhead
+pub mod DueLaws
+pub mod VisitLaws
+pub mod WrittenLaws
+pub mod Midway
