@@ -10,7 +10,7 @@ use Rattle.text.specs.Writing.{sameNumbers, sameKinds, sameData}
 use Rattle.text.proofs.Words.{never}
 use Rattle.text.proofs.TestLaws.{test, _and_, conj-at}
 
-numbers-equal : (ms ns : List ℕ) → sameNumbers ms ns ≡ true → ms ≡ ns
+pub numbers-equal : (ms ns : List ℕ) → sameNumbers ms ns ≡ true → ms ≡ ns
 unfolding sameNumbers
 numbers-equal [] [] e = refl
 numbers-equal [] (n ∷ ns) e = never e
@@ -19,7 +19,7 @@ numbers-equal (m ∷ ms) (n ∷ ns) e = test (eqb m n)
     (λ c. rw (eqb-true m n c, numbers-equal ms ns (rw c at e)))
     (λ c. never (rw c at e))
 
-numbers-same : (ns : List ℕ) → sameNumbers ns ns ≡ true
+pub numbers-same : (ns : List ℕ) → sameNumbers ns ns ≡ true
 unfolding sameNumbers
 numbers-same [] = refl
 numbers-same (n ∷ ns) = rw (eq-eqb n n refl, numbers-same ns)

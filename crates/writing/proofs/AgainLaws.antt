@@ -62,25 +62,24 @@ stored-data p l =
     let b = front (p .lowers) (replicate maxSegments 0) (length (p .uppers)) (l .ends) in
     rw (s, v, h, a, b)
 
--- a plan that was read, and its text
+-- a plan that was read, stored with the data of the reading
 pub record Again (s : List ℕ) (p : Plan) (v e : ℕ) : Type 0 where
   pub stored : isStoredPlan p v e ≡ true
-  pub text : writtenAgain (reading s) ≡ textOf (planData p v e)
+  pub read : reading s ≡ accepted (planData p v e)
 
 plan-again : (s : List ℕ) (p : PlanData) → reading s ≡ accepted p → Again s (planOf p) (length (p .vias)) (length (p .uppers))
-unfolding writtenAgain
 plan-again s p e =
     let a = read-acceptable s p e in
     let l = acceptable-of p a .limits in
     let same = stored-data p l in
     record {
       stored = stored-is (planOf p) (length (p .vias)) (length (p .uppers)) (l .vertices) (l .segments) ∙ ap acceptable same ∙ a;
-      text = ap writtenAgain e ∙ ap textOf (sym same);
+      read = e ∙ ap accepted (sym same);
     }
 
-pub again-accepted : (s : List ℕ) (r : ReadText) (v e : ℕ) → r ≡ answerOf (reading s) → r .answer ≡ Accepted v e → Again s (r .plan) v e
+pub read-accepted : (s : List ℕ) (r : ReadText) (v e : ℕ) → r ≡ answerOf (reading s) → r .answer ≡ Accepted v e → Again s (r .plan) v e
 unfolding answerOf
-again-accepted s r v e q a = go (reading s) refl
+read-accepted s r v e q a = go (reading s) refl
   where
     go : (g : Reading) → reading s ≡ g → Again s (r .plan) v e
     go (accepted p) h =
@@ -95,11 +94,11 @@ again-accepted s r v e q a = go (reading s) refl
         let z : _≡_ {A = ℕ} 0 1 = cc told in
         absurd (omega arith)
 
-pub again-refused : (s : List ℕ) (r : ReadText) (n : ℕ) → r ≡ answerOf (reading s) → r .answer ≡ Refused n → writtenAgain (reading s) ≡ refusedLine n
-unfolding answerOf writtenAgain
-again-refused s r n q a = go (reading s) refl
+pub read-refused : (s : List ℕ) (r : ReadText) (n : ℕ) → r ≡ answerOf (reading s) → r .answer ≡ Refused n → reading s ≡ refused n
+unfolding answerOf
+read-refused s r n q a = go (reading s) refl
   where
-    go : (g : Reading) → reading s ≡ g → writtenAgain (reading s) ≡ refusedLine n
+    go : (g : Reading) → reading s ≡ g → reading s ≡ refused n
     go (accepted p) h =
         let told : Refused n ≡ Accepted (length (p .vias)) (length (p .uppers)) = sym a ∙ ap (λ (x : ReadText). x .answer) (q ∙ ap answerOf h) in
         let z : _≡_ {A = ℕ} 0 1 = cc told in
@@ -107,7 +106,16 @@ again-refused s r n q a = go (reading s) refl
     go (refused m) h =
         let told : Refused n ≡ Refused m = sym a ∙ ap (λ (x : ReadText). x .answer) (q ∙ ap answerOf h) in
         let same : m ≡ n = cc told in
-        ap writtenAgain h ∙ ap refusedLine same
+        h ∙ ap refused same
+
+-- what is written of either
+pub again-accepted : (p : PlanData) → writtenAgain (accepted p) ≡ textOf p
+unfolding writtenAgain
+again-accepted p = refl
+
+pub again-refused : (n : ℕ) → writtenAgain (refused n) ≡ refusedLine n
+unfolding writtenAgain
+again-refused n = refl
 
 pub refused-short : (n : ℕ) → n < 2 ^ 32 → length (refusedLine n) ≤ 21
 unfolding refusedLine

@@ -16,9 +16,9 @@ ghost use Rattle.writing.specs.Written.{Fronts};
 ghost use Rattle.writing.specs.Data.{isStoredPlan, maxText};
 ghost use Rattle.writing.specs.Again.{refusedLine, writtenAgain};
 
-// "(refused N)"
-fn refuse(n: u32, out: &mut [u8]) -> usize
-    requires { ⌜ maxText ≤ length (now out) ⌝ }
+// "(refused N)", at the front of the buffer: how many bytes it has.
+pub fn refuse(n: u32, out: &mut [u8]) -> usize
+    requires { ⌜ 21 ≤ length (now out) ⌝ }
     ensures { λ r. ⌜ Fronts (refusedLine n) (now (out .entry)) r (now (out .exit)) ⌝ }
 {
     let at = put_word(out, 0, b"(refused ");

@@ -1,4 +1,5 @@
-use Rattle.writing.proofs.AgainLaws.{again-accepted, again-refused}
+use Rattle.writing.proofs.AgainLaws.{read-accepted, read-refused, again-accepted, again-refused}
+use native.Mathlib.Omega.{arith}
 use borrow.Author.Needs.{needs}
 use mathlib.Core.Path.{_≡_, refl, sym, _∙_}
 use Rattle.writing.proofs.again.reread.Statement.{statement}
@@ -16,25 +17,25 @@ enum-known-answer : tie.Need-enum-known-answer
 enum-known-answer c = search needs
 
 stored-text-requires : tie.Need-stored-text-requires
-stored-text-requires c κs = (again-accepted (c .before .before .before .before .before .before .before .args .text .now) (c .before .before .before .before .read .result) _ _ (c .before .before .before .before .read .ensures) (c .before .before .answer .given .1) .stored, c .before .before .before .before .before .before .before .pre)
+stored-text-requires c κs = (read-accepted (c .before .before .before .before .before .before .before .args .text .now) (c .before .before .before .before .read .result) _ _ (c .before .before .before .before .read .ensures) (c .before .before .answer .given .1) .stored, c .before .before .before .before .before .before .before .pre)
 
 enum-known-answer-2 : tie.Need-enum-known-answer-2
 enum-known-answer-2 c = search needs
 
 refuse-requires : tie.Need-refuse-requires
-refuse-requires c κs = c .before .before .before .before .before .before .before .pre
+refuse-requires c κs = omega (arith, c .before .before .before .before .before .before .before .pre)
 
 same-length : tie.Need-same-length
 same-length c = c .before .before .stored-text .kept .1 .1 .1 .0
 
 returns : tie.Need-returns
-returns c = rw (again-accepted (c .before .before .before .before .before .before .before .before .before .before .args .text .now) (c .before .before .before .before .before .before .before .read .result) _ _ (c .before .before .before .before .before .before .before .read .ensures) (c .before .before .before .before .before .answer .given .1) .text) (c .before .before .stored-text .ensures)
+returns c = rw (read-accepted (c .before .before .before .before .before .before .before .before .before .before .args .text .now) (c .before .before .before .before .before .before .before .read .result) _ _ (c .before .before .before .before .before .before .before .read .ensures) (c .before .before .before .before .before .answer .given .1) .read, again-accepted) (c .before .before .stored-text .ensures)
 
 same-length-2 : tie.Need-same-length-2
 same-length-2 c = c .before .before .refuse .kept .1 .0
 
 returns-2 : tie.Need-returns-2
-returns-2 c = rw (again-refused (c .before .before .before .before .before .before .before .before .before .before .args .text .now) (c .before .before .before .before .before .before .before .read .result) _ (c .before .before .before .before .before .before .before .read .ensures) (c .before .before .before .before .before .answer2 .given .1)) (c .before .before .refuse .ensures)
+returns-2 c = rw (read-refused (c .before .before .before .before .before .before .before .before .before .before .args .text .now) (c .before .before .before .before .before .before .before .read .result) _ (c .before .before .before .before .before .before .before .read .ensures) (c .before .before .before .before .before .answer2 .given .1), again-refused) (c .before .before .refuse .ensures)
 
 pub reread-spec : {M : Type 1} → statement M
 reread-spec =

@@ -1,0 +1,54 @@
+-- Bounds that the marks' numbers need, of a level, a height and a position; and a plan's marks by its lists. Assumes nothing.
+use mathlib.Core.Path.{_≡_}
+use mathlib.Core.Bool.{Bool, true, false, cond}
+use mathlib.Core.List.{List, [], _∷_}
+use Prim.Native.Nat.{ℕ, zero, suc, _+_, _*_, _-_, _≤_, _<_}
+use native.Mathlib.Nat.{mul-le-mul}
+use native.Mathlib.Omega.{arith}
+use borrow.Author.Tests.{leb-true, lt-ltb, le-ltb}
+use lib.Dec.{ltb}
+use lib.ListN.{length, getD}
+use lib.IntN.{ℤ, pos, negsuc, natAbs}
+use Rattle.ints.proofs.Laws.{if-ind}
+use Rattle.plan.specs.Plan.{PlanData, levelIn, levelOf, heightOf}
+use Rattle.plan.specs.Checks.{every}
+use Rattle.plan.proofs.Crossings.{cond-left, cond-right}
+use Rattle.passes.specs.State.{positionOf}
+use Rattle.passes.specs.Words.{reach, isWithin, allWithin}
+use Rattle.marks.specs.declared.types.Mark.the-variants.{Box, Bend, Line}
+use Rattle.marks.specs.Half.{wholeOf}
+use Rattle.marks.specs.Marks.{markOf}
+use Rattle.marks.specs.Asked.{pointIn, DataOf}
+
+pub level-most : (ns : List ℕ) (v : ℕ) → levelIn ns v ≤ length ns + 1
+unfolding levelIn
+level-most [] v = omega arith
+level-most (n ∷ ns) v =
+    let more = level-most ns (v - n) in
+    if-ind (ltb v n) 1 (suc (levelIn ns (v - n))) (λ l. l ≤ suc (length ns) + 1) (λ t. omega arith) (λ t. omega arith)
+
+pub height-most : (s l : ℕ) → s ≤ 10000 → l ≤ 64 → s * l ≤ 640000
+height-most s l h k = mul-le-mul h k
+
+within-size : (x : ℤ) → isWithin x ≡ true → natAbs x ≤ reach
+within-size (pos n) e = leb-true n reach e
+within-size (negsuc n) e = leb-true (suc n) reach e
+
+pub within-at : (xs : List ℤ) (v : ℕ) → allWithin xs ≡ true → natAbs (positionOf xs v) ≤ reach
+unfolding allWithin every
+within-at [] v e = omega arith
+within-at (x ∷ xs) zero e = within-size x (cond-left (isWithin x) (every isWithin xs) e)
+within-at (x ∷ xs) (suc v) e = within-at xs v (cond-right (isWithin x) (every isWithin xs) e)
+
+-- ---- the n-th mark, by the plan's lists
+module _ (p : PlanData) (spacing : ℕ) (sizes : List ℕ) (vias : List Bool) (halves uppers lowers : List ℕ) (xs : List ℤ) (n : ℕ)
+    (d : DataOf p spacing sizes vias halves uppers lowers) where
+  pub vertex-is : n < length vias
+      → markOf p xs n ≡ cond (getD vias n false) (Bend (pointIn spacing sizes xs n)) (Box (pointIn spacing sizes xs n) (wholeOf (getD halves n 0)))
+  unfolding markOf heightOf levelOf
+  vertex-is h = rw (d .viasAre, d .spacingIs, d .sizesAre, d .halvesAre, lt-ltb n (length vias) h)
+
+  pub segment-is : length vias ≤ n
+      → markOf p xs n ≡ Line (pointIn spacing sizes xs (getD uppers (n - length vias) 0)) (pointIn spacing sizes xs (getD lowers (n - length vias) 0))
+  unfolding markOf heightOf levelOf
+  segment-is h = rw (d .viasAre, d .spacingIs, d .sizesAre, d .uppersAre, d .lowersAre, le-ltb n (length vias) h)

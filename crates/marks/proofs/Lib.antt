@@ -1,0 +1,5 @@
+pub mod Laws
+pub mod Stores
+pub mod Exact
+pub mod Acceptable
+pub mod Cases

@@ -1,0 +1,4 @@
+pub mod Half
+pub mod Marks
+pub mod Exact
+pub mod Asked

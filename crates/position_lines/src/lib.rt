@@ -1,0 +1,2 @@
+// A plan text's preliminary positions, a line for each vertex.
+pub mod lines;

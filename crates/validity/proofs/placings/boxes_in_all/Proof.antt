@@ -1,0 +1,64 @@
+-- `validity::placings::boxes_in_all` meets its contract: the sum so far and that of what is left make the sum of all.
+use Prim.Native.Nat.{_+_, _*_, _-_, _≤_}
+use mathlib.Core.Path.{_≡_}
+use native.Mathlib.Omega.{arith}
+use lib.ListN.{length, drop}
+use Rattle.ints.specs.Lists.{sum}
+use Rattle.draw.proofs.ListLaws.{sum-none, sum-more}
+use borrow.Author.Needs.{needs}
+use Rattle.validity.proofs.placings.boxes_in_all.Statement.{statement}
+use Rattle.validity.proofs.placings.boxes_in_all.Tie as tie
+
+abbrev Inv-loop : tie.InvT-loop
+Inv-loop counts n₀ i₀ n i = (i ≤ length counts) × (n + sum (drop i counts) ≡ sum counts) × (n ≤ 65535 * i)
+
+abbrev μ-loop : tie.MeasureT-loop
+μ-loop counts n₀ i₀ n i = length counts - i
+
+loop-holds : tie.Need-loop-holds Inv-loop μ-loop
+loop-holds c = (omega arith, omega arith, omega arith)
+
+mul-wide : tie.Need-mul-wide Inv-loop μ-loop
+mul-wide c = search needs
+
+shared-slice-read-wide : tie.Need-shared-slice-read-wide Inv-loop μ-loop
+shared-slice-read-wide c = search needs
+
+wide-requires : tie.Need-wide-requires Inv-loop μ-loop
+wide-requires c κs = search needs
+
+add-n : tie.Need-add-n Inv-loop μ-loop
+add-n c = omega (arith, c .before .shared-slice-known2 .given (c .before .before .before .loop .i))
+
+add-i : tie.Need-add-i Inv-loop μ-loop
+add-i c = search needs
+
+loop-less : tie.Need-loop-less Inv-loop μ-loop
+loop-less c = search needs
+
+loop-again : tie.Need-loop-again Inv-loop μ-loop
+loop-again c =
+    let l = c .before .before .before .loop in (
+      omega arith,
+      omega (arith, sum-more (c .before .before .before .before .before .args .counts .now) (l .i) (c .before .before .loop-test .taken)),
+      omega (arith, c .before .shared-slice-known2 .given (l .i)),
+    )
+
+returns : tie.Need-returns Inv-loop μ-loop
+returns c = omega (arith, sum-none (c .before .before .before .args .counts .now) (c .before .loop .i) (c .loop-test .left))
+
+pub boxes-in-all-spec : {M : Type 1} → statement M
+boxes-in-all-spec =
+    tie.close
+    (tie.spec
+    Inv-loop
+    μ-loop
+    loop-holds
+    mul-wide
+    shared-slice-read-wide
+    wide-requires
+    add-n
+    add-i
+    loop-less
+    loop-again
+    returns)

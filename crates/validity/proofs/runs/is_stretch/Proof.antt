@@ -1,0 +1,77 @@
+-- `validity::runs::is_stretch` meets its contract: whether the whole list is the stretch is whether it is from the i-th on.
+use Prim.Native.Nat.{_+_, _-_, _≤_}
+use mathlib.Core.Path.{_≡_, sym, _∙_}
+use native.Mathlib.Omega.{arith}
+use lib.ListN.{length, drop}
+use Rattle.plan.specs.Plan.{numbers}
+use Rattle.text.specs.Writing.{sameNumbers}
+use Rattle.validity.proofs.Walks.{stretch-on, stretch-stop, stretch-end}
+use borrow.Author.Needs.{needs}
+use Rattle.validity.proofs.runs.is_stretch.Statement.{statement}
+use Rattle.validity.proofs.runs.is_stretch.Tie as tie
+
+abbrev Inv-loop : tie.InvT-loop
+Inv-loop boxes first i₀ i = (i ≤ length boxes) × (sameNumbers (drop i boxes) (numbers (first + i) (length boxes - i)) ≡ sameNumbers boxes (numbers first (length boxes)))
+
+abbrev μ-loop : tie.MeasureT-loop
+μ-loop boxes first i₀ i = length boxes - i
+
+loop-holds : tie.Need-loop-holds Inv-loop μ-loop
+loop-holds c =
+    let a = c .before .args in
+    let e : a .first + 0 ≡ a .first = omega arith in
+    let n : length (a .boxes .now) - 0 ≡ length (a .boxes .now) = omega arith in
+    (omega arith, rw (e, n))
+
+mul-wide : tie.Need-mul-wide Inv-loop μ-loop
+mul-wide c = search needs
+
+shared-slice-read-wide : tie.Need-shared-slice-read-wide Inv-loop μ-loop
+shared-slice-read-wide c = search needs
+
+wide-requires : tie.Need-wide-requires Inv-loop μ-loop
+wide-requires c κs = search needs
+
+add-if1 : tie.Need-add-if1 Inv-loop μ-loop
+add-if1 c = search needs
+
+returns : tie.Need-returns Inv-loop μ-loop
+returns c =
+    let a = c .before .before .before .before .before .before .args in
+    let l = c .before .before .before .before .loop in
+    sym (stretch-stop (a .boxes .now) (a .first) (l .i) (length (a .boxes .now) - l .i) (omega arith) (λ e. c .if1 .taken (c .before .wide .ensures ∙ e)) (omega arith)) ∙ l .inv .1
+
+add-i : tie.Need-add-i Inv-loop μ-loop
+add-i c = search needs
+
+loop-less : tie.Need-loop-less Inv-loop μ-loop
+loop-less c = search needs
+
+loop-again : tie.Need-loop-again Inv-loop μ-loop
+loop-again c =
+    let a = c .before .before .before .before .before .before .args in
+    let l = c .before .before .before .before .loop in
+    (omega arith, sym (stretch-on (a .boxes .now) (a .first) (l .i) (length (a .boxes .now) - l .i) (omega arith) (sym (c .before .wide .ensures) ∙ c .if1 .left) (omega arith)) ∙ l .inv .1)
+
+returns-2 : tie.Need-returns-2 Inv-loop μ-loop
+returns-2 c =
+    let a = c .before .before .before .args in
+    let l = c .before .loop in
+    sym (stretch-end (a .boxes .now) (a .first) (l .i) (length (a .boxes .now) - l .i) (omega arith) (omega arith)) ∙ l .inv .1
+
+pub is-stretch-spec : {M : Type 1} → statement M
+is-stretch-spec =
+    tie.close
+    (tie.spec
+    Inv-loop
+    μ-loop
+    loop-holds
+    mul-wide
+    shared-slice-read-wide
+    wide-requires
+    add-if1
+    returns
+    add-i
+    loop-less
+    loop-again
+    returns-2)

@@ -1,0 +1,20 @@
+-- `validity::runs::starts_run` meets its contract, by the two cases.
+use borrow.Author.Tests.{eq-eqb, ne-eqb}
+use borrow.Author.Needs.{needs}
+use Rattle.validity.proofs.runs.starts_run.Statement.{statement}
+use Rattle.validity.proofs.runs.starts_run.Tie as tie
+
+returns : tie.Need-returns
+returns c = rw (eq-eqb _ _ (c .if1 .taken))
+
+sub-result : tie.Need-sub-result
+sub-result c = search needs
+
+shared-slice-read-result : tie.Need-shared-slice-read-result
+shared-slice-read-result c = search needs
+
+returns-2 : tie.Need-returns-2
+returns-2 c = rw (ne-eqb _ _ (c .before .if1 .left))
+
+pub starts-run-spec : {M : Type 1} → statement M
+starts-run-spec = tie.close (tie.spec returns sub-result shared-slice-read-result returns-2)
