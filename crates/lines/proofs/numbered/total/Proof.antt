@@ -1,0 +1,59 @@
+-- `lines::numbered::total` meets its contract: what is counted and what is left make up the sum.
+use mathlib.Core.Path.{_≡_}
+use Prim.Native.Nat.{_+_, _-_, _≤_}
+use native.Mathlib.Omega.{arith}
+use lib.ListN.{length, drop}
+use Rattle.ints.specs.Lists.{sum}
+use Rattle.writing.proofs.Walks.{sum-on, sum-end}
+use borrow.Author.Needs.{needs}
+use Rattle.lines.proofs.numbered.total.Statement.{statement}
+use Rattle.lines.proofs.numbered.total.Tie as tie
+
+abbrev Inv-loop : tie.InvT-loop
+Inv-loop counts n₀ i₀ n i = (i ≤ length counts) × (n + sum (drop i counts) ≡ sum counts)
+
+abbrev μ-loop : tie.MeasureT-loop
+μ-loop counts n₀ i₀ n i = length counts - i
+
+loop-holds : tie.Need-loop-holds Inv-loop μ-loop
+loop-holds c = (omega arith, omega arith)
+
+mul-wide : tie.Need-mul-wide Inv-loop μ-loop
+mul-wide c = search needs
+
+shared-slice-read-wide : tie.Need-shared-slice-read-wide Inv-loop μ-loop
+shared-slice-read-wide c = search needs
+
+wide-requires : tie.Need-wide-requires Inv-loop μ-loop
+wide-requires c κs = search needs
+
+add-n : tie.Need-add-n Inv-loop μ-loop
+add-n c = omega (arith, sum-on (c .before .before .before .before .before .args .counts .now) (c .before .before .before .loop .i) (c .before .before .loop-test .taken))
+
+add-i : tie.Need-add-i Inv-loop μ-loop
+add-i c = search needs
+
+loop-less : tie.Need-loop-less Inv-loop μ-loop
+loop-less c = search needs
+
+loop-again : tie.Need-loop-again Inv-loop μ-loop
+loop-again c = (omega arith, omega (arith, sum-on (c .before .before .before .before .before .args .counts .now) (c .before .before .before .loop .i) (c .before .before .loop-test .taken)))
+
+returns : tie.Need-returns Inv-loop μ-loop
+returns c = omega (arith, sum-end (c .before .before .before .args .counts .now) (c .before .loop .i) (c .loop-test .left))
+
+pub total-spec : {M : Type 1} → statement M
+total-spec =
+    tie.close
+    (tie.spec
+    Inv-loop
+    μ-loop
+    loop-holds
+    mul-wide
+    shared-slice-read-wide
+    wide-requires
+    add-n
+    add-i
+    loop-less
+    loop-again
+    returns)

@@ -1,0 +1,128 @@
+-- `three_passes::three::three_passes` meets its contract: the doubled distances and the marks are the state before the first visit.
+use Prim.Native.Nat.{ℕ, _≤_}
+use mathlib.Core.Path.{_≡_, sym, _∙_}
+use mathlib.Core.Bool.{Bool, false}
+use mathlib.Core.List.{List, _++_}
+use native.Mathlib.Omega.{arith}
+use lib.ListN.{length, take, drop, replicate}
+use lib.Seq.{length-take-le}
+use Rattle.positions.proofs.CodePositions.{first-fit, first-is, first-count}
+use Rattle.three_passes.proofs.StartLaws.{vertices-few, boxes-count, vertices-count, loose-asks, at-start}
+use Rattle.three_passes.proofs.three.three_passes.Statement.{statement}
+use Rattle.three_passes.proofs.three.three_passes.Tie as tie
+
+array-borrow-prefix-apart : tie.Need-array-borrow-prefix-apart
+array-borrow-prefix-apart c = vertices-few (c .before .before .before .before .before .before .before .before .before .pre .lists)
+
+slice-aggregate-distances : tie.Need-slice-aggregate-distances
+slice-aggregate-distances c = sym (length-take-le (length (c .before .before .before .before .before .before .before .before .before .before .args .vias .now)) (replicate 1024 0) (vertices-few (c .before .before .before .before .before .before .before .before .before .before .pre .lists)))
+
+distances-requires : tie.Need-distances-requires
+distances-requires c κs = let l = c .before .before .before .before .before .before .before .before .before .before .pre .lists in
+    (vertices-count l ∙ sym (boxes-count l), length-take-le (length (c .before .before .before .before .before .before .before .before .before .before .args .vias .now)) (replicate 1024 0) (vertices-few (c .before .before .before .before .before .before .before .before .before .before .pre .lists)) ∙ sym (boxes-count l))
+
+array-share-prefix-apart : tie.Need-array-share-prefix-apart
+array-share-prefix-apart c = let d = c .before .distances in let n = length (c .before .before .before .before .before .before .before .before .before .before .before .before .args .vias .now) in first-fit (d .last .1 .1 .1 .0) (drop n (replicate 1024 0)) n (d .kept .1 .1 .1 .0 ∙ length-take-le n (replicate 1024 0) (vertices-few (c .before .before .before .before .before .before .before .before .before .before .before .before .pre .lists)))
+
+slice-aggregate-mark-loose : tie.Need-slice-aggregate-mark-loose
+slice-aggregate-mark-loose c = let d = c .before .before .distances in let n = length (c .before .before .before .before .before .before .before .before .before .before .before .before .before .args .vias .now) in first-count (d .last .1 .1 .1 .0) (drop n (replicate 1024 0)) n (d .kept .1 .1 .1 .0 ∙ length-take-le n (replicate 1024 0) (vertices-few (c .before .before .before .before .before .before .before .before .before .before .before .before .before .pre .lists)))
+
+array-borrow-prefix-marks : tie.Need-array-borrow-prefix-marks
+array-borrow-prefix-marks c = vertices-few (c .before .before .before .before .before .before .before .before .before .before .before .before .before .before .pre .lists)
+
+slice-aggregate-mark-loose-2 : tie.Need-slice-aggregate-mark-loose-2
+slice-aggregate-mark-loose-2 c = sym (length-take-le (length (c .before .before .before .before .before .before .before .before .before .before .before .before .before .before .before .args .vias .now)) (replicate 1024 false) (vertices-few (c .before .before .before .before .before .before .before .before .before .before .before .before .before .before .before .pre .lists)))
+
+mark-loose-requires : tie.Need-mark-loose-requires
+mark-loose-requires c κs =
+    let some = c .before .before .before .before .before .before .before .before .before .before .before .before .before .before .before .pre in
+    let d = c .before .before .before .before .distances in
+    let n = length (c .before .before .before .before .before .before .before .before .before .before .before .before .before .before .before .args .vias .now) in
+    let long : length (d .last .1 .1 .1 .0) ≡ n = d .kept .1 .1 .1 .0 ∙ length-take-le n (replicate 1024 0) (vertices-few (c .before .before .before .before .before .before .before .before .before .before .before .before .before .before .before .pre .lists)) in
+    let rest : List ℕ = drop n (replicate 1024 0) in
+    let is : take n (d .last .1 .1 .1 .0 ++ rest) ≡ d .last .1 .1 .1 .0 = first-is (d .last .1 .1 .1 .0) rest n long in (
+      (vertices-count (some .lists), length-take-le n (replicate 1024 false) (vertices-few (some .lists))),
+      loose-asks (some .lists) (λ g h. is ∙ d .ensures (some .plan) g h) (some .preliminaries) (sym (first-count (d .last .1 .1 .1 .0) rest n long)),
+    )
+
+array-borrow-prefix-apart-2 : tie.Need-array-borrow-prefix-apart-2
+array-borrow-prefix-apart-2 c = let d = c .before .before .before .before .before .before .before .distances in let n = length (c .before .before .before .before .before .before .before .before .before .before .before .before .before .before .before .before .before .before .args .vias .now) in first-fit (d .last .1 .1 .1 .0) (drop n (replicate 1024 0)) n (d .kept .1 .1 .1 .0 ∙ length-take-le n (replicate 1024 0) (vertices-few (c .before .before .before .before .before .before .before .before .before .before .before .before .before .before .before .before .before .before .pre .lists)))
+
+slice-aggregate-run-passes : tie.Need-slice-aggregate-run-passes
+slice-aggregate-run-passes c = let d = c .before .before .before .before .before .before .before .before .distances in let n = length (c .before .before .before .before .before .before .before .before .before .before .before .before .before .before .before .before .before .before .before .args .vias .now) in first-count (d .last .1 .1 .1 .0) (drop n (replicate 1024 0)) n (d .kept .1 .1 .1 .0 ∙ length-take-le n (replicate 1024 0) (vertices-few (c .before .before .before .before .before .before .before .before .before .before .before .before .before .before .before .before .before .before .before .pre .lists)))
+
+array-borrow-prefix-marks-2 : tie.Need-array-borrow-prefix-marks-2
+array-borrow-prefix-marks-2 c = let m = c .before .before .before .mark-loose in let n = length (c .before .before .before .before .before .before .before .before .before .before .before .before .before .before .before .before .before .before .before .args .vias .now) in first-fit (m .last .1 .1 .1 .1 .0) (drop n (replicate 1024 false)) n (m .kept .1 .1 .1 .1 .0 ∙ length-take-le n (replicate 1024 false) (vertices-few (c .before .before .before .before .before .before .before .before .before .before .before .before .before .before .before .before .before .before .before .pre .lists)))
+
+slice-aggregate-run-passes-2 : tie.Need-slice-aggregate-run-passes-2
+slice-aggregate-run-passes-2 c = let m = c .before .before .before .before .mark-loose in let n = length (c .before .before .before .before .before .before .before .before .before .before .before .before .before .before .before .before .before .before .before .before .args .vias .now) in first-count (m .last .1 .1 .1 .1 .0) (drop n (replicate 1024 false)) n (m .kept .1 .1 .1 .1 .0 ∙ length-take-le n (replicate 1024 false) (vertices-few (c .before .before .before .before .before .before .before .before .before .before .before .before .before .before .before .before .before .before .before .before .pre .lists)))
+
+run-passes-requires : tie.Need-run-passes-requires
+run-passes-requires c κs =
+    let some = c .before .before .before .before .before .before .before .before .before .before .before .before .before .before .before .before .before .before .before .before .before .before .before .before .before .pre in
+    let d = c .before .before .before .before .before .before .before .before .before .before .before .before .before .before .distances in
+    let n = length (c .before .before .before .before .before .before .before .before .before .before .before .before .before .before .before .before .before .before .before .before .before .before .before .before .before .args .vias .now) in
+    let long : length (d .last .1 .1 .1 .0) ≡ n = d .kept .1 .1 .1 .0 ∙ length-take-le n (replicate 1024 0) (vertices-few (c .before .before .before .before .before .before .before .before .before .before .before .before .before .before .before .before .before .before .before .before .before .before .before .before .before .pre .lists)) in
+    let rest : List ℕ = drop n (replicate 1024 0) in
+    let is : take n (d .last .1 .1 .1 .0 ++ rest) ≡ d .last .1 .1 .1 .0 = first-is (d .last .1 .1 .1 .0) rest n long in
+    let m = c .before .before .before .before .before .before .before .before .before .mark-loose in
+    let marked : length (m .last .1 .1 .1 .1 .0) ≡ n = m .kept .1 .1 .1 .1 .0 ∙ length-take-le n (replicate 1024 false) (vertices-few (c .before .before .before .before .before .before .before .before .before .before .before .before .before .before .before .before .before .before .before .before .before .before .before .before .before .pre .lists)) in
+    let others : List Bool = drop n (replicate 1024 false) in
+    let marks-are : take n (m .last .1 .1 .1 .1 .0 ++ others) ≡ m .last .1 .1 .1 .1 .0 = first-is (m .last .1 .1 .1 .1 .0) others n marked in
+    record { plan = some .plan; is = at-start (some .lists) (λ g h. is ∙ d .ensures (some .plan) g h) (some .preliminaries) (marks-are ∙ m .ensures) (some .unlisted) }
+
+same-length : tie.Need-same-length
+same-length c = c .before .before .before .before .before .before .before .before .before .before .before .before .run-passes .kept .1 .1 .1 .1 .0
+
+same-length-2 : tie.Need-same-length-2
+same-length-2 c = c .before .before .before .before .before .before .before .before .before .before .before .before .run-passes .kept .1 .1 .1 .1 .1 .1 .1 .0
+
+same-length-3 : tie.Need-same-length-3
+same-length-3 c = c .before .before .before .before .before .before .before .before .before .before .before .before .run-passes .kept .1 .1 .1 .1 .1 .1 .1 .1 .0
+
+same-length-4 : tie.Need-same-length-4
+same-length-4 c = c .before .before .before .before .before .before .before .before .before .before .before .before .run-passes .kept .1 .1 .1 .1 .1 .1 .1 .1 .1 .0
+
+same-length-5 : tie.Need-same-length-5
+same-length-5 c = c .before .before .before .before .before .before .before .before .before .before .before .before .run-passes .kept .1 .1 .1 .1 .1 .1 .1 .1 .1 .1 .0
+
+same-length-6 : tie.Need-same-length-6
+same-length-6 c = c .before .before .before .before .before .before .before .before .before .before .before .before .run-passes .kept .1 .1 .1 .1 .1 .1 .1 .1 .1 .1 .1 .0
+
+returns : tie.Need-returns
+returns c =
+    let d = c .before .before .before .before .before .before .before .before .before .before .before .before .before .before .before .before .before .before .before .before .before .before .before .before .before .before .before .distances in
+    let n = length (c .before .before .before .before .before .before .before .before .before .before .before .before .before .before .before .before .before .before .before .before .before .before .before .before .before .before .before .before .before .before .before .before .before .before .before .before .before .before .args .vias .now) in
+    let long : length (d .last .1 .1 .1 .0) ≡ n = d .kept .1 .1 .1 .0 ∙ length-take-le n (replicate 1024 0) (vertices-few (c .before .before .before .before .before .before .before .before .before .before .before .before .before .before .before .before .before .before .before .before .before .before .before .before .before .before .before .before .before .before .before .before .before .before .before .before .before .before .pre .lists)) in
+    let rest : List ℕ = drop n (replicate 1024 0) in
+    let is : take n (d .last .1 .1 .1 .0 ++ rest) ≡ d .last .1 .1 .1 .0 = first-is (d .last .1 .1 .1 .0) rest n long in
+    let m = c .before .before .before .before .before .before .before .before .before .before .before .before .before .before .before .before .before .before .before .before .before .before .mark-loose in
+    let marked : length (m .last .1 .1 .1 .1 .0) ≡ n = m .kept .1 .1 .1 .1 .0 ∙ length-take-le n (replicate 1024 false) (vertices-few (c .before .before .before .before .before .before .before .before .before .before .before .before .before .before .before .before .before .before .before .before .before .before .before .before .before .before .before .before .before .before .before .before .before .before .before .before .before .before .pre .lists)) in
+    let others : List Bool = drop n (replicate 1024 false) in
+    let marks-are : take n (m .last .1 .1 .1 .1 .0 ++ others) ≡ m .last .1 .1 .1 .1 .0 = first-is (m .last .1 .1 .1 .1 .0) others n marked in
+    λ p l a. c .before .before .before .before .before .before .before .before .before .before .before .before .run-passes .ensures p (at-start l (λ g h. is ∙ d .ensures p g h) a (marks-are ∙ m .ensures) (c .before .before .before .before .before .before .before .before .before .before .before .before .before .before .before .before .before .before .before .before .before .before .before .before .before .before .before .before .before .before .before .before .before .before .before .before .before .before .pre .unlisted))
+
+pub three-passes-spec : {M : Type 1} → statement M
+three-passes-spec =
+    tie.close
+    (tie.spec
+    array-borrow-prefix-apart
+    slice-aggregate-distances
+    distances-requires
+    array-share-prefix-apart
+    slice-aggregate-mark-loose
+    array-borrow-prefix-marks
+    slice-aggregate-mark-loose-2
+    mark-loose-requires
+    array-borrow-prefix-apart-2
+    slice-aggregate-run-passes
+    array-borrow-prefix-marks-2
+    slice-aggregate-run-passes-2
+    run-passes-requires
+    same-length
+    same-length-2
+    same-length-3
+    same-length-4
+    same-length-5
+    same-length-6
+    returns)
