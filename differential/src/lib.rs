@@ -1,3 +1,4 @@
 //! The proved libraries behind safe wrappers.
 
 pub mod proved;
+pub mod proved_draw;

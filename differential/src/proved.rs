@@ -21,6 +21,10 @@ extern "C" {
         answer: *mut i64,
         answer_len: usize,
     ) -> u32;
+
+    fn read_c(text: *const u8, text_len: usize) -> u32;
+
+    fn reread_c(text: *const u8, text_len: usize, out: *mut u8, out_len: usize) -> i64;
 }
 
 /// The proved place-run: 0 if accepted, 8 if refused. The request's own answer buffer stays; `answer` is written.
@@ -45,4 +49,18 @@ pub fn place_run(q: &Request, answer: &mut [i64]) -> u32 {
             answer.len(),
         )
     }
+}
+
+/// The proved reader: 0 if the text is accepted, else the number of its refusal.
+pub fn read(text: &[u8]) -> u32 {
+    // The function reads the lent slice alone, within its length.
+    unsafe { read_c(text.as_ptr(), text.len()) }
+}
+
+/// The proved reader and writer: how many bytes of the plan's text were written into the buffer. Else the number of the
+/// refusal, 14 if the buffer is too short, and the buffer is as it was.
+pub fn reread(text: &[u8], out: &mut [u8]) -> Result<usize, u32> {
+    // The function reads and writes the lent slices alone, within their lengths.
+    let code = unsafe { reread_c(text.as_ptr(), text.len(), out.as_mut_ptr(), out.len()) };
+    usize::try_from(code).map_err(|_| code.unsigned_abs() as u32)
 }

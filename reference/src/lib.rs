@@ -7,8 +7,8 @@
 //! - [`passes`] goes over the levels three times, places their runs and lists the placings;
 //! - [`report`] prints the drawing, and reads a printed one.
 //!
-//! Beside them: [`generate`] makes random plan texts, [`requests`] requests for place-run, and [`check`] judges a finished drawing by what was promised of
-//! it, without following the method.
+//! Beside them: [`generate`] makes random plan texts, [`edges`] those at the edge of each check, [`readings`] lists texts with
+//! what reading them gives, [`requests`] makes requests for place-run, and [`check`] judges a finished drawing by what was promised of it, without following the method.
 //!
 //! Positions are whole half steps throughout, except inside [`preliminary`], where the two placements are in steps.
 //! Vertices, levels and lines count from 0; printed levels and passes count from 1.
@@ -19,6 +19,7 @@
 pub mod check;
 mod cursor;
 mod damage;
+pub mod edges;
 pub mod generate;
 pub mod half_steps;
 pub mod jumps;
@@ -27,6 +28,7 @@ pub mod place_run;
 pub mod plan;
 pub mod preliminary;
 pub mod random;
+pub mod readings;
 pub mod report;
 pub mod requests;
 pub mod text;

@@ -8,7 +8,7 @@ use std::process::ExitCode;
 use reference::plan::Plan;
 use reference::random::Random;
 use reference::requests::{self, Request};
-use reference::{check, generate, passes, preliminary, report, text};
+use reference::{check, generate, passes, preliminary, readings, report, text};
 
 const USAGE: &str = "\
 reference report < PLAN          the report, or (refused N)
@@ -21,11 +21,17 @@ reference gen KIND SEED          a random plan text
 reference vectors DIR            compares the report of every NAME.plan with NAME.report
 reference requests COUNT         cases 3 to 7 and COUNT random requests for place-run, a line each
 reference outcomes COUNT         what place-run answers to them, a line each
+reference texts DIR COUNT        plan texts, each after a line with its length: those at the edges of the checks, the
+                                 short plans in the folder, COUNT random damaged ones
+reference readings DIR COUNT     what reading them gives, a line each: (accepted LENGTH) or (refused N)
 KIND: small medium wide deep vias max tangled damaged
 ";
 
 /// Most characters in the line of a request that is listed.
 const MOST_IN_LINE: usize = 300;
+
+/// Most bytes of a plan in a folder that is listed.
+const MOST_IN_PLAN: usize = 2_000;
 
 fn main() -> ExitCode {
     let arguments: Vec<String> = std::env::args_os().skip(1).map(|word| word.to_string_lossy().into_owned()).collect();
@@ -54,6 +60,8 @@ fn run(words: &[&str]) -> io::Result<bool> {
         ["vectors", folder] => vectors(Path::new(folder)),
         ["requests", count] => print(lines(number(count)?, |q| q.to_string()).as_bytes()),
         ["outcomes", count] => print(lines(number(count)?, Request::outcome_line).as_bytes()),
+        ["texts", folder, count] => print(&listed(folder, count, readings::with_length)?),
+        ["readings", folder, count] => print(&listed(folder, count, readings::outcome)?),
         _ => Err(wrong(USAGE)),
     }
 }
@@ -131,11 +139,25 @@ fn lines(count: u64, say: impl Fn(&Request) -> String) -> String {
     requests::cases().into_iter().chain(short).map(|q| say(&q) + "\n").collect()
 }
 
-/// Whether all reports in a folder are those of the plans beside them; names those that are not.
-fn vectors(folder: &Path) -> io::Result<bool> {
+/// What is to be said of plan texts: those at the edges of the checks, the short ones in a folder, and random ones.
+fn listed(folder: &str, count: &str, say: impl Fn(&[u8]) -> Vec<u8>) -> io::Result<Vec<u8>> {
+    let mut given: Vec<Vec<u8>> = plans(Path::new(folder))?.iter().map(fs::read).collect::<io::Result<_>>()?;
+    given.retain(|text| text.len() <= MOST_IN_PLAN);
+    let texts = readings::texts(given, usize::try_from(number(count)?).unwrap_or(0));
+    Ok(texts.iter().flat_map(|text| say(text)).collect())
+}
+
+/// The files NAME.plan in a folder, by name.
+fn plans(folder: &Path) -> io::Result<Vec<PathBuf>> {
     let files: Vec<PathBuf> = fs::read_dir(folder)?.map(|entry| Ok(entry?.path())).collect::<io::Result<_>>()?;
     let mut plans: Vec<PathBuf> = files.into_iter().filter(|file| file.extension() == Some("plan".as_ref())).collect();
     plans.sort();
+    Ok(plans)
+}
+
+/// Whether all reports in a folder are those of the plans beside them; names those that are not.
+fn vectors(folder: &Path) -> io::Result<bool> {
+    let plans = plans(folder)?;
     let mut result = String::new();
     let mut differ = 0;
     for plan in &plans {

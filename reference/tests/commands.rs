@@ -107,8 +107,24 @@ fn vectors_are_compared() {
 }
 
 #[test]
+fn texts_and_their_readings() {
+    let folder = env::temp_dir().join(format!("reference-{}.texts", process::id()));
+    fs::create_dir_all(&folder).expect("a folder");
+    fs::write(folder.join("a.plan"), CASE_1).expect("a file");
+    fs::write(folder.join("b.plan"), [b' '; 3_000]).expect("a file");
+    let name = folder.to_str().expect("a name");
+    let (code, texts) = run(&["texts", name, "0"], b"");
+    assert_eq!((code, texts.ends_with(&[b"122\n", CASE_1].concat())), (WELL, true));
+    let (code, readings) = run(&["readings", name, "0"], b"");
+    assert_eq!((code, readings.ends_with(b"(accepted 122)\n")), (WELL, true));
+    let lines = |count| run(&["readings", name, count], b"").1.iter().filter(|&&byte| byte == b'\n').count();
+    assert_eq!(lines("5"), lines("0") + 5);
+    fs::remove_dir_all(&folder).expect("the folder");
+}
+
+#[test]
 fn wrong_requests() {
-    let wrong: [&[&str]; 16] = [
+    let wrong: [&[&str]; 18] = [
         &[],
         &[""],
         &["draw"],
@@ -124,6 +140,8 @@ fn wrong_requests() {
         &["gen", "small", "1", "2"],
         &["vectors"],
         &["vectors", "no such folder"],
+        &["texts", "no such folder", "1"],
+        &["readings", ".", "x"],
         &["check", "no such file"],
     ];
     for words in wrong {

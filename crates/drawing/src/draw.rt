@@ -7,7 +7,7 @@ ghost use Rattle.plan.specs.Plan.{PlanData};
 ghost use Rattle.starting.specs.Lists.{Lists};
 ghost use Rattle.drawing.specs.Made.{Blank, Made};
 
-fn copy_positions(from: &[i64], to: &mut [i64])
+pub fn copy_positions(from: &[i64], to: &mut [i64])
     requires { ⌜ length (now to) ≡ length (now from) ⌝ }
     ensures { λ _. ⌜ now (to .exit) ≡ now (from .entry) ⌝ }
 {

@@ -1,14 +1,14 @@
--- Laws of lists that the kit does not have: `over`, and `map` with a part, a store and a load. Assumes nothing.
+-- Laws of lists that the kit does not have: `over`, `concat`, and `map` with a part, a store and a load. Assumes nothing.
 -- Elsewhere: `length-map`, `List·getD-map` (lib.ListN), `map-append`, `map-map` (mathlib.Core.List), and of `over` itself,
 -- which is an append, `take-append-seam`, `drop-append-seam`, `set-append-left` (lib.Seq), `List·getD-append` (lib.ListN).
 use Prim.Native.Nat.{ℕ, zero, suc, _+_, _<_, _≤_}
-use mathlib.Core.Path.{_≡_, refl, _∙_, ap}
+use mathlib.Core.Path.{_≡_, refl, sym, _∙_, ap}
 use mathlib.Core.List.{List, [], _∷_, _++_, map, append-assoc, append-nil, map-append}
 use native.Mathlib.Omega.{arith}
 use native.Mathlib.Numerals.{add-one}
 use lib.ListN.{length, take, drop, set, getD, length-append, length-drop, length-map, drop-of-length-le}
 use lib.Seq.{drop-cons, set-at, take-suc, length-take-le}
-use Rattle.ints.specs.Lists.{over}
+use Rattle.ints.specs.Lists.{over, sum, concat}
 
 -- ---- a list that a loop fills
 module _ {A : Type 0} where
@@ -26,6 +26,22 @@ module _ {A : Type 0} where
   -- once it is full nothing of the old is left
   pub over-all : (xs o : List A) → length o ≤ length xs → over xs o ≡ xs
   over-all xs o h = rw (drop-of-length-le o h, append-nil)
+
+-- ---- lists one after another
+module _ {A : Type 0} where
+  pub concat-append : (a b : List (List A)) → concat (a ++ b) ≡ concat a ++ concat b
+  unfolding concat
+  concat-append [] b = refl
+  concat-append (l ∷ a) b = rw (concat-append a b) (sym (append-assoc l (concat a) (concat b)))
+
+  pub concat-one : (l : List A) → concat (l ∷ []) ≡ l
+  unfolding concat
+  concat-one l = append-nil l
+
+  pub concat-length : (ls : List (List A)) → length (concat ls) ≡ sum (map length ls)
+  unfolding concat sum
+  concat-length [] = refl
+  concat-length (l ∷ ls) = rw (length-append l (concat ls), concat-length ls)
 
 -- ---- map
 module _ {A B : Type 0} (f : A → B) where

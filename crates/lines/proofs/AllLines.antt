@@ -14,7 +14,7 @@ use Rattle.plan.specs.Plan.{numbers, levelIn, levelOf, heightOf}
 use Rattle.plan.specs.Graph.{Levelled}
 use Rattle.writing.specs.Written.{Room, Wrote, Fronts}
 use Rattle.writing.proofs.Written.{front-of}
-use Rattle.writing.proofs.LineLaws.{concat-append, concat-one}
+use Rattle.ints.proofs.Lists.{concat-append, concat-one}
 use Rattle.writing.proofs.Walks.{sum-on}
 use Rattle.passes.specs.Stored.{placingsFrom}
 use Rattle.report.specs.Lines.{vertexOfLine, drawingLine, atLineOf, placeLine, endLine, reportLines}

@@ -14,7 +14,7 @@ use Rattle.plan.specs.Limits.{maxLevels, maxSpacing, maxOnLevel, maxVertices}
 use Rattle.plan.specs.Plan.{PlanData, vertexCount, numbers, levelIn, levelOf, heightOf}
 use Rattle.text.specs.Decimal.{signed}
 use Rattle.text.proofs.DecimalLaws.{decimal-length}
-use Rattle.writing.proofs.LineLaws.{concat-append}
+use Rattle.ints.proofs.Lists.{concat-append}
 use Rattle.passes.specs.State.{positionOf}
 use Rattle.passes.specs.Drawing.{BoxAt, Placing, Drawing}
 use Rattle.passes.specs.Words.{reach, isWithin, allWithin, boxesListed, maxListed, drawingWithin}

@@ -1,74 +1,49 @@
--- One round of the bisection for a meeting place, as a loop makes it. Assumes nothing.
-use mathlib.Core.Path.{_≡_, refl, sym, _∙_}
-use mathlib.Core.Bool.{Bool, true, false, cond}
-use Prim.Native.Nat.{ℕ, zero, suc, _+_, _-_, _≤_, _<_, _/_}
-use native.Mathlib.Omega.{arith}
-use native.Mathlib.Numerals.{add-one}
+-- The search for the meeting place of two halves, as a loop makes it: what is left is w wide, from lo right of the first
+-- position of the right half on. Assumes nothing.
+use mathlib.Core.Path.{_≡_, sym, _∙_, ap}
+use mathlib.Core.Bool.{true, false}
 use mathlib.Core.List.{List}
+use Prim.Native.Nat.{ℕ, _+_, _-_, _≤_, _<_}
+use native.Mathlib.Omega.{arith}
 use lib.IntN.{ℤ, pos, _+ℤ_, _-ℤ_}
-use Rattle.ints.specs.Ints.{P}
-use Rattle.ints.proofs.Laws.{sum, eq-make}
-use Rattle.run.proofs.Fast.{bisect, bisect-fuel}
-use Rattle.place_run.specs.Columns.{lastBefore, firstAfter, more, meetAt}
-
-pub plus-plus : (b : ℤ) (l h : ℕ) → (b +ℤ pos l) +ℤ pos h ≡ b +ℤ pos (l + h)
-plus-plus b l h = eq-make _ _ (omega (arith, sum b (pos l), sum (b +ℤ pos l) (pos h), sum b (pos (l + h))))
-
-pub plus-none : (b : ℤ) → b +ℤ pos 0 ≡ b
-plus-none b = eq-make _ _ (omega (arith, sum b (pos 0)))
-
-module _ (t : ℤ → Bool) (f : ℕ) (b : ℤ) where
-  -- the whole part is searched
-  pub round-end : bisect t f b 0 ≡ b
-  unfolding bisect
-  round-end = go f
-    where
-      go : (f : ℕ) → bisect t f b 0 ≡ b
-      go zero = refl
-      go (suc f) = refl
-
-  round : (w : ℕ) → 0 < w → w ≤ f → bisect t f b w ≡ cond (t (b +ℤ pos (w / 2))) (bisect t f b (w / 2)) (bisect t f (b +ℤ pos (w / 2 + 1)) (w - (w / 2 + 1)))
-  unfolding bisect
-  round w h k = go f w h k
-    where
-      go : (f w : ℕ) → 0 < w → w ≤ f → bisect t f b w ≡ cond (t (b +ℤ pos (w / 2))) (bisect t f b (w / 2)) (bisect t f (b +ℤ pos (w / 2 + 1)) (w - (w / 2 + 1)))
-      go zero w h k = absurd (omega arith)
-      go (suc f) zero h k = absurd (omega arith)
-      go (suc f) (suc w) h k = let i = suc w / 2 in let e : suc w - (i + 1) ≡ w - i = omega arith in
-          rw (e, add-one, bisect-fuel t f (suc f) b i (omega arith) (omega arith), bisect-fuel t f (suc f) (b +ℤ pos (suc i)) (w - i) (omega arith) (omega arith))
-
-  -- the test in its middle says in which half to go on
-  pub round-left : (w : ℕ) → 0 < w → w ≤ f → t (b +ℤ pos (w / 2)) ≡ true → bisect t f b w ≡ bisect t f b (w / 2)
-  round-left w h k e = round w h k ∙ rw e
-
-  pub round-right : (w : ℕ) → 0 < w → w ≤ f → t (b +ℤ pos (w / 2)) ≡ false → bisect t f b w ≡ bisect t f (b +ℤ pos (w / 2 + 1)) (w - (w / 2 + 1))
-  round-right w h k e = round w h k ∙ rw e
-
--- ---- the search for the meeting place: what is left is w wide, from lo right of the first position of the right half on
-abbrev pub overlap : ℕ → List ℤ → ℕ
-overlap k zs = P (lastBefore k zs -ℤ firstAfter k zs)
+use Rattle.ints.proofs.Laws.{sum, dif, eq-make}
+use Rattle.place_run.specs.Columns.{firstAfter, overlap, more, Beside, Tests, MeetAt}
 
 module _ (k n : ℕ) (zs : List ℤ) (cs : List ℕ) (ns : List ℤ) where
+  -- the place d right of where the search began
+  abbrev at : ℕ → ℤ
+  at d = firstAfter k zs +ℤ pos d
+
   pub record Searching (lo w : ℕ) : Type 0 where
     pub within : lo + w ≤ overlap k zs
-    pub same : bisect (λ m. more k n zs cs ns m) (overlap k zs) (firstAfter k zs +ℤ pos lo) w ≡ meetAt k n zs cs ns
+    pub fails : 0 < lo → more k n zs cs ns (firstAfter k zs +ℤ pos (lo - 1)) ≡ false
+    pub holds : lo + w < overlap k zs → more k n zs cs ns (firstAfter k zs +ℤ pos (lo + w)) ≡ true
 
   pub searching-start : Searching 0 (overlap k zs)
-  unfolding meetAt
-  searching-start = record { within = omega arith; same = rw (plus-none (firstAfter k zs)) }
+  searching-start = record { within = omega arith; fails = λ h. absurd (omega arith); holds = λ h. absurd (omega arith) }
 
-  pub searching-left : (lo w : ℕ) → 0 < w → Searching lo w → more k n zs cs ns (firstAfter k zs +ℤ pos (lo + w / 2)) ≡ true → Searching lo (w / 2)
-  searching-left lo w h q e = let b = firstAfter k zs in record {
-    within = omega (arith, q .within);
-    same = sym (round-left (λ m. more k n zs cs ns m) (overlap k zs) (b +ℤ pos lo) w h (omega (arith, q .within)) (rw (plus-plus b lo (w / 2)) e)) ∙ q .same;
+  beside-at : (d e b f : ℕ) → d ≤ e + b → e < d + f → Beside (at d) b f (at e)
+  beside-at d e b f h g = let s = sum (firstAfter k zs) (pos d) in let t = sum (firstAfter k zs) (pos e) in (omega arith, omega arith)
+
+  module _ (lo w h b f : ℕ) (below : h < w) (q : Searching lo w) where
+    pub searching-left : Tests k n zs cs ns (firstAfter k zs +ℤ pos (lo + h)) h (w - h) true b f → Searching lo (h - b)
+    searching-left t = record {
+      within = omega (arith, q .within);
+      fails = q .fails;
+      holds = λ g. sym (t .tests (at (lo + (h - b))) (beside-at (lo + h) (lo + (h - b)) b f (omega arith) (omega (arith, t .around .some))));
+    }
+
+    pub searching-right : Tests k n zs cs ns (firstAfter k zs +ℤ pos (lo + h)) h (w - h) false b f → Searching (lo + (h + f)) (w - (h + f))
+    searching-right t = let r = t .around .right in let s = t .around .some in record {
+      within = omega (arith, q .within);
+      fails = λ g. sym (t .tests (at (lo + (h + f) - 1)) (beside-at (lo + h) (lo + (h + f) - 1) b f (omega arith) (omega arith)));
+      holds = λ g. let e : lo + (h + f) + (w - (h + f)) ≡ lo + w = omega arith in ap (λ (d : ℕ). more k n zs cs ns (at d)) e ∙ q .holds (omega arith);
+    }
+
+  pub searching-end : (lo : ℕ) → Searching lo 0 → MeetAt k n zs cs ns (firstAfter k zs +ℤ pos lo)
+  searching-end lo q = let v = firstAfter k zs in let s = sum v (pos lo) in record {
+    low = omega arith;
+    high = omega (arith, q .within);
+    holds = λ g. let e : lo + 0 ≡ lo = omega arith in sym (ap (λ (d : ℕ). more k n zs cs ns (at d)) e) ∙ q .holds (omega arith);
+    fails = λ g. let e : at lo -ℤ pos 1 ≡ at (lo - 1) = eq-make _ _ (omega (arith, dif (at lo) (pos 1), sum v (pos (lo - 1)))) in ap (λ (x : ℤ). more k n zs cs ns x) e ∙ q .fails (omega arith);
   }
-
-  pub searching-right : (lo w : ℕ) → 0 < w → Searching lo w → more k n zs cs ns (firstAfter k zs +ℤ pos (lo + w / 2)) ≡ false → Searching (lo + (w / 2 + 1)) (w - (w / 2 + 1))
-  searching-right lo w h q e = let b = firstAfter k zs in record {
-    within = omega (arith, q .within);
-    same = rw (← plus-plus b lo (w / 2 + 1))
-        (sym (round-right (λ m. more k n zs cs ns m) (overlap k zs) (b +ℤ pos lo) w h (omega (arith, q .within)) (rw (plus-plus b lo (w / 2)) e)) ∙ q .same);
-  }
-
-  pub searching-end : (lo : ℕ) → Searching lo 0 → firstAfter k zs +ℤ pos lo ≡ meetAt k n zs cs ns
-  searching-end lo q = sym (round-end (λ m. more k n zs cs ns m) (overlap k zs) (firstAfter k zs +ℤ pos lo)) ∙ q .same

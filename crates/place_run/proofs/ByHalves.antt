@@ -1,25 +1,29 @@
 -- A run placed by halves over its columns is placed as the definition has it. Assumes nothing.
-use mathlib.Core.Path.{_≡_, refl, sym, _∙_, ap, fun-ext}
+use mathlib.Core.Path.{_≡_, refl, sym, _∙_, ap, subst, fun-ext}
 use mathlib.Core.Bool.{Bool, true, false, cond, not}
-use mathlib.Core.List.{List, [], _∷_, _++_}
+use mathlib.Core.List.{List, [], _∷_, _++_, map}
 use Prim.Native.Nat.{ℕ, zero, suc, _+_, _-_, _≤_, _<_, _/_}
 use native.Mathlib.Omega.{arith}
 use lib.ListN.{length, take, drop, getD, set, length-take, length-drop, length-append, List·getD-append}
 use lib.Seq.{take-at, drop-at, take-take, drop-drop, take-all, drop-nil, getD-append-add}
 use lib.IntN.{ℤ, pos, _-ℤ_}
 use lib.Signed.{ltZ}
-use Rattle.ints.specs.Ints.{P, size}
-use Rattle.run.specs.Run.{Bound as Limit, Box, startOf, firstOf, lastOf}
+use Rattle.ints.specs.Ints.{P, size, _⊏_}
+use Rattle.ints.proofs.Laws.{casesZ, make-lt-true, make-lt-false}
+use Rattle.run.specs.Run.{Bound as Limit, Box, nondecreasing, startOf, firstOf, lastOf}
+use Rattle.run.proofs.Feasible.{Room, AllConvex, all-nil, all-cons}
 use Rattle.run.proofs.PlaceBest.{clamp}
-use Rattle.run.proofs.Sorted.{countUpTo}
+use Rattle.run.proofs.Sorted.{and-left, and-right, sorted, countUpTo}
+use Rattle.run.proofs.Median.{start-convex}
+use Rattle.run.proofs.Coordinates.{price}
 use Rattle.run.proofs.Meet.{cutAt, raiseTo}
-use Rattle.run.proofs.Fast.{bisect, leftUpTo, leftBeyond, rightUpTo, rightBeyond, moreUpTo, meetingPlace, joinFast, placeFast}
+use Rattle.run.proofs.Fast.{Bisected, leftUpTo, leftBeyond, rightUpTo, rightBeyond, moreUpTo, joinFast, placeFast, fast-meet}
 use Rattle.ints.specs.Lists.{sum}
 use Rattle.place_run.specs.Call.{boxesFrom}
-use Rattle.place_run.specs.Columns.{Small, maxSize, Cut, upTo, beyond, more, lastBefore, firstAfter, meetAt, joined}
-use Rattle.place_run.specs.Halves.{Ready, Placed}
+use Rattle.place_run.specs.Columns.{partsInOrder, Columns, maxSize, Cut, upTo, beyond, more, lastBefore, firstAfter, Joined}
+use Rattle.place_run.specs.Halves.{Placed}
 use Rattle.place_run.proofs.Columns.{drop-take, columns-take, columns-drop}
-use Rattle.place_run.proofs.Small.{sized-take, sized-drop, sized-append, small-one, small-joined}
+use Rattle.place_run.proofs.Small.{sized-append, small-joined}
 
 -- ---- the boxes of the columns
 pub length-boxes : (os : List ℤ) (ds cs : List ℕ) (ns : List ℤ) → length os ≡ length cs → length (boxesFrom os ds cs ns) ≡ length os
@@ -134,14 +138,27 @@ module _ (k n : ℕ) (xs ys os os′ : List ℤ) (ds ds′ cs : List ℕ) (ns : 
   first-after h = let e : k ≡ length xs + 0 = omega arith in
       ap (λ (i : ℕ). getD (xs ++ ys) i (pos 0)) e ∙ getD-append-add xs ys 0 (pos 0) ∙ first-is ys h
 
-  pub meeting-is : 0 < k → 0 < length ys → meetAt k n (xs ++ ys) cs ns ≡ meetingPlace (boxesFrom os ds (take k cs) (take n ns)) (boxesFrom os′ ds′ (drop k cs) (drop n ns)) xs ys
-  unfolding meetAt meetingPlace
-  meeting-is hk hy = let w = P (lastOf xs -ℤ firstOf ys) in
-      rw (last-before hk, first-after hy) (ap (λ (t : ℤ → Bool). bisect t w (firstOf ys) w) (fun-ext more-is))
+  -- the join of two placed halves
+  module _ (L H : Limit) (f : ℕ) (out : List ℤ) (hk : 0 < k) (hy : 0 < length ys) (j : Joined k n (xs ++ ys) cs ns out) where
+    abbrev C : List Box
+    C = boxesFrom os ds (take k cs) (take n ns)
 
-  pub joined-is : 0 < k → 0 < length ys → joined k n (xs ++ ys) cs ns ≡ joinFast (boxesFrom os ds (take k cs) (take n ns)) (boxesFrom os′ ds′ (drop k cs) (drop n ns)) xs ys
-  unfolding joined joinFast
-  joined-is hk hy = rw (last-before hk, first-after hy, take-at xs ys k ek, drop-at xs ys k ek, meeting-is hk hy)
+    abbrev B : List Box
+    B = boxesFrom os′ ds′ (drop k cs) (drop n ns)
+
+    outcome : out ≡ cond (ltZ (firstOf ys) (lastOf xs)) (cutAt (j .place) xs ++ raiseTo (j .place) ys) (xs ++ ys)
+    outcome = rw (last-before hk, first-after hy, take-at xs ys k ek, drop-at xs ys k ek) at (j .outcome)
+
+    meets : firstOf ys ⊏ lastOf xs → Bisected (λ m. moreUpTo C B xs ys m) (firstOf ys) (P (lastOf xs -ℤ firstOf ys)) (j .place)
+    meets h = let q = rw (last-before hk, first-after hy) at (j .meets) in
+        subst (λ (t : ℤ → Bool). Bisected t (firstOf ys) (P (lastOf xs -ℤ firstOf ys)) (j .place)) (fun-ext more-is) (q h)
+
+    pub joined-is : Room L H → length C ≤ f → length B ≤ f → 0 < length C → 0 < length B → AllConvex (map price C) → AllConvex (map price B)
+        → xs ≡ placeFast L H f C → ys ≡ placeFast L H f B → out ≡ joinFast C B xs ys
+    unfolding joinFast
+    joined-is r hC hB oC oB gC gB ex ey = casesZ (lastOf xs) (firstOf ys)
+        (λ h. rw (make-lt-false (firstOf ys) (lastOf xs) h) (rw (make-lt-false (firstOf ys) (lastOf xs) h) at outcome))
+        (λ h. rw (make-lt-true (firstOf ys) (lastOf xs) h) at outcome ∙ fast-meet L H r f C B hC hB oC oB gC gB xs ys ex ey h (j .place) (meets h))
 
 -- ---- the run
 fast-many : (L H : Limit) (f : ℕ) (bs : List Box) → 1 < length bs
@@ -161,27 +178,27 @@ placed-none L H [] cs ns [] e h = record { answer = λ ds f k. none f; small = �
 placed-none L H [] cs ns (z ∷ zs) e h = absurd (omega arith)
 placed-none L H (o ∷ old) cs ns zs e h = absurd (omega arith)
 
-pub placed-one : (L H : Limit) (old : List ℤ) (cs : List ℕ) (ns zs : List ℤ) (x : ℤ) → length old ≡ 1 → Ready L H old cs ns zs
-    → x ≡ clamp L H (startOf (getD old 0 (pos 0)) ns) → Placed L H old cs ns (set zs 0 x)
+pub placed-one : (L H : Limit) (old : List ℤ) (cs : List ℕ) (ns zs : List ℤ) (x : ℤ) → length old ≡ 1 → Columns old cs ns → length zs ≡ length old
+    → size x ≤ maxSize → x ≡ clamp L H (startOf (getD old 0 (pos 0)) ns) → Placed L H old cs ns (set zs 0 x)
 unfolding placeFast boxesFrom sum
-placed-one L H [] cs ns zs x e r q = absurd (omega arith)
-placed-one L H (o ∷ []) [] ns zs x e r q = absurd (omega (arith, r .columns .boxes))
-placed-one L H (o ∷ []) (c ∷ []) ns [] x e r q = absurd (omega (arith, r .answer))
-placed-one L H (o ∷ []) (c ∷ []) ns (z ∷ []) x e r q = record {
+placed-one L H [] cs ns zs x e c a k q = absurd (omega arith)
+placed-one L H (o ∷ []) [] ns zs x e c a k q = absurd (omega (arith, c .boxes))
+placed-one L H (o ∷ []) (n ∷ []) ns [] x e c a k q = absurd (omega arith)
+placed-one L H (o ∷ []) (n ∷ []) ns (z ∷ []) x e c a k q = record {
   answer = λ ds f h. one ds f h;
   small = λ i h. lone i h;
 }
   where
-    one : (ds : List ℕ) (f : ℕ) → 1 ≤ f → x ∷ [] ≡ placeFast L H f (boxesFrom (o ∷ []) ds (c ∷ []) ns)
+    one : (ds : List ℕ) (f : ℕ) → 1 ≤ f → x ∷ [] ≡ placeFast L H f (boxesFrom (o ∷ []) ds (n ∷ []) ns)
     one ds zero h = absurd (omega arith)
-    one ds (suc f) h = rw (take-all c ns (omega (arith, r .columns .neighbours))) (ap (λ (y : ℤ). y ∷ []) q)
+    one ds (suc f) h = rw (take-all n ns (omega (arith, c .neighbours))) (ap (λ (y : ℤ). y ∷ []) q)
 
     lone : (i : ℕ) → i < 1 → size (getD (x ∷ []) i (pos 0)) ≤ maxSize
-    lone zero h = rw q (small-one L H o ns (r .left) (r .right) (r .olds 0 (omega arith)) (r .nears))
+    lone zero h = k
     lone (suc i) h = absurd (omega arith)
-placed-one L H (o ∷ []) (c ∷ []) ns (z ∷ z′ ∷ zs) x e r q = absurd (omega (arith, r .answer))
-placed-one L H (o ∷ []) (c ∷ c′ ∷ cs) ns zs x e r q = absurd (omega (arith, r .columns .boxes))
-placed-one L H (o ∷ o′ ∷ old) cs ns zs x e r q = absurd (omega arith)
+placed-one L H (o ∷ []) (n ∷ []) ns (z ∷ z′ ∷ zs) x e c a k q = absurd (omega arith)
+placed-one L H (o ∷ []) (n ∷ n′ ∷ cs) ns zs x e c a k q = absurd (omega (arith, c .boxes))
+placed-one L H (o ∷ o′ ∷ old) cs ns zs x e c a k q = absurd (omega arith)
 
 -- the two halves of a run that is cut after k boxes, which have n neighbours
 pub record Halved (k n : ℕ) (old : List ℤ) (cs : List ℕ) : Type 0 where
@@ -189,51 +206,42 @@ pub record Halved (k n : ℕ) (old : List ℤ) (cs : List ℕ) : Type 0 where
   pub half : k ≡ length old / 2
   pub before : n ≡ sum (take k cs)
 
-module _ (L H : Limit) (k n : ℕ) (old : List ℤ) (cs : List ℕ) (ns zs : List ℤ) (v : Halved k n old cs) (r : Ready L H old cs ns zs) where
-  pub ready-left : Ready L H (take k old) (take k cs) (take n ns) (take k zs)
-  ready-left = record {
-    columns = rw (v .before) (columns-take k old cs ns (r .columns));
-    answer = omega (arith, length-take k zs, length-take k old, r .answer);
-    left = r .left;
-    right = r .right;
-    olds = sized-take maxSize k old (r .olds);
-    nears = sized-take maxSize n ns (r .nears);
+-- boxes whose neighbours are in order
+convex-boxes : (os : List ℤ) (ds cs : List ℕ) (ns : List ℤ) → length os ≡ length cs → partsInOrder cs ns ≡ true → AllConvex (map price (boxesFrom os ds cs ns))
+unfolding boxesFrom partsInOrder
+convex-boxes [] ds cs ns e q = all-nil
+convex-boxes (o ∷ os) ds [] ns e q = absurd (omega arith)
+convex-boxes (o ∷ os) ds (c ∷ cs) ns e q = all-cons (start-convex o (take c ns) (sorted (take c ns) (and-left _ _ q)))
+    (convex-boxes os (drop 1 ds) cs (drop c ns) (omega arith) (and-right (nondecreasing (take c ns)) _ q))
+
+module _ (k n : ℕ) (old : List ℤ) (cs : List ℕ) (ns : List ℤ) (v : Halved k n old cs) (c : Columns old cs ns) (xs ys : List ℤ) (ex : length xs ≡ k) (ey : length ys ≡ length old - k) where
+  pub halves-cut : Cut k n (xs ++ ys) cs ns
+  halves-cut = let e = length-append xs ys in record {
+    columns = record { boxes = omega (arith, c .boxes, v .half); neighbours = c .neighbours; order = c .order };
+    some = omega (arith, v .many, v .half);
+    others = omega (arith, v .many, v .half);
+    before = v .before;
   }
 
-  pub ready-right : (ys : List ℤ) → length ys ≡ length old - k → Ready L H (drop k old) (drop k cs) (drop n ns) ys
-  ready-right ys e = record {
-    columns = rw (v .before) (columns-drop k old cs ns (r .columns));
-    answer = omega (arith, length-drop k old);
-    left = r .left;
-    right = r .right;
-    olds = sized-drop maxSize k old (r .olds);
-    nears = sized-drop maxSize n ns (r .nears);
-  }
-
-  module _ (xs ys : List ℤ) (ex : length xs ≡ k) (ey : length ys ≡ length old - k) (p : Placed L H (take k old) (take k cs) (take n ns) xs) (q : Placed L H (drop k old) (drop k cs) (drop n ns) ys) where
-    pub halves-cut : Cut k n (xs ++ ys) cs ns
-    halves-cut = let e = length-append xs ys in record {
-      columns = record { boxes = omega (arith, r .columns .boxes, v .half); neighbours = r .columns .neighbours; order = r .columns .order };
-      some = omega (arith, v .many, v .half);
-      others = omega (arith, v .many, v .half);
-      before = v .before;
-    }
-
-    pub halves-small : Small (xs ++ ys)
-    halves-small = sized-append maxSize xs ys (p .small) (q .small)
-
-    pub placed-more : Placed L H old cs ns (joined k n (xs ++ ys) cs ns)
-    placed-more = record { answer = λ ds f h. more-answer ds f h; small = small-joined k n (xs ++ ys) cs ns halves-cut halves-small }
-      where
-        more-answer : (ds : List ℕ) (f : ℕ) → length old ≤ f → joined k n (xs ++ ys) cs ns ≡ placeFast L H f (boxesFrom old ds cs ns)
-        more-answer ds zero h = absurd (omega (arith, v .many))
-        more-answer ds (suc f) h = let bs = boxesFrom old ds cs ns in let el = length-boxes old ds cs ns (r .columns .boxes) in
-            let C = boxesFrom (take k old) ds (take k cs) (take n ns) in let B = boxesFrom (drop k old) (drop k ds) (drop k cs) (drop n ns) in
-            let b = r .columns .boxes in let vh = v .half in let vm = v .many in
-            let ek : length bs / 2 ≡ k = ap (λ (i : ℕ). i / 2) el ∙ sym (v .half) in
-            let et : take k bs ≡ C = take-boxes k old ds cs ns ∙ ap (λ (i : ℕ). boxesFrom (take k old) ds (take k cs) (take i ns)) (sym (v .before)) in
-            let ed : drop k bs ≡ B = drop-boxes k old ds cs ns ∙ ap (λ (i : ℕ). boxesFrom (drop k old) (drop k ds) (drop k cs) (drop i ns)) (sym (v .before)) in
-            joined-is k n xs ys (take k old) (drop k old) ds (drop k ds) cs ns ex (omega (arith, length-take k old, length-take k cs)) (omega (arith, length-drop k old, length-drop k cs)) (omega arith) (omega arith)
-            ∙ ap (λ us. joinFast C B us ys) (p .answer ds f (omega (arith, length-take k old)))
-            ∙ ap (joinFast C B (placeFast L H f C)) (q .answer (drop k ds) f (omega (arith, length-drop k old)))
-            ∙ sym (rw (ek, et, ed) at (fast-many L H f bs (omega arith)))
+  pub placed-more : (L H : Limit) (out : List ℤ) → Room L H → Placed L H (take k old) (take k cs) (take n ns) xs → Placed L H (drop k old) (drop k cs) (drop n ns) ys
+      → Joined k n (xs ++ ys) cs ns out → Placed L H old cs ns out
+  placed-more L H out r p q j = record { answer = λ ds f h. more-answer ds f h; small = small-joined k n (xs ++ ys) cs ns out halves-cut (sized-append maxSize xs ys (p .small) (q .small)) j }
+    where
+      more-answer : (ds : List ℕ) (f : ℕ) → length old ≤ f → out ≡ placeFast L H f (boxesFrom old ds cs ns)
+      more-answer ds zero h = absurd (omega (arith, v .many))
+      more-answer ds (suc f) h = let bs = boxesFrom old ds cs ns in let el = length-boxes old ds cs ns (c .boxes) in
+          let C = boxesFrom (take k old) ds (take k cs) (take n ns) in let B = boxesFrom (drop k old) (drop k ds) (drop k cs) (drop n ns) in
+          let b = c .boxes in let vh = v .half in let vm = v .many in
+          let lt = length-take k old in let ld = length-drop k old in
+          let bt : length (take k old) ≡ length (take k cs) = omega (arith, length-take k cs) in let bd : length (drop k old) ≡ length (drop k cs) = omega (arith, length-drop k cs) in
+          let lC = length-boxes (take k old) ds (take k cs) (take n ns) bt in let lB = length-boxes (drop k old) (drop k ds) (drop k cs) (drop n ns) bd in
+          let gC = convex-boxes (take k old) ds (take k cs) (take n ns) bt (rw (v .before) (columns-take k old cs ns c .order)) in
+          let gB = convex-boxes (drop k old) (drop k ds) (drop k cs) (drop n ns) bd (rw (v .before) (columns-drop k old cs ns c .order)) in
+          let eC : xs ≡ placeFast L H f C = p .answer ds f (omega arith) in let eB : ys ≡ placeFast L H f B = q .answer (drop k ds) f (omega arith) in
+          let ek : length bs / 2 ≡ k = ap (λ (i : ℕ). i / 2) el ∙ sym (v .half) in
+          let et : take k bs ≡ C = take-boxes k old ds cs ns ∙ ap (λ (i : ℕ). boxesFrom (take k old) ds (take k cs) (take i ns)) (sym (v .before)) in
+          let ed : drop k bs ≡ B = drop-boxes k old ds cs ns ∙ ap (λ (i : ℕ). boxesFrom (drop k old) (drop k ds) (drop k cs) (drop i ns)) (sym (v .before)) in
+          joined-is k n xs ys (take k old) (drop k old) ds (drop k ds) cs ns ex bt bd L H f out (omega arith) (omega arith) j r (omega arith) (omega arith) (omega arith) (omega arith) gC gB eC eB
+          ∙ ap (λ us. joinFast C B us ys) eC
+          ∙ ap (joinFast C B (placeFast L H f C)) eB
+          ∙ sym (rw (ek, et, ed) at (fast-many L H f bs (omega arith)))

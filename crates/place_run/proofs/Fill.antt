@@ -4,7 +4,7 @@ use mathlib.Core.List.{List, [], _∷_, _++_, map, append-nil, append-assoc}
 use Prim.Native.Nat.{ℕ, _+_, _-_, _≤_, _<_}
 use native.Mathlib.Omega.{arith}
 use native.Mathlib.Numerals.{add-one}
-use lib.ListN.{length, take, drop, set, getD, length-append, length-take, length-drop, length-map, drop-of-length-le}
+use lib.ListN.{length, take, drop, set, getD, length-append, length-drop, length-map, drop-of-length-le}
 use lib.Seq.{drop-cons, take-all, take-at, drop-at, take-suc-set, drop-set-lt}
 use lib.IntN.{ℤ, pos}
 use Rattle.ints.specs.Ints.{minZ, maxZ}
@@ -24,20 +24,11 @@ module _ {A : Type 0} (k : ℕ) (l xs ys : List A) (e : length xs ≡ k) where
       rw (take-at xs (drop k l) k e, drop-at xs (drop k l) k e, drop-of-length-le (drop k l) h, append-nil)
 
 -- one more is done
-pub fill-next : (z : List ℤ) (i : ℕ) (v : ℤ) (rest goal : List ℤ) → i < length z → take i z ++ v ∷ rest ≡ goal → take (i + 1) (set z i v) ++ rest ≡ goal
+pub fill-next : {A : Type 0} (z : List A) (i : ℕ) (v : A) (rest goal : List A) → i < length z → take i z ++ v ∷ rest ≡ goal → take (i + 1) (set z i v) ++ rest ≡ goal
 fill-next z i v rest goal h e = rw (add-one, take-suc-set z i v, append-assoc) e
 
--- a part from a on is done, c long
-module _ (z part : List ℤ) (a c : ℕ) (e : length part ≡ c) (h : a + c ≤ length z) where
-  pub part-long : length (take a z ++ (part ++ drop c (drop a z))) ≡ length z
-  part-long = omega (arith, length-append (take a z) (part ++ drop c (drop a z)), length-append part (drop c (drop a z)), length-take a z, length-drop a z, length-drop c (drop a z))
-
-  pub part-next : (rest goal : List ℤ) → take a z ++ (part ++ rest) ≡ goal → take (a + c) (take a z ++ (part ++ drop c (drop a z))) ++ rest ≡ goal
-  part-next rest goal q = let l : length (take a z ++ part) ≡ a + c = omega (arith, length-append (take a z) part, length-take a z) in
-      rw (← append-assoc (take a z) part (drop c (drop a z)), take-at (take a z ++ part) (drop c (drop a z)) (a + c) l, append-assoc) q
-
 -- all is done
-pub fill-end : (z : List ℤ) (i : ℕ) (goal : List ℤ) → length z ≤ i → take i z ++ [] ≡ goal → z ≡ goal
+pub fill-end : {A : Type 0} (z : List A) (i : ℕ) (goal : List A) → length z ≤ i → take i z ++ [] ≡ goal → z ≡ goal
 fill-end z i goal h e = sym (take-all i z h) ∙ sym (append-nil (take i z)) ∙ e
 
 -- each entry by f, in place
@@ -47,10 +38,6 @@ module _ (f : ℤ → ℤ) where
   map-next z i v goal h e q = let k = drop-cons z i (pos 0) h in
       fill-next z i v (map f (drop (i + 1) (set z i v))) goal h
       (rw (drop-set-lt (i + 1) z i v (omega arith), e, add-one) (rw k at q))
-
-  -- or of another list l
-  pub map-rest : (l : List ℤ) (i : ℕ) → i < length l → map f (drop i l) ≡ f (getD l i (pos 0)) ∷ map f (drop (i + 1) l)
-  map-rest l i h = rw (add-one, drop-cons l i (pos 0) h)
 
   pub map-end : (z : List ℤ) (i : ℕ) (goal : List ℤ) → length z ≤ i → take i z ++ map f (drop i z) ≡ goal → z ≡ goal
   map-end z i goal h q = fill-end z i goal h (rw (drop-of-length-le z h) at q)

@@ -4,6 +4,8 @@ pub mod Bisect
 pub mod Small
 pub mod ByHalves
 pub mod Offsets
+pub mod Beside
+pub mod Given
 pub mod Taken
 pub mod RefusalLaws
 pub mod TakenLaws

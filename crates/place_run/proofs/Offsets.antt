@@ -1,4 +1,4 @@
--- Into run coordinates and back, by columns: the same as of the boxes, box by box, and sizes. Assumes nothing.
+-- Into run coordinates and back, by columns: parts of them, sizes, counts, and the same as of the boxes. Assumes nothing.
 use mathlib.Core.Path.{_≡_, refl, sym, _∙_, ap}
 use mathlib.Core.Bool.{true}
 use mathlib.Core.List.{List, [], _∷_, _++_, map}
@@ -6,23 +6,19 @@ use Prim.Native.Nat.{ℕ, zero, suc, _+_, _-_, _≤_, _<_}
 use native.Mathlib.Omega.{arith}
 use native.Mathlib.Numerals.{add-one}
 use lib.ListN.{length, take, drop, getD, length-take, length-drop, length-append, length-map, drop-of-length-le, List·getD-eq-default}
-use lib.Seq.{drop-cons, drop-drop, take-at, drop-at, length-take-le}
+use lib.Seq.{drop-cons, drop-drop, take-at, drop-at, take-take, take-append-add, drop-append-add, length-take-le}
 use lib.IntN.{ℤ, pos, _+ℤ_}
-use lib.Signed.{leZ}
+use lib.Signed.{ltZ, leZ}
 use Rattle.ints.specs.Ints.{size}
-use Rattle.ints.proofs.Laws.{dif, cases, casesZ, make-le-true, make-le-false}
-use Rattle.run.specs.Run.{Bound as Limit, nondecreasing, span}
-use Rattle.run.proofs.Sorted.{less, and-left, and-right, and-make}
+use Rattle.ints.proofs.Laws.{sum as sum-of, dif, cases, casesZ, make-le-true, make-le-false, make-lt-true, make-lt-false}
+use Rattle.run.specs.Run.{nondecreasing, span}
+use Rattle.run.proofs.Sorted.{less, countUpTo, and-left, and-right, and-make}
 use Rattle.run.proofs.Coordinates.{inRun, addOffsets}
-use Rattle.run.proofs.Fast.{placeFast}
 use Rattle.ints.specs.Lists.{sum}
 use Rattle.place_run.specs.Call.{reach, boxesFrom}
-use Rattle.place_run.specs.Columns.{partsInOrder, Columns, Small, maxSize}
-use Rattle.place_run.specs.Offsets.{lessOffsets, lessNear, plusOffsets, Near, maxOffset, Fits, placedBetween}
-use Rattle.place_run.specs.Halves.{Ready, Placed}
-use Rattle.place_run.proofs.Columns.{sum-next, sum-end}
-use Rattle.place_run.proofs.ByHalves.{length-boxes}
-use Rattle.place_run.proofs.Small.{sized-tail, sized-take, sized-drop, sized-append, sized-map}
+use Rattle.place_run.specs.Columns.{partsInOrder, Columns, maxSize}
+use Rattle.place_run.specs.Offsets.{offsetsFrom, lessOffsets, lessNear, plusOffsets, maxOffset, OffsetsOf}
+use Rattle.place_run.proofs.Columns.{sum-next, sum-end, drop-take}
 
 -- ---- the next distance, also where nothing follows
 pub first-drop : {A : Type 0} (e : A) (i : ℕ) (l : List A) → getD (drop i l) 0 e ≡ getD l i e
@@ -35,112 +31,197 @@ sum-step ds i = cases (length ds) i
     (λ h. omega (arith, sum-end ds i h, sum-end ds (i + 1) (omega arith), List·getD-eq-default ds 0 h))
     (λ h. sum-next ds i h)
 
+-- ---- the offsets
+pub offsets-start : (ds : List ℕ) (r : ℕ) → offsetsFrom 0 ds (r - 0) ≡ offsetsFrom 0 ds r
+offsets-start ds r = let e : r - 0 ≡ r = omega arith in rw e
+
+pub offsets-next : (o : ℕ) (ds : List ℕ) (i r : ℕ) → i < r → offsetsFrom o (drop i ds) (r - i) ≡ o ∷ offsetsFrom (o + getD ds i 0) (drop (i + 1) ds) (r - (i + 1))
+unfolding offsetsFrom
+offsets-next o ds i r h = let e : r - i ≡ suc (r - (i + 1)) = omega arith in rw (e, first-drop 0 i ds, drop-drop 1 i ds)
+
+pub offsets-end : (o : ℕ) (ds : List ℕ) (i r : ℕ) → r ≤ i → offsetsFrom o ds (r - i) ≡ []
+unfolding offsetsFrom
+offsets-end o ds i r h = let e : r - i ≡ 0 = omega arith in rw e
+
+length-offsets : (o : ℕ) (ds : List ℕ) (r : ℕ) → length (offsetsFrom o ds r) ≡ r
+unfolding offsetsFrom
+length-offsets o ds zero = refl
+length-offsets o ds (suc r) = ap suc (length-offsets (o + getD ds 0 0) (drop 1 ds) r)
+
+offsets-small : (o : ℕ) (ds : List ℕ) (r : ℕ) → o + sum ds ≤ maxOffset → (i : ℕ) → getD (offsetsFrom o ds r) i 0 ≤ maxOffset
+unfolding offsetsFrom
+offsets-small o ds zero h i = omega arith
+offsets-small o ds (suc r) h zero = omega arith
+offsets-small o ds (suc r) h (suc i) = offsets-small (o + getD ds 0 0) (drop 1 ds) r (omega (arith, sum-step ds 0)) i
+
+pub offsets-of : (ds : List ℕ) (xs : List ℤ) → sum ds ≤ maxOffset → OffsetsOf (offsetsFrom 0 ds (length xs)) xs
+offsets-of ds xs h = record { boxes = length-offsets 0 ds (length xs); small = offsets-small 0 ds (length xs) (omega arith) }
+
+small-take : (k : ℕ) (os : List ℕ) → ((i : ℕ) → getD os i 0 ≤ maxOffset) → (i : ℕ) → getD (take k os) i 0 ≤ maxOffset
+small-take zero os q i = omega arith
+small-take (suc k) [] q i = omega arith
+small-take (suc k) (o ∷ os) q zero = q zero
+small-take (suc k) (o ∷ os) q (suc i) = small-take k os (λ j. q (suc j)) i
+
+small-drop : (k : ℕ) (os : List ℕ) → ((i : ℕ) → getD os i 0 ≤ maxOffset) → (i : ℕ) → getD (drop k os) i 0 ≤ maxOffset
+small-drop zero os q i = q i
+small-drop (suc k) [] q i = omega arith
+small-drop (suc k) (o ∷ os) q i = small-drop k os (λ j. q (suc j)) i
+
+pub offsets-take : (k : ℕ) (os : List ℕ) (zs : List ℤ) → OffsetsOf os zs → OffsetsOf (take k os) (take k zs)
+offsets-take k os zs q = record { boxes = omega (arith, length-take k os, length-take k zs, q .boxes); small = small-take k os (q .small) }
+
+pub offsets-drop : (k : ℕ) (os : List ℕ) (zs : List ℤ) → OffsetsOf os zs → OffsetsOf (drop k os) (drop k zs)
+offsets-drop k os zs q = record { boxes = omega (arith, length-drop k os, length-drop k zs, q .boxes); small = small-drop k os (q .small) }
+
 -- ---- one box
-pub less-next : (o : ℕ) (ds : List ℕ) (xs : List ℤ) (i : ℕ) → i < length xs
-    → lessOffsets o (drop i ds) (drop i xs) ≡ less o (getD xs i (pos 0)) ∷ lessOffsets (o + getD ds i 0) (drop (i + 1) ds) (drop (i + 1) xs)
-unfolding lessOffsets
-less-next o ds xs i h = rw (add-one, drop-cons xs i (pos 0) h, first-drop 0 i ds, drop-drop, add-one)
-
-pub plus-next : (o : ℕ) (ds : List ℕ) (zs : List ℤ) (i : ℕ) → i < length zs
-    → plusOffsets o (drop i ds) (drop i zs) ≡ (getD zs i (pos 0) +ℤ pos o) ∷ plusOffsets (o + getD ds i 0) (drop (i + 1) ds) (drop (i + 1) zs)
+pub plus-next : (os : List ℕ) (zs : List ℤ) (i : ℕ) → i < length os → i < length zs
+    → plusOffsets (drop i os) (drop i zs) ≡ (getD zs i (pos 0) +ℤ pos (getD os i 0)) ∷ plusOffsets (drop (i + 1) os) (drop (i + 1) zs)
 unfolding plusOffsets
-plus-next o ds zs i h = rw (add-one, drop-cons zs i (pos 0) h, first-drop 0 i ds, drop-drop, add-one)
+plus-next os zs i g h = rw (add-one, drop-cons os i 0 g, drop-cons zs i (pos 0) h)
 
-pub near-next : (o : ℕ) (ds cs : List ℕ) (ns : List ℤ) (a i : ℕ) → i < length cs
-    → lessNear o (drop i ds) (drop i cs) (drop a ns) ≡ map (less o) (take (getD cs i 0) (drop a ns)) ++ lessNear (o + getD ds i 0) (drop (i + 1) ds) (drop (i + 1) cs) (drop (a + getD cs i 0) ns)
-unfolding lessNear
-near-next o ds cs ns a i h = rw (add-one, drop-cons cs i 0 h, first-drop 0 i ds, drop-drop 1 i ds, drop-drop (getD cs i 0) a ns, add-one)
-
--- after the last one
-pub less-end : (o : ℕ) (ds : List ℕ) (xs : List ℤ) (i : ℕ) → length xs ≤ i → lessOffsets o ds (drop i xs) ≡ []
-unfolding lessOffsets
-less-end o ds xs i h = rw (drop-of-length-le xs h)
-
-pub plus-end : (o : ℕ) (ds : List ℕ) (zs : List ℤ) (i : ℕ) → length zs ≤ i → plusOffsets o ds (drop i zs) ≡ []
+pub plus-end : (os : List ℕ) (zs : List ℤ) (i : ℕ) → length os ≤ i → plusOffsets (drop i os) zs ≡ []
 unfolding plusOffsets
-plus-end o ds zs i h = rw (drop-of-length-le zs h)
+plus-end os zs i h = rw (drop-of-length-le os h)
 
-pub near-end : (o : ℕ) (ds cs : List ℕ) (ns : List ℤ) (i : ℕ) → length cs ≤ i → lessNear o ds (drop i cs) ns ≡ []
-unfolding lessNear
-near-end o ds cs ns i h = rw (drop-of-length-le cs h)
+mapped-long : (o c : ℕ) (ns : List ℤ) → c ≤ length ns → length (map (less o) (take c ns)) ≡ c
+mapped-long o c ns h = length-map (take c ns) (less o) ∙ length-take-le c ns h
+
+-- the neighbours of the i-th box and those of the boxes after it, rs being all neighbours less their offsets and a the number of
+-- those before
+module _ (os cs : List ℕ) (ns rs : List ℤ) (a i : ℕ) (f : i < length os) (g : i < length cs) (h : getD cs i 0 ≤ length (drop a ns))
+    (e : drop a rs ≡ lessNear (drop i os) (drop i cs) (drop a ns)) where
+  near-next : drop a rs ≡ map (less (getD os i 0)) (take (getD cs i 0) (drop a ns)) ++ lessNear (drop (i + 1) os) (drop (i + 1) cs) (drop (a + getD cs i 0) ns)
+  unfolding lessNear
+  near-next = rw e (rw (add-one, drop-cons os i 0 f, drop-cons cs i 0 g, drop-drop (getD cs i 0) a ns))
+
+  pub near-part : take (getD cs i 0) (drop a rs) ≡ map (less (getD os i 0)) (take (getD cs i 0) (drop a ns))
+  near-part = rw near-next (take-at _ _ (getD cs i 0) (mapped-long (getD os i 0) (getD cs i 0) (drop a ns) h))
+
+  pub near-rest : drop (a + getD cs i 0) rs ≡ lessNear (drop (i + 1) os) (drop (i + 1) cs) (drop (a + getD cs i 0) ns)
+  near-rest = let o = getD os i 0 in let c = getD cs i 0 in
+      rw (← drop-drop c a rs, near-next) (drop-at (map (less o) (take c (drop a ns))) (lessNear (drop (i + 1) os) (drop (i + 1) cs) (drop (a + c) ns)) c (mapped-long o c (drop a ns) h))
+
+-- ---- the first k boxes, and the others
+pub less-take : (k : ℕ) (os : List ℕ) (xs : List ℤ) → take k (lessOffsets os xs) ≡ lessOffsets (take k os) (take k xs)
+unfolding lessOffsets
+less-take zero os xs = refl
+less-take (suc k) [] xs = refl
+less-take (suc k) (o ∷ os) [] = refl
+less-take (suc k) (o ∷ os) (x ∷ xs) = ap (λ (r : List ℤ). less o x ∷ r) (less-take k os xs)
+
+pub less-drop : (k : ℕ) (os : List ℕ) (xs : List ℤ) → length os ≡ length xs → drop k (lessOffsets os xs) ≡ lessOffsets (drop k os) (drop k xs)
+unfolding lessOffsets
+less-drop zero os xs e = refl
+less-drop (suc k) [] xs e = refl
+less-drop (suc k) (o ∷ os) [] e = absurd (omega arith)
+less-drop (suc k) (o ∷ os) (x ∷ xs) e = less-drop k os xs (omega arith)
+
+take-past : (c n : ℕ) (xs ys : List ℤ) → length xs ≡ c → take (c + n) (xs ++ ys) ≡ xs ++ take n ys
+take-past c n xs ys e = rw (← e) (take-append-add xs ys n)
+
+drop-past : (c n : ℕ) (xs ys : List ℤ) → length xs ≡ c → drop (c + n) (xs ++ ys) ≡ drop n ys
+drop-past c n xs ys e = rw (← e) (drop-append-add xs ys n)
+
+pub near-take : (k : ℕ) (os cs : List ℕ) (ns : List ℤ) → length os ≡ length cs → length ns ≡ sum cs
+    → take (sum (take k cs)) (lessNear os cs ns) ≡ lessNear (take k os) (take k cs) (take (sum (take k cs)) ns)
+unfolding lessNear sum
+near-take zero os cs ns e f = refl
+near-take (suc k) [] [] ns e f = refl
+near-take (suc k) [] (c ∷ cs) ns e f = absurd (omega arith)
+near-take (suc k) (o ∷ os) [] ns e f = absurd (omega arith)
+near-take (suc k) (o ∷ os) (c ∷ cs) ns e f = let s = sum (take k cs) in
+    rw (take-past c s (map (less o) (take c ns)) (lessNear os cs (drop c ns)) (mapped-long o c ns (omega arith)), take-take c (c + s) ns (omega arith), drop-take c s ns)
+    (ap (λ (r : List ℤ). map (less o) (take c ns) ++ r) (near-take k os cs (drop c ns) (omega arith) (omega (arith, length-drop c ns))))
+
+pub near-drop : (k : ℕ) (os cs : List ℕ) (ns : List ℤ) → length os ≡ length cs → length ns ≡ sum cs
+    → drop (sum (take k cs)) (lessNear os cs ns) ≡ lessNear (drop k os) (drop k cs) (drop (sum (take k cs)) ns)
+unfolding lessNear sum
+near-drop zero os cs ns e f = refl
+near-drop (suc k) [] [] ns e f = refl
+near-drop (suc k) [] (c ∷ cs) ns e f = absurd (omega arith)
+near-drop (suc k) (o ∷ os) [] ns e f = absurd (omega arith)
+near-drop (suc k) (o ∷ os) (c ∷ cs) ns e f = let s = sum (take k cs) in
+    rw (drop-past c s (map (less o) (take c ns)) (lessNear os cs (drop c ns)) (mapped-long o c ns (omega arith)), ← drop-drop s c ns)
+    (near-drop k os cs (drop c ns) (omega arith) (omega (arith, length-drop c ns)))
 
 -- ---- lengths
-pub length-less : (o : ℕ) (ds : List ℕ) (xs : List ℤ) → length (lessOffsets o ds xs) ≡ length xs
+pub length-less : (os : List ℕ) (xs : List ℤ) → length os ≡ length xs → length (lessOffsets os xs) ≡ length xs
 unfolding lessOffsets
-length-less o ds [] = refl
-length-less o ds (x ∷ xs) = ap suc (length-less (o + getD ds 0 0) (drop 1 ds) xs)
+length-less [] [] e = refl
+length-less [] (x ∷ xs) e = absurd (omega arith)
+length-less (o ∷ os) [] e = absurd (omega arith)
+length-less (o ∷ os) (x ∷ xs) e = ap suc (length-less os xs (omega arith))
 
-pub length-near : (o : ℕ) (ds cs : List ℕ) (ns : List ℤ) → length ns ≡ sum cs → length (lessNear o ds cs ns) ≡ length ns
+pub length-near : (os cs : List ℕ) (ns : List ℤ) → length os ≡ length cs → length ns ≡ sum cs → length (lessNear os cs ns) ≡ length ns
 unfolding lessNear sum
-length-near o ds [] ns e = sym e
-length-near o ds (c ∷ cs) ns e = let s = map (less o) (take c ns) in let r = lessNear (o + getD ds 0 0) (drop 1 ds) cs (drop c ns) in
-    omega (arith, length-append s r, length-map (take c ns) (less o), length-take c ns, length-drop c ns, length-near (o + getD ds 0 0) (drop 1 ds) cs (drop c ns) (omega (arith, length-drop c ns)))
+length-near [] [] ns e f = sym f
+length-near [] (c ∷ cs) ns e f = absurd (omega arith)
+length-near (o ∷ os) [] ns e f = absurd (omega arith)
+length-near (o ∷ os) (c ∷ cs) ns e f = let s = map (less o) (take c ns) in let r = lessNear os cs (drop c ns) in
+    omega (arith, length-append s r, length-map (take c ns) (less o), length-take c ns, length-drop c ns, length-near os cs (drop c ns) (omega arith) (omega (arith, length-drop c ns)))
 
--- ---- sizes
-less-size : (o : ℕ) (x : ℤ) → size x ≤ reach → o ≤ maxOffset → size (less o x) ≤ maxSize
+-- ---- the size of a position less an offset
+pub less-size : (o : ℕ) (x : ℤ) → size x ≤ reach → o ≤ maxOffset → size (less o x) ≤ maxSize
 less-size o x p h = omega (arith, dif x (pos o))
 
-pub small-less : (o : ℕ) (ds : List ℕ) (xs : List ℤ) → o + sum ds ≤ maxOffset → Near xs → Small (lessOffsets o ds xs)
-unfolding lessOffsets
-small-less o ds [] h q i k = absurd (omega arith)
-small-less o ds (x ∷ xs) h q zero k = less-size o x (q zero (omega arith)) (omega arith)
-small-less o ds (x ∷ xs) h q (suc i) k = small-less (o + getD ds 0 0) (drop 1 ds) xs (omega (arith, sum-step ds 0)) (sized-tail reach x xs q) i (omega arith)
-
-pub small-near : (o : ℕ) (ds cs : List ℕ) (ns : List ℤ) → o + sum ds ≤ maxOffset → Near ns → Small (lessNear o ds cs ns)
-unfolding lessNear
-small-near o ds [] ns h q = λ i k. absurd (omega arith)
-small-near o ds (c ∷ cs) ns h q = sized-append maxSize (map (less o) (take c ns)) (lessNear (o + getD ds 0 0) (drop 1 ds) cs (drop c ns))
-    (sized-map reach maxSize (less o) (λ x p. less-size o x p (omega arith)) (take c ns) (sized-take reach c ns q))
-    (small-near (o + getD ds 0 0) (drop 1 ds) cs (drop c ns) (omega (arith, sum-step ds 0)) (sized-drop reach c ns q))
-
--- ---- the order of a box's neighbours
+-- ---- the order of a box's neighbours, and how many are at most m
 less-le : (o : ℕ) (x y : ℤ) → leZ (less o x) (less o y) ≡ leZ x y
 less-le o x y = let d = dif x (pos o) in let e = dif y (pos o) in casesZ x y
     (λ k. make-le-true (less o x) (less o y) (omega arith) ∙ sym (make-le-true x y k))
     (λ k. make-le-false (less o x) (less o y) (omega arith) ∙ sym (make-le-false x y k))
 
-nondecreasing-less : (o : ℕ) (ns : List ℤ) → nondecreasing (map (less o) ns) ≡ nondecreasing ns
+pub nondecreasing-less : (o : ℕ) (ns : List ℤ) → nondecreasing (map (less o) ns) ≡ nondecreasing ns
 unfolding nondecreasing
 nondecreasing-less o [] = refl
 nondecreasing-less o (x ∷ []) = refl
 nondecreasing-less o (x ∷ y ∷ ns) = rw (less-le o x y, nondecreasing-less o (y ∷ ns))
 
-mapped-long : (o c : ℕ) (ns : List ℤ) → c ≤ length ns → length (map (less o) (take c ns)) ≡ c
-mapped-long o c ns h = length-map (take c ns) (less o) ∙ length-take-le c ns h
+less-lt : (o : ℕ) (m n : ℤ) → ltZ m (less o n) ≡ ltZ (m +ℤ pos o) n
+less-lt o m n = let d = dif n (pos o) in let e = sum-of m (pos o) in casesZ n (m +ℤ pos o)
+    (λ k. make-lt-false m (less o n) (omega arith) ∙ sym (make-lt-false (m +ℤ pos o) n k))
+    (λ k. make-lt-true m (less o n) (omega arith) ∙ sym (make-lt-true (m +ℤ pos o) n k))
 
-order-less : (o : ℕ) (ds cs : List ℕ) (ns : List ℤ) → length ns ≡ sum cs → partsInOrder cs ns ≡ true → partsInOrder cs (lessNear o ds cs ns) ≡ true
+pub count-less : (o : ℕ) (m : ℤ) (ns : List ℤ) → countUpTo m (map (less o) ns) ≡ countUpTo (m +ℤ pos o) ns
+unfolding countUpTo
+count-less o m [] = refl
+count-less o m (n ∷ ns) = rw (less-lt o m n, count-less o m ns)
+
+order-less : (os cs : List ℕ) (ns : List ℤ) → length os ≡ length cs → length ns ≡ sum cs → partsInOrder cs ns ≡ true → partsInOrder cs (lessNear os cs ns) ≡ true
 unfolding partsInOrder lessNear sum
-order-less o ds [] ns e q = refl
-order-less o ds (c ∷ cs) ns e q = let s = map (less o) (take c ns) in let r = lessNear (o + getD ds 0 0) (drop 1 ds) cs (drop c ns) in
+order-less [] [] ns e f q = refl
+order-less [] (c ∷ cs) ns e f q = absurd (omega arith)
+order-less (o ∷ os) [] ns e f q = refl
+order-less (o ∷ os) (c ∷ cs) ns e f q = let s = map (less o) (take c ns) in let r = lessNear os cs (drop c ns) in
     let l = mapped-long o c ns (omega arith) in
     rw (take-at s r c l, drop-at s r c l, nondecreasing-less o (take c ns))
     (and-make {s = nondecreasing (take c ns)} (and-left (nondecreasing (take c ns)) _ q)
-    (order-less (o + getD ds 0 0) (drop 1 ds) cs (drop c ns) (omega (arith, length-drop c ns)) (and-right (nondecreasing (take c ns)) _ q)))
+    (order-less os cs (drop c ns) (omega arith) (omega (arith, length-drop c ns)) (and-right (nondecreasing (take c ns)) _ q)))
 
-pub columns-less : (ds : List ℕ) (old : List ℤ) (cs : List ℕ) (ns : List ℤ) → Columns old cs ns → Columns (lessOffsets 0 ds old) cs (lessNear 0 ds cs ns)
-columns-less ds old cs ns q = record {
-  boxes = length-less 0 ds old ∙ q .boxes;
-  neighbours = length-near 0 ds cs ns (q .neighbours) ∙ q .neighbours;
-  order = order-less 0 ds cs ns (q .neighbours) (q .order);
+pub columns-less : (os : List ℕ) (zs : List ℤ) (cs : List ℕ) (ns : List ℤ) → length os ≡ length zs → Columns zs cs ns → Columns zs cs (lessNear os cs ns)
+columns-less os zs cs ns e q = let b = e ∙ q .boxes in record {
+  boxes = q .boxes;
+  neighbours = length-near os cs ns b (q .neighbours) ∙ q .neighbours;
+  order = order-less os cs ns b (q .neighbours) (q .order);
 }
 
 -- ---- the boxes
-pub in-run-is : (o : ℕ) (os : List ℤ) (ds cs : List ℕ) (ns : List ℤ) → length os ≡ length cs → length ns ≡ sum cs
-    → boxesFrom (lessOffsets o ds os) ds cs (lessNear o ds cs ns) ≡ inRun o (boxesFrom os ds cs ns)
-unfolding boxesFrom lessOffsets lessNear inRun sum
+pub in-run-is : (o : ℕ) (xs : List ℤ) (ds cs : List ℕ) (ns : List ℤ) → length xs ≡ length cs → length ns ≡ sum cs
+    → let os = offsetsFrom o ds (length xs) in boxesFrom (lessOffsets os xs) ds cs (lessNear os cs ns) ≡ inRun o (boxesFrom xs ds cs ns)
+unfolding boxesFrom offsetsFrom lessOffsets lessNear inRun sum
 in-run-is o [] ds cs ns e f = refl
-in-run-is o (x ∷ os) ds [] ns e f = absurd (omega arith)
-in-run-is o (x ∷ os) ds (c ∷ cs) ns e f = let s = map (less o) (take c ns) in let r = lessNear (o + getD ds 0 0) (drop 1 ds) cs (drop c ns) in
+in-run-is o (x ∷ xs) ds [] ns e f = absurd (omega arith)
+in-run-is o (x ∷ xs) ds (c ∷ cs) ns e f = let s = map (less o) (take c ns) in let os = offsetsFrom (o + getD ds 0 0) (drop 1 ds) (length xs) in let r = lessNear os cs (drop c ns) in
     let l = mapped-long o c ns (omega arith) in
-    rw (take-at s r c l, drop-at s r c l, in-run-is (o + getD ds 0 0) os (drop 1 ds) cs (drop c ns) (omega arith) (omega (arith, length-drop c ns)))
+    rw (take-at s r c l, drop-at s r c l, in-run-is (o + getD ds 0 0) xs (drop 1 ds) cs (drop c ns) (omega arith) (omega (arith, length-drop c ns)))
 
-pub add-is : (o : ℕ) (os : List ℤ) (ds cs : List ℕ) (ns zs : List ℤ) → length os ≡ length cs → length zs ≡ length os → plusOffsets o ds zs ≡ addOffsets o (boxesFrom os ds cs ns) zs
-unfolding boxesFrom plusOffsets addOffsets
-add-is o [] ds cs ns [] e f = refl
-add-is o [] ds cs ns (z ∷ zs) e f = absurd (omega arith)
-add-is o (x ∷ os) ds [] ns zs e f = absurd (omega arith)
-add-is o (x ∷ os) ds (c ∷ cs) ns [] e f = absurd (omega arith)
-add-is o (x ∷ os) ds (c ∷ cs) ns (z ∷ zs) e f = ap (λ (r : List ℤ). (z +ℤ pos o) ∷ r) (add-is (o + getD ds 0 0) os (drop 1 ds) cs (drop c ns) zs (omega arith) (omega arith))
+pub add-is : (o : ℕ) (xs : List ℤ) (ds cs : List ℕ) (ns zs : List ℤ) → length xs ≡ length cs → length zs ≡ length xs
+    → plusOffsets (offsetsFrom o ds (length xs)) zs ≡ addOffsets o (boxesFrom xs ds cs ns) zs
+unfolding boxesFrom offsetsFrom plusOffsets addOffsets
+add-is o [] ds cs ns zs e f = refl
+add-is o (x ∷ xs) ds [] ns zs e f = absurd (omega arith)
+add-is o (x ∷ xs) ds (c ∷ cs) ns [] e f = absurd (omega arith)
+add-is o (x ∷ xs) ds (c ∷ cs) ns (z ∷ zs) e f = ap (λ (r : List ℤ). (z +ℤ pos o) ∷ r) (add-is (o + getD ds 0 0) xs (drop 1 ds) cs (drop c ns) zs (omega arith) (omega arith))
 
 pub span-is : (os : List ℤ) (ds cs : List ℕ) (ns : List ℤ) → length os ≡ length cs → length ds ≤ length os → span (boxesFrom os ds cs ns) ≡ sum ds
 unfolding boxesFrom span sum
@@ -149,21 +230,3 @@ span-is [] (d ∷ ds) cs ns e h = absurd (omega arith)
 span-is (x ∷ os) ds [] ns e h = absurd (omega arith)
 span-is (x ∷ os) [] (c ∷ cs) ns e h = omega (arith, span-is os [] cs (drop c ns) (omega arith) (omega arith))
 span-is (x ∷ os) (d ∷ ds) (c ∷ cs) ns e h = ap (λ (n : ℕ). d + n) (span-is os ds cs (drop c ns) (omega arith) (omega arith))
-
--- ---- placing between limits, so
-module _ (L H : Limit) (ds : List ℕ) (old : List ℤ) (cs : List ℕ) (ns zs : List ℤ) (f : Fits L H ds old cs ns zs) where
-  pub ready-run : Ready L H (lessOffsets 0 ds old) cs (lessNear 0 ds cs ns) zs
-  ready-run = record {
-    columns = columns-less ds old cs ns (f .columns);
-    answer = f .answer ∙ sym (length-less 0 ds old);
-    left = f .left;
-    right = f .right;
-    olds = small-less 0 ds old (omega (arith, f .offsets)) (f .olds);
-    nears = small-near 0 ds cs ns (omega (arith, f .offsets)) (f .nears);
-  }
-
-  pub placed-run : (xs : List ℤ) → length xs ≡ length old → Placed L H (lessOffsets 0 ds old) cs (lessNear 0 ds cs ns) xs
-      → plusOffsets 0 ds xs ≡ placedBetween L H (boxesFrom old ds cs ns)
-  placed-run xs e q = let bs = boxesFrom old ds cs ns in let c = f .columns in let el = length-boxes old ds cs ns (c .boxes) in
-      add-is 0 old ds cs ns xs (c .boxes) e
-      ∙ ap (addOffsets 0 bs) (q .answer ds (length bs) (omega (arith, length-less 0 ds old)) ∙ ap (placeFast L H (length bs)) (in-run-is 0 old ds cs ns (c .boxes) (c .neighbours)))

@@ -11,13 +11,15 @@ use lib.ListN.{length, take, drop, getD, drop-of-length-le}
 use lib.Seq.{drop-cons, drop-drop}
 use lib.IntN.{ℤ, pos, negsuc}
 use lib.Signed.{ltZ, leZ}
-use Rattle.ints.specs.Ints.{size}
+use Rattle.ints.specs.Ints.{size, _⊑_}
 use Rattle.ints.proofs.Laws.{cases, ints}
-use Rattle.run.specs.Run.{nondecreasing, neighboursInOrder, span}
+use Rattle.run.specs.Run.{free, at, nondecreasing, neighboursInOrder, span}
+use Rattle.run.proofs.Sorted.{and-make, Sorted, sorted-cons, sorted, sorted-get}
 use Rattle.place_run.specs.declared.types.Bound.{Bound}
 use Rattle.place_run.specs.declared.types.Bound.the-variants.{Free, At}
 use Rattle.ints.specs.Lists.{sum}
 use Rattle.place_run.specs.Call.{memberOf, positionsOf, boxesFrom, isWithin, allWithin, isDistance, allDistances, reach}
+use Rattle.place_run.specs.Columns.{partsInOrder}
 
 -- ---- tests that must both hold
 pub and-left : (a b : Bool) → (a && b) ≡ true → a ≡ true
@@ -35,6 +37,10 @@ and-assoc false b c = refl
 pub and-true : (a : Bool) → (a && true) ≡ a
 and-true true = refl
 and-true false = refl
+
+pub and-false : (a : Bool) → (a && false) ≡ false
+and-false true = refl
+and-false false = refl
 
 -- ---- sums
 pub sum-step : (ns : List ℕ) (i : ℕ) → i < length ns → sum (drop i ns) ≡ getD ns i 0 + sum (drop (i + 1) ns)
@@ -90,39 +96,97 @@ unfolding allDistances
 distances-end ds i h = rw (drop-of-length-le ds h)
 
 -- ---- nondecreasing order
-pub order-step : (xs : List ℤ) (i : ℕ) → i + 1 < length xs → nondecreasing (drop i xs) ≡ (leZ (getD xs i (pos 0)) (getD xs (i + 1) (pos 0)) && nondecreasing (drop (i + 1) xs))
+pub order-step : (xs : List ℤ) (i : ℕ) → 0 < i → i < length xs → nondecreasing (drop (i - 1) xs) ≡ (leZ (getD xs (i - 1) (pos 0)) (getD xs i (pos 0)) && nondecreasing (drop i xs))
 unfolding nondecreasing
-order-step xs i h = rw (drop-cons xs i (pos 0) (omega arith), add-one, drop-cons xs (suc i) (pos 0) (omega arith))
+order-step xs zero k h = absurd (omega arith)
+order-step xs (suc i) k h = let e : suc i - 1 ≡ i = omega arith in
+    rw (e, drop-cons xs i (pos 0) (omega arith), drop-cons xs (suc i) (pos 0) h)
 
-pub order-end : (xs : List ℤ) (i : ℕ) → length xs ≤ i + 1 → nondecreasing (drop i xs) ≡ true
+pub order-end : (xs : List ℤ) (i : ℕ) → length xs ≤ i → nondecreasing (drop (i - 1) xs) ≡ true
 unfolding nondecreasing
-order-end [] zero h = refl
-order-end [] (suc i) h = refl
-order-end (x ∷ []) zero h = refl
-order-end (x ∷ y ∷ xs) zero h = absurd (omega arith)
-order-end (x ∷ xs) (suc i) h = order-end xs i (omega arith)
+order-end xs i h = go xs (i - 1) (omega arith)
+  where
+    go : (xs : List ℤ) (i : ℕ) → length xs ≤ i + 1 → nondecreasing (drop i xs) ≡ true
+    go [] zero h = refl
+    go [] (suc i) h = refl
+    go (x ∷ []) zero h = refl
+    go (x ∷ y ∷ xs) zero h = absurd (omega arith)
+    go (x ∷ xs) (suc i) h = go xs i (omega arith)
+
+-- in that order none is farther out than the first or the last
+within-between : (x a b : ℤ) → a ⊑ x → x ⊑ b → isWithin a ≡ true → isWithin b ≡ true → isWithin x ≡ true
+within-between (pos n) a b p q e f = le-leb n reach (omega (arith, within-size b f))
+within-between (negsuc n) a b p q e f = le-leb (suc n) reach (omega (arith, within-size a e))
+
+last-above : (x : ℤ) (xs : List ℤ) → Sorted (at x) xs → x ⊑ getD (x ∷ xs) (length xs) (pos 0)
+last-above x [] r = omega arith
+last-above x (y ∷ xs) r = sorted-get x (pos 0) (y ∷ xs) (length xs) (omega arith) r
+
+within-from : (a x : ℤ) (xs : List ℤ) → a ⊑ x → Sorted (at x) xs → isWithin a ≡ true → isWithin (getD (x ∷ xs) (length xs) (pos 0)) ≡ true → allWithin (x ∷ xs) ≡ true
+unfolding allWithin
+within-from a x [] p r e f = and-make f refl
+within-from a x (y ∷ xs) p (sorted-cons q r) e f =
+    let g = within-between x a (getD (y ∷ xs) (length xs) (pos 0)) p (last-above x (y ∷ xs) (sorted-cons q r)) e f in
+    and-make g (within-from x y xs q r g f)
+
+within-get : (xs : List ℤ) (i : ℕ) → allWithin xs ≡ true → isWithin (getD xs i (pos 0)) ≡ true
+unfolding allWithin
+within-get [] i e = refl
+within-get (x ∷ xs) zero e = and-left (isWithin x) (allWithin xs) e
+within-get (x ∷ xs) (suc i) e = within-get xs i (and-right (isWithin x) (allWithin xs) e)
+
+same-tests : (a b : Bool) → (a ≡ true → b ≡ true) → (b ≡ true → a ≡ true) → a ≡ b
+same-tests true b f g = sym (f refl)
+same-tests false true f g = g refl
+same-tests false false f g = refl
+
+pub ends-within : (xs : List ℤ) → nondecreasing xs ≡ true → (isWithin (getD xs 0 (pos 0)) && isWithin (getD xs (length xs - 1) (pos 0))) ≡ allWithin xs
+unfolding allWithin
+ends-within xs e =
+    same-tests (isWithin (getD xs 0 (pos 0)) && isWithin (getD xs (length xs - 1) (pos 0))) (allWithin xs)
+    (λ f. go xs (sorted xs e) (and-left (isWithin (getD xs 0 (pos 0))) _ f) (and-right (isWithin (getD xs 0 (pos 0))) _ f))
+    (λ f. and-make (within-get xs 0 f) (within-get xs (length xs - 1) f))
+  where
+    go : (xs : List ℤ) → Sorted free xs → isWithin (getD xs 0 (pos 0)) ≡ true → isWithin (getD xs (length xs - 1) (pos 0)) ≡ true → allWithin xs ≡ true
+    go [] r f g = refl
+    go (x ∷ xs) (sorted-cons o r) f g = let k : length (x ∷ xs) - 1 ≡ length xs = omega arith in
+        within-from x x xs (omega arith) r f (rw k at g)
 
 -- ---- the neighbours of every box
--- whatever the old positions and the distances are
-unfoldable pub inOrder : List ℕ → List ℤ → Bool
-inOrder [] ns = true
-inOrder (c ∷ cs) ns = nondecreasing (take c ns) && inOrder cs (drop c ns)
-
-pub in-order-same : (os : List ℤ) (ds cs : List ℕ) (ns : List ℤ) → length os ≡ length cs → neighboursInOrder (boxesFrom os ds cs ns) ≡ inOrder cs ns
-unfolding neighboursInOrder boxesFrom inOrder
+pub in-order-same : (os : List ℤ) (ds cs : List ℕ) (ns : List ℤ) → length os ≡ length cs → neighboursInOrder (boxesFrom os ds cs ns) ≡ partsInOrder cs ns
+unfolding neighboursInOrder boxesFrom partsInOrder
 in-order-same [] ds [] ns h = refl
 in-order-same [] ds (c ∷ cs) ns h = absurd (omega arith)
 in-order-same (o ∷ os) ds [] ns h = absurd (omega arith)
 in-order-same (o ∷ os) ds (c ∷ cs) ns h = ap (λ t. nondecreasing (take c ns) && t) (in-order-same os (drop 1 ds) cs (drop c ns) (omega arith))
 
-pub in-order-step : (cs : List ℕ) (ns : List ℤ) (i from : ℕ) → i < length cs
-    → inOrder (drop i cs) (drop from ns) ≡ (nondecreasing (take (from + getD cs i 0 - from) (drop from ns)) && inOrder (drop (i + 1) cs) (drop (from + getD cs i 0) ns))
-unfolding inOrder
-in-order-step cs ns i from h = let e : from + getD cs i 0 - from ≡ getD cs i 0 = omega arith in rw (e, add-one, drop-cons cs i 0, ← drop-drop)
+-- within reach, and each box's in order
+abbrev pub takenParts : List ℕ → List ℤ → Bool
+takenParts cs ns = allWithin ns && partsInOrder cs ns
 
-pub in-order-end : (cs : List ℕ) (ns : List ℤ) (i : ℕ) → length cs ≤ i → inOrder (drop i cs) ns ≡ true
-unfolding inOrder
-in-order-end cs ns i h = rw (drop-of-length-le cs h)
+within-cut : (c : ℕ) (ns : List ℤ) → allWithin ns ≡ (allWithin (take c ns) && allWithin (drop c ns))
+unfolding allWithin
+within-cut zero ns = refl
+within-cut (suc c) [] = refl
+within-cut (suc c) (n ∷ ns) = ap (λ t. isWithin n && t) (within-cut c ns) ∙ and-assoc (isWithin n) (allWithin (take c ns)) (allWithin (drop c ns))
+
+-- the tests of one box, then those of the others
+and-pairs : (a b c d : Bool) → ((a && b) && (c && d)) ≡ ((a && c) && (b && d))
+and-pairs true true c d = refl
+and-pairs true false true d = refl
+and-pairs true false false d = refl
+and-pairs false b c d = refl
+
+pub parts-step : (cs : List ℕ) (ns : List ℤ) (i from : ℕ) → i < length cs → let part = take (from + getD cs i 0 - from) (drop from ns) in
+    takenParts (drop i cs) (drop from ns) ≡ ((allWithin part && nondecreasing part) && takenParts (drop (i + 1) cs) (drop (from + getD cs i 0) ns))
+unfolding partsInOrder
+parts-step cs ns i from h = let c = getD cs i 0 in let e : from + c - from ≡ c = omega arith in
+    rw (e, add-one, drop-cons cs i 0, ← drop-drop, within-cut c (drop from ns))
+    (and-pairs (allWithin (take c (drop from ns))) (allWithin (drop c (drop from ns))) (nondecreasing (take c (drop from ns))) (partsInOrder (drop (suc i) cs) (drop c (drop from ns))))
+
+pub parts-end : (cs : List ℕ) (ns : List ℤ) (i from : ℕ) → length cs ≤ i → length ns ≤ from → takenParts (drop i cs) (drop from ns) ≡ true
+unfolding partsInOrder allWithin
+parts-end cs ns i from h k = rw (drop-of-length-le cs h, drop-of-length-le ns k)
 
 -- ---- the distance of the bounds
 pub sum-distances : (ds : List ℕ) → allDistances ds ≡ true → sum ds ≤ length ds * (2 * reach)

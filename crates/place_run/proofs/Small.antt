@@ -3,15 +3,14 @@ use mathlib.Core.List.{List, [], _∷_, _++_, map}
 use Prim.Native.Nat.{ℕ, zero, suc, _+_, _-_, _≤_, _/_}
 use native.Mathlib.Omega.{arith}
 use lib.ListN.{length, take, drop, getD}
-use lib.IntN.{ℤ, _-ℤ_}
+use lib.IntN.{ℤ, pos, _+ℤ_, _-ℤ_}
 use lib.Signed.{ltZ}
-use Rattle.ints.specs.Ints.{P, size, minZ, maxZ, _⊏_}
-use Rattle.ints.proofs.Laws.{if-ind, dif, apart, lt-true}
+use Rattle.ints.specs.Ints.{P, size, minZ, maxZ, _⊑_, _⊏_}
+use Rattle.ints.proofs.Laws.{if-ind, sum, dif, apart, lt-true}
 use Rattle.run.specs.Run.{Bound as Limit, free, at, startOf}
 use Rattle.run.proofs.PlaceBest.{clampLow, clampHigh, clamp}
 use Rattle.run.proofs.Meet.{cutAt, raiseTo}
-use Rattle.run.proofs.Fast.{bisect, bisected}
-use Rattle.place_run.specs.Columns.{Sized, Small, maxSize, Cut, lastBefore, firstAfter, more, meetAt, joined}
+use Rattle.place_run.specs.Columns.{Sized, Small, maxSize, Cut, lastBefore, firstAfter, Joined}
 use Rattle.place_run.specs.Halves.{SmallLimit}
 use Rattle.place_run.proofs.Fill.{cut-is, raise-is}
 
@@ -55,29 +54,32 @@ small-high : (H : Limit) (x : ℤ) → SmallLimit H → size x ≤ maxSize → s
 small-high free x l p = p
 small-high (at y) x l p = small-min x y p l
 
-small-get : (xs : List ℤ) (k : ℕ) (d : ℤ) → Small xs → size d ≤ maxSize → size (getD xs k d) ≤ maxSize
-small-get [] k d q p = p
-small-get (x ∷ xs) zero d q p = q zero (omega arith)
-small-get (x ∷ xs) (suc k) d q p = small-get xs k d (sized-tail maxSize x xs q) p
+small-get : (b : ℕ) (xs : List ℤ) (k : ℕ) (d : ℤ) → Sized b xs → size d ≤ b → size (getD xs k d) ≤ b
+small-get b [] k d q p = p
+small-get b (x ∷ xs) zero d q p = q zero (omega arith)
+small-get b (x ∷ xs) (suc k) d q p = small-get b xs k d (sized-tail b x xs q) p
+
+pub small-start : (b : ℕ) (old : ℤ) (ns : List ℤ) → size old ≤ b → Sized b ns → size (startOf old ns) ≤ b
+unfolding startOf
+small-start b old ns p q = small-get b ns ((length ns + 1) / 2 - 1) old q p
 
 pub small-one : (L H : Limit) (old : ℤ) (ns : List ℤ) → SmallLimit L → SmallLimit H → size old ≤ maxSize → Small ns → size (clamp L H (startOf old ns)) ≤ maxSize
-unfolding startOf
-small-one L H old ns l h p q = small-high H _ h (small-low L _ l (small-get ns ((length ns + 1) / 2 - 1) old q p))
+small-one L H old ns l h p q = small-high H _ h (small-low L _ l (small-start maxSize old ns p q))
 
 -- ---- a join
-small-meet : (k n : ℕ) (zs : List ℤ) (cs : List ℕ) (ns : List ℤ) → size (firstAfter k zs) ≤ maxSize → size (lastBefore k zs) ≤ maxSize → firstAfter k zs ⊏ lastBefore k zs
-    → size (meetAt k n zs cs ns) ≤ maxSize
-unfolding meetAt
-small-meet k n zs cs ns p q h = let b = firstAfter k zs in let a = lastBefore k zs in let w = P (a -ℤ b) in
-    let m = bisect (λ m. more k n zs cs ns m) w b w in let r = bisected (λ m. more k n zs cs ns m) w b w (omega arith) in
-    omega (arith, r .low, r .high, dif a b, apart (a -ℤ b), apart m)
+small-between : (a b m : ℤ) → size a ≤ maxSize → size b ≤ maxSize → b ⊑ m → m ⊑ a → size m ≤ maxSize
+small-between a b m p q h k = omega (arith, apart m)
 
-pub small-joined : (k n : ℕ) (zs : List ℤ) (cs : List ℕ) (ns : List ℤ) → Cut k n zs cs ns → Small zs → Small (joined k n zs cs ns)
-unfolding joined
-small-joined k n zs cs ns c q = let m = meetAt k n zs cs ns in
-    if-ind (ltZ (firstAfter k zs) (lastBefore k zs)) (cutAt m (take k zs) ++ raiseTo m (drop k zs)) zs (λ l. Small l)
-    (λ t. let p : size m ≤ maxSize = small-meet k n zs cs ns (q k (c .others)) (q (k - 1) (omega (arith, c .some, c .others))) (lt-true (firstAfter k zs) (lastBefore k zs) t) in
+-- a place between b and a
+pub small-place : (a b : ℤ) (d : ℕ) → size a ≤ maxSize → size b ≤ maxSize → b ⊏ a → d ≤ P (a -ℤ b) → size (b +ℤ pos d) ≤ maxSize
+small-place a b d p q h k = small-between a b (b +ℤ pos d) p q (omega (arith, sum b (pos d))) (omega (arith, sum b (pos d), dif a b, apart (a -ℤ b)))
+
+pub small-joined : (k n : ℕ) (zs : List ℤ) (cs : List ℕ) (ns out : List ℤ) → Cut k n zs cs ns → Small zs → Joined k n zs cs ns out → Small out
+small-joined k n zs cs ns out c q j = let m = j .place in let a = lastBefore k zs in let b = firstAfter k zs in
+    rw (j .outcome) (if-ind (ltZ b a) (cutAt m (take k zs) ++ raiseTo m (drop k zs)) zs (λ l. Small l)
+    (λ t. let h = lt-true b a t in let r = j .meets h in
+    let p : size m ≤ maxSize = small-between a b m (q (k - 1) (omega (arith, c .some, c .others))) (q k (c .others)) (r .low) (omega (arith, r .high, dif a b, apart (a -ℤ b))) in
     sized-append maxSize (cutAt m (take k zs)) (raiseTo m (drop k zs))
     (rw (← cut-is m (take k zs)) (sized-map maxSize maxSize (λ x. minZ x m) (λ x s. small-min x m s p) (take k zs) (sized-take maxSize k zs q)))
     (rw (← raise-is m (drop k zs)) (sized-map maxSize maxSize (λ x. maxZ x m) (λ x s. small-max x m s p) (drop k zs) (sized-drop maxSize k zs q))))
-    (λ t. q)
+    (λ t. q))

@@ -1,28 +1,30 @@
 -- What the tests of a run that is taken say of its columns, and the definition's outcome of it. Assumes nothing.
 use mathlib.Core.Path.{_≡_, refl, sym, _∙_, ap}
-use mathlib.Core.Bool.{Bool, true, _&&_}
+use mathlib.Core.Bool.{true, _&&_}
 use mathlib.Core.List.{List, [], _∷_}
 use Prim.Native.Nat.{ℕ, zero, suc, _+_, _-_, _*_, _≤_, _<_}
 use native.Mathlib.Omega.{arith}
 use lib.Dec.{leb, eqb}
 use borrow.Author.Tests.{leb-true, eqb-true}
-use lib.ListN.{length, take, drop, getD, length-drop}
+use lib.ListN.{length, drop, getD, length-drop}
 use lib.IntN.{ℤ, pos, negsuc}
 use Rattle.ints.specs.Ints.{size}
 use Rattle.ints.proofs.Laws.{sum as sum-of, dif}
-use Rattle.run.specs.Run.{Bound as Limit, nondecreasing, neighboursInOrder, span}
+use Rattle.run.specs.Run.{Bound as Limit, neighboursInOrder, span}
 use Rattle.run.specs.Place.{placeRun, placeBoxes}
 use Rattle.run.specs.Words.{isPossible}
 use Rattle.run.proofs.Sorted.{and-left, and-right}
 use Rattle.run.proofs.Coordinates.{leftLimit, rightLimit}
+use Rattle.run.proofs.Optimal.{room-of}
 use Rattle.run.proofs.Fast.{fast-run}
 use Rattle.place_run.specs.declared.types.Bound.{Bound}
 use Rattle.place_run.specs.declared.types.Bound.the-variants.{Free, At}
 use Rattle.ints.specs.Lists.{sum}
 use Rattle.place_run.specs.Call.{limitOf, memberOf, positionsOf, leftDistance, otherDistances, boxesFrom, maxBoxes, maxNeighbours, isSmall, isFitting, reach, isWithin, allWithin, isDistance, allDistances, isInReach, isSound, isTaken, placedOf}
-use Rattle.place_run.specs.Columns.{partsInOrder, Columns}
+use Rattle.place_run.specs.Columns.{Columns}
 use Rattle.place_run.specs.Halves.{SmallLimit}
 use Rattle.place_run.specs.Offsets.{Near, maxOffset, Fits, placedBetween, requestOf}
+use Rattle.place_run.proofs.RefusalLaws.{in-order-same}
 use Rattle.place_run.proofs.Columns.{sum-cut}
 use Rattle.place_run.proofs.Offsets.{sum-step, span-is}
 
@@ -42,13 +44,6 @@ unfolding allDistances sum
 sum-bound [] e = omega arith
 sum-bound (d ∷ ds) e = let h = leb-true d (2 * reach) (and-right (leb 1 d) _ (and-left (isDistance d) _ e)) in
     omega (arith, sum-bound ds (and-right (isDistance d) _ e))
-
-order-is : (os : List ℤ) (ds cs : List ℕ) (ns : List ℤ) → length os ≡ length cs → neighboursInOrder (boxesFrom os ds cs ns) ≡ partsInOrder cs ns
-unfolding boxesFrom neighboursInOrder partsInOrder
-order-is [] ds [] ns e = refl
-order-is [] ds (c ∷ cs) ns e = absurd (omega arith)
-order-is (o ∷ os) ds [] ns e = absurd (omega arith)
-order-is (o ∷ os) ds (c ∷ cs) ns e = ap (λ (t : Bool). nondecreasing (take c ns) && t) (order-is os (drop 1 ds) cs (drop c ns) (omega arith))
 
 pub others-is : (l : Bound) (ds : List ℕ) → otherDistances l ds ≡ drop (memberOf l) ds
 others-is Free ds = refl
@@ -96,7 +91,7 @@ taken l r old ds cs ns zs e =
       boxes = leb-true (length old) maxBoxes (and-left _ (leb (sum cs) maxNeighbours) sm);
       neighbours = omega (arith, en, leb-true (sum cs) maxNeighbours (and-right (leb (length old) maxBoxes) _ sm));
       answer = eqb-true (length zs) (length old) (and-left f1 f2 g2);
-      columns = record { boxes = sym ec; neighbours = en; order = sym (order-is old (otherDistances l ds) cs ns (sym ec)) ∙ or };
+      columns = record { boxes = sym ec; neighbours = en; order = sym (in-order-same old (otherDistances l ds) cs ns (sym ec)) ∙ or };
       distances = eqb-true (length ds) (memberOf l + length old + memberOf r - 1) (and-right (f1 && f2 && f3 && f4) f5 fi);
       left = all-near (positionsOf l) (and-left h1 h2 k2);
       right = all-near (positionsOf r) (and-right h1 h2 k2);
@@ -145,6 +140,12 @@ module _ (l r : Bound) (old : List ℤ) (ds cs : List ℕ) (ns zs : List ℤ) (t
   pub members-within : 0 < length old → memberOf l ≤ length ds
   members-within h = omega (arith, t .distances, member-at-most l, member-at-most r)
 
+  -- no distance is left out
+  span-all : 0 < length old → span (boxesFrom old (otherDistances l ds) cs ns) ≡ sum (drop (memberOf l) ds)
+  span-all h = let d = t .distances in
+      let k : length (drop (memberOf l) ds) ≤ length old = omega (arith, length-drop (memberOf l) ds, member-at-most l, member-at-most r) in
+      ap (λ es. span (boxesFrom old es cs ns)) (others-is l ds) ∙ span-is old (drop (memberOf l) ds) cs ns (t .columns .boxes) k
+
   pub fits-between : 0 < length old → (L H : Limit) → L ≡ leftLimit (limitOf l) (leftDistance l ds) → H ≡ rightLimit (limitOf r) (sum (drop (memberOf l) ds))
       → Fits L H (drop (memberOf l) ds) old cs ns zs
   fits-between h L H eL eH = record {
@@ -152,6 +153,7 @@ module _ (l r : Bound) (old : List ℤ) (ds cs : List ℕ) (ns zs : List ℤ) (t
     answer = t .answer;
     left = rw eL (small-left l (leftDistance l ds) (t .left) left-small);
     right = rw eH (small-right r (sum (drop (memberOf l) ds)) (t .right) steps-small);
+    room = rw (eL, eH, ← span-all h) (room-of (limitOf l) (leftDistance l ds) (boxesFrom old (otherDistances l ds) cs ns) (limitOf r) (t .possible));
     olds = t .olds;
     nears = t .nears;
     offsets = steps-small;
@@ -160,12 +162,9 @@ module _ (l r : Bound) (old : List ℤ) (ds cs : List ℕ) (ns zs : List ℤ) (t
   pub between-is : 0 < length old → placedBetween (leftLimit (limitOf l) (leftDistance l ds)) (rightLimit (limitOf r) (sum (drop (memberOf l) ds))) (boxesFrom old (drop (memberOf l) ds) cs ns)
       ≡ placedOf (requestOf l r old ds cs ns)
   unfolding placedOf
-  between-is h = let bs = boxesFrom old (otherDistances l ds) cs ns in let L = leftLimit (limitOf l) (leftDistance l ds) in
-      let e = others-is l ds in let c = t .columns .boxes in let d = t .distances in
-      let k : length (drop (memberOf l) ds) ≤ length old = omega (arith, length-drop (memberOf l) ds, member-at-most l, member-at-most r) in
-      let s : span bs ≡ sum (drop (memberOf l) ds) = ap (λ es. span (boxesFrom old es cs ns)) e ∙ span-is old (drop (memberOf l) ds) cs ns c k in
+  between-is h = let bs = boxesFrom old (otherDistances l ds) cs ns in let L = leftLimit (limitOf l) (leftDistance l ds) in let e = others-is l ds in
       sym (fast-run (limitOf l) (leftDistance l ds) bs (limitOf r) (t .order) (t .possible)
-      ∙ ap (λ (w : ℕ). placedBetween L (rightLimit (limitOf r) w) bs) s
+      ∙ ap (λ (w : ℕ). placedBetween L (rightLimit (limitOf r) w) bs) (span-all h)
       ∙ ap (λ es. placedBetween L (rightLimit (limitOf r) (sum (drop (memberOf l) ds))) (boxesFrom old es cs ns)) e)
 
   pub none-is : length old ≡ 0 → zs ≡ placedOf (requestOf l r old ds cs ns)

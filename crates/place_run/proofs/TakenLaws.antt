@@ -1,6 +1,6 @@
 -- Refusal 8 as the row of tests that `is_taken` makes, in the order of document 01, and what those that hold say. Assumes nothing.
-use mathlib.Core.Path.{_≡_}
-use mathlib.Core.Bool.{Bool, true, _&&_}
+use mathlib.Core.Path.{_≡_, refl, ap, _∙_}
+use mathlib.Core.Bool.{Bool, true, false, _&&_}
 use mathlib.Core.List.{List}
 use Prim.Native.Nat.{_+_, _-_, _≤_, min}
 use native.Mathlib.Omega.{arith}
@@ -21,6 +21,12 @@ pub record Fitting (q : Request) : Type 0 where
   pub counts : length (q .counts) ≡ q .boxes
   pub neighbours : length (q .neighbours) ≡ sum (q .counts)
   pub distances : length (q .distances) ≡ memberOf (q .left) + q .boxes + memberOf (q .right) - 1
+
+later : (a n d o : Bool) → (a && n && d && o) ≡ ((a && d) && (n && o))
+later true true d o = refl
+later true false true o = refl
+later true false false o = refl
+later false n d o = refl
 
 module _ (q : Request) (answer : List ℤ) where
   -- the tests up to the one that the name says
@@ -48,18 +54,20 @@ module _ (q : Request) (answer : List ℤ) where
   abbrev pub toOldWithin : Bool
   toOldWithin = toRightWithin && allWithin (q .old)
 
-  abbrev pub toNeighboursWithin : Bool
-  toNeighboursWithin = toOldWithin && allWithin (q .neighbours)
-
   abbrev pub toAllDistances : Bool
-  toAllDistances = toNeighboursWithin && allDistances (q .distances)
+  toAllDistances = toOldWithin && allDistances (q .distances)
 
-  abbrev pub toOrder : Bool
-  toOrder = toAllDistances && neighboursInOrder (boxesOf q)
+  abbrev pub toNeighboursTaken : Bool
+  toNeighboursTaken = toAllDistances && (allWithin (q .neighbours) && neighboursInOrder (boxesOf q))
 
-  pub taken-list : isTaken q answer ≡ (toOrder && isPossible (limitOf (q .left)) (leftDistance (q .left) (q .distances)) (boxesOf q) (limitOf (q .right)))
+  -- the tests of the neighbours come last but one here, both at once
+  pub taken-list : isTaken q answer ≡ (toNeighboursTaken && isPossible (limitOf (q .left)) (leftDistance (q .left) (q .distances)) (boxesOf q) (limitOf (q .right)))
   unfolding isTaken
-  taken-list = simp and-assoc
+  taken-list =
+      let n = allWithin (q .neighbours) in let d = allDistances (q .distances) in let o = neighboursInOrder (boxesOf q) in
+      let p = isPossible (limitOf (q .left)) (leftDistance (q .left) (q .distances)) (boxesOf q) (limitOf (q .right)) in
+      let row : isTaken q answer ≡ (toOldWithin && n && d && o && p) = simp and-assoc in
+      row ∙ ap (λ t. t && p) (later toOldWithin n d o)
 
   -- and what those that hold say
   small-of : toCounts ≡ true → isSmall q ≡ true
@@ -98,15 +106,14 @@ module _ (q : Request) (answer : List ℤ) where
 
   pub reached : toAllDistances ≡ true → Reached
   reached e =
-      let e4 = and-left toNeighboursWithin (allDistances (q .distances)) e in
-      let e3 = and-left toOldWithin (allWithin (q .neighbours)) e4 in
+      let e3 = and-left toOldWithin (allDistances (q .distances)) e in
       let e2 = and-left toRightWithin (allWithin (q .old)) e3 in
       let e1 = and-left toLeftWithin (allWithin (positionsOf (q .right))) e2 in record {
         fits = fitting (and-left toDistances (allWithin (positionsOf (q .left))) e1);
         left = and-right toDistances (allWithin (positionsOf (q .left))) e1;
         right = and-right toLeftWithin (allWithin (positionsOf (q .right))) e2;
-        distances = and-right toNeighboursWithin (allDistances (q .distances)) e;
+        distances = and-right toOldWithin (allDistances (q .distances)) e;
       }
 
-  pub ordered : toOrder ≡ true → toAllDistances ≡ true
-  ordered e = and-left toAllDistances (neighboursInOrder (boxesOf q)) e
+  pub ordered : toNeighboursTaken ≡ true → toAllDistances ≡ true
+  ordered e = and-left toAllDistances (allWithin (q .neighbours) && neighboursInOrder (boxesOf q)) e

@@ -8,11 +8,11 @@ use lib.Dec.{ltb}
 use lib.ListN.{length, take, drop, getD}
 use lib.IntN.{ℤ, pos, _-ℤ_}
 use lib.Signed.{ltZ}
-use Rattle.ints.specs.Ints.{P, size}
+use Rattle.ints.specs.Ints.{P, N, size, _⊑_, _⊏_}
 use Rattle.run.specs.Run.{nondecreasing}
 use Rattle.run.proofs.Sorted.{countUpTo}
 use Rattle.run.proofs.Meet.{cutAt, raiseTo}
-use Rattle.run.proofs.Fast.{bisect}
+use Rattle.run.proofs.Fast.{Bisected}
 use Rattle.ints.specs.Lists.{sum}
 
 -- Each box's neighbours "in nondecreasing order".
@@ -47,36 +47,80 @@ pub record Cut (k n : ℕ) (zs : List ℤ) (cs : List ℕ) (ns : List ℤ) : Typ
 abbrev pub counted : Bool → ℤ → ℤ → Bool
 counted left z m = cond left (ltZ m z) (not (ltZ m z))
 
--- How many neighbours of those boxes are at or left of m, and how many are right of it.
+-- How many neighbours of a box are at or left of m, and how many are right of it, if the test counts that box,
+abbrev pub boxUpTo : Bool → ℤ → List ℤ → ℤ → ℕ
+boxUpTo left z ns m = cond (counted left z m) (countUpTo m ns) 0
+
+abbrev pub boxBeyond : Bool → ℤ → List ℤ → ℤ → ℕ
+boxBeyond left z ns m = cond (counted left z m) (length ns - countUpTo m ns) 0
+
+-- and of the boxes of a half.
 unfoldable pub upTo : Bool → List ℤ → List ℕ → List ℤ → ℤ → ℕ
 upTo left [] cs ns m = 0
 upTo left (z ∷ zs) [] ns m = 0
-upTo left (z ∷ zs) (c ∷ cs) ns m = cond (counted left z m) (countUpTo m (take c ns)) 0 + upTo left zs cs (drop c ns) m
+upTo left (z ∷ zs) (c ∷ cs) ns m = boxUpTo left z (take c ns) m + upTo left zs cs (drop c ns) m
 
 unfoldable pub beyond : Bool → List ℤ → List ℕ → List ℤ → ℤ → ℕ
 beyond left [] cs ns m = 0
 beyond left (z ∷ zs) [] ns m = 0
-beyond left (z ∷ zs) (c ∷ cs) ns m =
-    cond (counted left z m) (length (take c ns) - countUpTo m (take c ns)) 0 + beyond left zs cs (drop c ns) m
+beyond left (z ∷ zs) (c ∷ cs) ns m = boxBeyond left z (take c ns) m + beyond left zs cs (drop c ns) m
 
--- The test at m: strictly more are at or left of m than right of it. Of the boxes it is moreUpTo, and what follows is
--- meetingPlace and joinFast (proofs/ByHalves.antt, more-is, meeting-is, joined-is).
+-- The test at m: strictly more are at or left of m than right of it. Of the boxes it is moreUpTo (proofs/ByHalves.antt, more-is).
 unfoldable pub more : ℕ → ℕ → List ℤ → List ℕ → List ℤ → ℤ → Bool
 more k n zs cs ns m =
     ltb (beyond true (take k zs) (take k cs) (take n ns) m + beyond false (drop k zs) (drop k cs) (drop n ns) m)
     (upTo true (take k zs) (take k cs) (take n ns) m + upTo false (drop k zs) (drop k cs) (drop n ns) m)
 
--- The last position of the left half, the first of the right one, and where halves that overlap meet.
+-- x is at most b left of m, or less than f right of it.
+abbrev pub Beside : ℤ → ℕ → ℕ → ℤ → Type 0
+Beside m b f x = (P m + N x ≤ P x + N m + b) × (P x + N m < P m + N x + f)
+
+-- b back from m, or f on from it, is not past p.
+abbrev pub BackTo : ℤ → ℤ → ℕ → Type 0
+BackTo p m b = p ⊑ m → P p + N m + b ≤ P m + N p
+
+abbrev pub FarTo : ℤ → ℤ → ℕ → Type 0
+FarTo p m f = m ⊏ p → P m + N p + f ≤ P p + N m
+
+-- The places beside m that b and f mark off: m itself, and none that `back` and `far` do not.
+pub record Around (back far b f : ℕ) : Type 0 where
+  pub left : b ≤ back
+  pub right : f ≤ far
+  pub some : 0 < f
+
+-- u and v are the counts of a box, or of a half, at all places beside m that b and f mark off.
+pub record BoxCounts (left : Bool) (z : ℤ) (ns : List ℤ) (m : ℤ) (back far u v b f : ℕ) : Type 0 where
+  pub around : Around back far b f
+  pub ups : (x : ℤ) → Beside m b f x → u ≡ boxUpTo left z ns x
+  pub beyonds : (x : ℤ) → Beside m b f x → v ≡ boxBeyond left z ns x
+
+pub record HalfCounts (left : Bool) (zs : List ℤ) (cs : List ℕ) (ns : List ℤ) (m : ℤ) (back far u v b f : ℕ) : Type 0 where
+  pub around : Around back far b f
+  pub sizes : u + v ≤ length ns
+  pub ups : (x : ℤ) → Beside m b f x → u ≡ upTo left zs cs ns x
+  pub beyonds : (x : ℤ) → Beside m b f x → v ≡ beyond left zs cs ns x
+
+-- t is the outcome of the test at all of them.
+pub record Tests (k n : ℕ) (zs : List ℤ) (cs : List ℕ) (ns : List ℤ) (m : ℤ) (back far : ℕ) (t : Bool) (b f : ℕ) : Type 0 where
+  pub around : Around back far b f
+  pub tests : (x : ℤ) → Beside m b f x → t ≡ more k n zs cs ns x
+
+-- The last position of the left half, the first of the right one, and by how much they overlap.
 abbrev pub lastBefore : ℕ → List ℤ → ℤ
 lastBefore k zs = getD zs (k - 1) (pos 0)
 
 abbrev pub firstAfter : ℕ → List ℤ → ℤ
 firstAfter k zs = getD zs k (pos 0)
 
-unfoldable pub meetAt : ℕ → ℕ → List ℤ → List ℕ → List ℤ → ℤ
-meetAt k n zs cs ns = let w = P (lastBefore k zs -ℤ firstAfter k zs) in bisect (λ m. more k n zs cs ns m) w (firstAfter k zs) w
+abbrev pub overlap : ℕ → List ℤ → ℕ
+overlap k zs = P (lastBefore k zs -ℤ firstAfter k zs)
 
--- The join: the left half cut at that place, the right half raised to it.
-unfoldable pub joined : ℕ → ℕ → List ℤ → List ℕ → List ℤ → List ℤ
-joined k n zs cs ns = let m = meetAt k n zs cs ns in
-    cond (ltZ (firstAfter k zs) (lastBefore k zs)) (cutAt m (take k zs) ++ raiseTo m (drop k zs)) zs
+-- Halves that overlap meet at m: the test holds there, or it is the right end, and fails just before, or it is the left end.
+abbrev pub MeetAt : ℕ → ℕ → List ℤ → List ℕ → List ℤ → ℤ → Type 0
+MeetAt k n zs cs ns m = Bisected (λ x. more k n zs cs ns x) (firstAfter k zs) (overlap k zs) m
+
+-- The join: where they overlap, the left half is cut at such a place and the right half raised to it.
+pub record Joined (k n : ℕ) (zs : List ℤ) (cs : List ℕ) (ns out : List ℤ) : Type 0 where
+  pub place : ℤ
+  pub meets : firstAfter k zs ⊏ lastBefore k zs → MeetAt k n zs cs ns place
+  pub outcome : out ≡ cond (ltZ (firstAfter k zs) (lastBefore k zs)) (cutAt place (take k zs) ++ raiseTo place (drop k zs)) zs

@@ -1,4 +1,4 @@
--- What placing a run by halves, in run coordinates, asks and gives.
+-- What placing a run by halves, in run coordinates, gives.
 use mathlib.Core.Path.{_≡_}
 use mathlib.Core.List.{List}
 use Prim.Native.Nat.{ℕ, _≤_}
@@ -8,20 +8,11 @@ use Rattle.ints.specs.Ints.{size}
 use Rattle.run.specs.Run.{Bound as Limit, free, at}
 use Rattle.run.proofs.Fast.{placeFast}
 use Rattle.place_run.specs.Call.{boxesFrom}
-use Rattle.place_run.specs.Columns.{Columns, Small, maxSize}
+use Rattle.place_run.specs.Columns.{Small, maxSize}
 
 abbrev pub SmallLimit : Limit → Type 0
 SmallLimit free = Unit {0}
 SmallLimit (at x) = size x ≤ maxSize
-
--- The columns fit each other and the answer, and all positions are small.
-pub record Ready (L H : Limit) (old : List ℤ) (cs : List ℕ) (ns zs : List ℤ) : Type 0 where
-  pub columns : Columns old cs ns
-  pub answer : length zs ≡ length old
-  pub left : SmallLimit L
-  pub right : SmallLimit H
-  pub olds : Small old
-  pub nears : Small ns
 
 -- The answer is that of the definition, whatever the distances ds (in run coordinates they are of no account), and small.
 -- The number f is at least the number of boxes.

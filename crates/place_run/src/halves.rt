@@ -1,15 +1,21 @@
-// Placing a run by halves, in run coordinates: the bounds are the same limits for every box, and no distance is left.
+// Placing a run by halves, in run coordinates: the bounds are the same limits for every box, and no distance is left. Old
+// positions and neighbours are handed in as they are, with the offset of each box beside them.
 use crate::meet::join;
 use crate::types::Bound;
 use ints::greater;
 use ints::lesser;
+use ints::minus;
 ghost use mathlib.Core.Path.{_≡_};
-ghost use Prim.Native.Nat.{_<_, _^_};
+ghost use mathlib.Core.List.{map};
+ghost use Prim.Native.Nat.{_<_, _≤_, _^_};
+ghost use Rattle.ints.specs.Ints.{size};
 ghost use Rattle.run.specs.Run.{startOf};
+ghost use Rattle.run.proofs.Sorted.{less};
 ghost use Rattle.run.proofs.PlaceBest.{clampLow, clampHigh, clamp};
 ghost use Rattle.ints.specs.Lists.{sum};
-ghost use Rattle.place_run.specs.Call.{limitOf};
-ghost use Rattle.place_run.specs.Halves.{Ready, Placed};
+ghost use Rattle.place_run.specs.Call.{limitOf, reach};
+ghost use Rattle.place_run.specs.Halves.{Placed};
+ghost use Rattle.place_run.specs.Offsets.{lessOffsets, lessNear, Near, maxOffset, Given};
 
 // Where a lone box starts: the middle one of its neighbours, the left one of two, or its old position if it has none.
 fn start(old: i64, near: &[i64]) -> i64
@@ -41,10 +47,11 @@ fn lowered(right: Bound, x: i64) -> i64
 }
 
 // One box: from its start raised to the left limit, then lowered to the right one.
-fn place_one(left: Bound, right: Bound, old: i64, near: &[i64]) -> i64
-    ensures { λ r. ⌜ r ≡ clamp (limitOf left) (limitOf right) (startOf old (now (near .entry))) ⌝ }
+fn place_one(left: Bound, right: Bound, old: i64, offset: u64, near: &[i64]) -> i64
+    requires { ⌜ (size old ≤ reach) × (offset ≤ maxOffset) × Near (now near) ⌝ }
+    ensures { λ r. ⌜ r ≡ clamp (limitOf left) (limitOf right) (startOf (less offset old) (map (less offset) (now (near .entry)))) ⌝ }
 {
-    lowered(right, raised(left, start(old, near)))
+    lowered(right, raised(left, minus(start(old, near), offset)))
 }
 
 pub fn total(counts: &[u64]) -> usize
@@ -65,19 +72,20 @@ pub fn place_halves(
     left: Bound,
     right: Bound,
     old: &[i64],
+    offsets: &[u64],
     counts: &[u64],
     near: &[i64],
     z: &mut [i64],
 )
-    requires { ⌜ Ready (limitOf left) (limitOf right) (now old) (now counts) (now near) (now z) ⌝ }
-    ensures { λ _. ⌜ Placed (limitOf left) (limitOf right) (now (old .entry)) (now (counts .entry)) (now (near .entry)) (now (z .exit)) ⌝ }
+    requires { ⌜ Given (limitOf left) (limitOf right) (now old) (now offsets) (now counts) (now near) (now z) ⌝ }
+    ensures { λ _. ⌜ Placed (limitOf left) (limitOf right) (lessOffsets (now (offsets .entry)) (now (old .entry))) (now (counts .entry)) (lessNear (now (offsets .entry)) (now (counts .entry)) (now (near .entry))) (now (z .exit)) ⌝ }
 {
     let r = old.len();
     if r == 0 {
         return;
     }
     if r == 1 {
-        let x = place_one(left, right, old[0], near);
+        let x = place_one(left, right, old[0], offsets[0], near);
         z[0] = x;
         return;
     }
@@ -87,6 +95,7 @@ pub fn place_halves(
         left,
         right,
         &old[..k],
+        &offsets[..k],
         &counts[..k],
         &near[..n],
         &mut z[..k],
@@ -95,9 +104,10 @@ pub fn place_halves(
         left,
         right,
         &old[k..],
+        &offsets[k..],
         &counts[k..],
         &near[n..],
         &mut z[k..],
     );
-    join(k, n, counts, near, z);
+    join(k, n, offsets, counts, near, z);
 }

@@ -1,23 +1,86 @@
-// Joining two placed halves of a run: where they overlap, the place at which they meet. All positions are in run coordinates.
+// Joining two placed halves of a run: where they overlap, the place at which they meet. All positions are in run coordinates
+// but those of the neighbours, which are their box's offset further right.
 use crate::count::count_up_to;
 use ints::apart;
 use ints::greater;
 use ints::lesser;
 use ints::plus;
 ghost use mathlib.Core.Path.{_≡_};
-ghost use mathlib.Core.Bool.{true, cond};
-ghost use Prim.Native.Nat.{_+_, _-_, _≤_};
-ghost use lib.ListN.{length};
-ghost use Rattle.ints.specs.Ints.{_⊏_};
+ghost use mathlib.Core.Bool.{true};
+ghost use mathlib.Core.List.{map};
+ghost use Prim.Native.Nat.{_+_, _-_, _≤_, _<_, _^_, min};
+ghost use lib.ListN.{length, getD};
+ghost use lib.IntN.{pos};
+ghost use Rattle.ints.specs.Ints.{size, _⊏_};
 ghost use Rattle.run.specs.Run.{nondecreasing};
-ghost use Rattle.run.proofs.Sorted.{countUpTo};
+ghost use Rattle.run.proofs.Sorted.{less};
 ghost use Rattle.run.proofs.Meet.{cutAt, raiseTo};
-ghost use Rattle.place_run.specs.Columns.{Columns, Small, Cut, counted, upTo, beyond, more, meetAt, joined, lastBefore, firstAfter};
+ghost use Rattle.place_run.specs.Columns.{Columns, Small, maxSize, Cut, counted, BackTo, FarTo, BoxCounts, HalfCounts, Tests, lastBefore, firstAfter, MeetAt, Joined};
+ghost use Rattle.place_run.specs.Offsets.{lessNear, OffsetsOf, Near, maxOffset};
 
-// How many neighbours are at or left of a place, and how many are right of it.
+// How many neighbours are at or left of a place, and how many are right of it. It is the same at the places that are at most
+// `back` to its left or less than `far` to its right.
 struct Counted {
     upto: usize,
     beyond: usize,
+    back: u64,
+    far: u64,
+}
+
+// Whether more are at or left of a place than right of it, there and at those places beside it.
+struct Tested {
+    more: bool,
+    back: u64,
+    far: u64,
+}
+
+fn least(a: u64, b: u64) -> u64
+    ensures { λ r. ⌜ r ≡ min a b ⌝ }
+{
+    if a < b { a } else { b }
+}
+
+// How far to go back from m: not past p, if p is at m or left of it.
+fn back_to(p: i64, m: i64, back: u64) -> u64
+    requires { ⌜ size p + size m < 2 ^ 63 ⌝ }
+    ensures { λ r. ⌜ (r ≤ back) × BackTo p m r ⌝ }
+{
+    if m < p {
+        back
+    } else {
+        least(back, apart(m, p))
+    }
+}
+
+// How far to go on from m: not past p, if p is right of it.
+fn far_to(p: i64, m: i64, far: u64) -> u64
+    requires { ⌜ (size p + size m < 2 ^ 63) × (0 < far) ⌝ }
+    ensures { λ r. ⌜ (r ≤ far) × (0 < r) × FarTo p m r ⌝ }
+{
+    if m < p { least(far, apart(p, m)) } else { far }
+}
+
+// Back to the last of the first n neighbours, and on to the one after them.
+fn back_to_near(near: &[i64], n: usize, m: i64, back: u64) -> u64
+    requires { ⌜ Near (now near) × (n ≤ length (now near)) × (size m ≤ 2 ^ 51) ⌝ }
+    ensures { λ r. ⌜ (r ≤ back) × (0 < n → BackTo (getD (now (near .entry)) (n - 1) (pos 0)) m r) ⌝ }
+{
+    if n == 0 {
+        back
+    } else {
+        back_to(near[n - 1], m, back)
+    }
+}
+
+fn far_to_near(near: &[i64], n: usize, m: i64, far: u64) -> u64
+    requires { ⌜ Near (now near) × (size m ≤ 2 ^ 51) × (0 < far) ⌝ }
+    ensures { λ r. ⌜ (r ≤ far) × (0 < r) × (n < length (now (near .entry)) → FarTo (getD (now (near .entry)) n (pos 0)) m r) ⌝ }
+{
+    if n < near.len() {
+        far_to(near[n], m, far)
+    } else {
+        far
+    }
 }
 
 fn is_counted(left: bool, z: i64, m: i64) -> bool
@@ -26,72 +89,137 @@ fn is_counted(left: bool, z: i64, m: i64) -> bool
     if left { m < z } else { z <= m }
 }
 
-fn count_box(left: bool, z: i64, near: &[i64], m: i64) -> Counted
-    requires { ⌜ nondecreasing (now near) ≡ true ⌝ }
-    ensures { λ r. ⌜ (r .upto ≡ cond (counted left z m) (countUpTo m (now (near .entry))) 0) × (r .beyond ≡ cond (counted left z m) (length (now (near .entry)) - countUpTo m (now (near .entry))) 0) ⌝ }
+fn count_box(left: bool, z: i64, offset: u64, near: &[i64], m: i64, back: u64, far: u64) -> Counted
+    requires { ⌜ (nondecreasing (now near) ≡ true) × Near (now near) × (offset ≤ maxOffset) × (size z ≤ maxSize) × (size m ≤ maxSize) × (0 < far) ⌝ }
+    ensures { λ r. ⌜ BoxCounts left z (map (less offset) (now (near .entry))) m back far (r .upto) (r .beyond) (r .back) (r .far) ⌝ }
 {
-    if is_counted(left, z, m) {
-        let n = count_up_to(near, m);
-        Counted {
-            upto: n,
-            beyond: near.len() - n,
-        }
-    } else {
-        Counted { upto: 0, beyond: 0 }
+    let b = back_to(z, m, back);
+    let f = far_to(z, m, far);
+    if !is_counted(left, z, m) {
+        return Counted {
+            upto: 0,
+            beyond: 0,
+            back: b,
+            far: f,
+        };
+    }
+    let at = plus(m, offset);
+    let n = count_up_to(near, at);
+    Counted {
+        upto: n,
+        beyond: near.len() - n,
+        back: back_to_near(near, n, at, b),
+        far: far_to_near(near, n, at, f),
     }
 }
 
 // The counts of one half at m.
-fn count_half(left: bool, z: &[i64], counts: &[u64], near: &[i64], m: i64) -> Counted
-    requires { ⌜ Columns (now z) (now counts) (now near) ⌝ }
-    ensures { λ r. ⌜ (r .upto ≡ upTo left (now (z .entry)) (now (counts .entry)) (now (near .entry)) m) × (r .beyond ≡ beyond left (now (z .entry)) (now (counts .entry)) (now (near .entry)) m) × (r .upto + r .beyond ≤ length (now (near .entry))) ⌝ }
+fn count_half(
+    left: bool,
+    z: &[i64],
+    offsets: &[u64],
+    counts: &[u64],
+    near: &[i64],
+    m: i64,
+    back: u64,
+    far: u64,
+) -> Counted
+    requires { ⌜ Columns (now z) (now counts) (now near) × OffsetsOf (now offsets) (now z) × Small (now z) × Near (now near) × (size m ≤ maxSize) × (0 < far) ⌝ }
+    ensures { λ r. ⌜ HalfCounts left (now (z .entry)) (now (counts .entry)) (lessNear (now (offsets .entry)) (now (counts .entry)) (now (near .entry))) m back far (r .upto) (r .beyond) (r .back) (r .far) ⌝ }
 {
     let mut upto: usize = 0;
     let mut beyond: usize = 0;
+    let mut b = back;
+    let mut f = far;
     let mut at: usize = 0;
     let mut i: usize = 0;
     while i < z.len() {
         let c = counts[i] as usize;
-        let b = count_box(left, z[i], &near[at..at + c], m);
-        upto += b.upto;
-        beyond += b.beyond;
+        let box_counts = count_box(left, z[i], offsets[i], &near[at..at + c], m, b, f);
+        upto += box_counts.upto;
+        beyond += box_counts.beyond;
+        b = box_counts.back;
+        f = box_counts.far;
         at += c;
         i += 1;
     }
     Counted {
         upto: upto,
         beyond: beyond,
+        back: b,
+        far: f,
     }
 }
 
 // The test at m of the halves cut after k boxes, which have n neighbours.
-fn more_up_to(k: usize, n: usize, z: &[i64], counts: &[u64], near: &[i64], m: i64) -> bool
-    requires { ⌜ Cut k n (now z) (now counts) (now near) ⌝ }
-    ensures { λ r. ⌜ r ≡ more k n (now (z .entry)) (now (counts .entry)) (now (near .entry)) m ⌝ }
+fn more_up_to(
+    k: usize,
+    n: usize,
+    z: &[i64],
+    offsets: &[u64],
+    counts: &[u64],
+    near: &[i64],
+    m: i64,
+    back: u64,
+    far: u64,
+) -> Tested
+    requires { ⌜ Cut k n (now z) (now counts) (now near) × OffsetsOf (now offsets) (now z) × Small (now z) × Near (now near) × (size m ≤ maxSize) × (0 < far) ⌝ }
+    ensures { λ r. ⌜ Tests k n (now (z .entry)) (now (counts .entry)) (lessNear (now (offsets .entry)) (now (counts .entry)) (now (near .entry))) m back far (r .more) (r .back) (r .far) ⌝ }
 {
-    let l = count_half(true, &z[..k], &counts[..k], &near[..n], m);
-    let r = count_half(false, &z[k..], &counts[k..], &near[n..], m);
-    l.beyond + r.beyond < l.upto + r.upto
+    let l = count_half(
+        true,
+        &z[..k],
+        &offsets[..k],
+        &counts[..k],
+        &near[..n],
+        m,
+        back,
+        far,
+    );
+    let r = count_half(
+        false,
+        &z[k..],
+        &offsets[k..],
+        &counts[k..],
+        &near[n..],
+        m,
+        l.back,
+        l.far,
+    );
+    Tested {
+        more: l.beyond + r.beyond < l.upto + r.upto,
+        back: r.back,
+        far: r.far,
+    }
 }
 
 // Where the halves meet: bisection between the first position b of the right half and the last one of the left half. The part
-// still searched begins lo to the right of b and is w wide.
-fn meeting_place(k: usize, n: usize, z: &[i64], counts: &[u64], near: &[i64]) -> i64
-    requires { ⌜ Cut k n (now z) (now counts) (now near) ⌝ }
-    requires { ⌜ Small (now z) ⌝ }
+// still searched begins lo to the right of b and is w wide. A test in its middle takes half of it away, and the places beside
+// the middle that have the same counts.
+fn meeting_place(
+    k: usize,
+    n: usize,
+    z: &[i64],
+    offsets: &[u64],
+    counts: &[u64],
+    near: &[i64],
+) -> i64
+    requires { ⌜ Cut k n (now z) (now counts) (now near) × OffsetsOf (now offsets) (now z) ⌝ }
+    requires { ⌜ Small (now z) × Near (now near) ⌝ }
     requires { ⌜ firstAfter k (now z) ⊏ lastBefore k (now z) ⌝ }
-    ensures { λ r. ⌜ r ≡ meetAt k n (now (z .entry)) (now (counts .entry)) (now (near .entry)) ⌝ }
+    ensures { λ r. ⌜ MeetAt k n (now (z .entry)) (now (counts .entry)) (lessNear (now (offsets .entry)) (now (counts .entry)) (now (near .entry))) r ⌝ }
 {
     let b = z[k];
     let mut lo: u64 = 0;
     let mut w = apart(z[k - 1], b);
     while 0 < w {
         let h = w / 2;
-        if more_up_to(k, n, z, counts, near, plus(b, lo + h)) {
-            w = h;
+        let t = more_up_to(k, n, z, offsets, counts, near, plus(b, lo + h), h, w - h);
+        if t.more {
+            w = h - t.back;
         } else {
-            lo += h + 1;
-            w -= h + 1;
+            lo += h + t.far;
+            w -= h + t.far;
         }
     }
     plus(b, lo)
@@ -120,13 +248,13 @@ fn raise(m: i64, z: &mut [i64])
 }
 
 // Joins the halves cut after k boxes, which have n neighbours. Halves that do not overlap stay.
-pub fn join(k: usize, n: usize, counts: &[u64], near: &[i64], z: &mut [i64])
-    requires { ⌜ Cut k n (now z) (now counts) (now near) ⌝ }
-    requires { ⌜ Small (now z) ⌝ }
-    ensures { λ _. ⌜ now (z .exit) ≡ joined k n (now (z .entry)) (now (counts .entry)) (now (near .entry)) ⌝ }
+pub fn join(k: usize, n: usize, offsets: &[u64], counts: &[u64], near: &[i64], z: &mut [i64])
+    requires { ⌜ Cut k n (now z) (now counts) (now near) × OffsetsOf (now offsets) (now z) ⌝ }
+    requires { ⌜ Small (now z) × Near (now near) ⌝ }
+    ensures { λ _. ⌜ Joined k n (now (z .entry)) (now (counts .entry)) (lessNear (now (offsets .entry)) (now (counts .entry)) (now (near .entry))) (now (z .exit)) ⌝ }
 {
     if z[k] < z[k - 1] {
-        let m = meeting_place(k, n, z, counts, near);
+        let m = meeting_place(k, n, z, offsets, counts, near);
         cut(m, &mut z[..k]);
         raise(m, &mut z[k..]);
     }

@@ -1,5 +1,5 @@
-// Placing one run: into run coordinates, placed there by halves, and back. The offset of a box is the sum of the distances
-// before it; `steps` are the distances from each box to the next member.
+// Placing one run: by halves in run coordinates, and back. The offset of a box is the sum of the distances before it; `steps`
+// are the distances from each box to the next member.
 use crate::halves::place_halves;
 use crate::halves::total;
 use crate::types::Bound;
@@ -7,16 +7,14 @@ use ints::minus;
 use ints::plus;
 ghost use mathlib.Core.Path.{_≡_};
 ghost use mathlib.Core.Bool.{true};
-ghost use mathlib.Core.List.{map};
 ghost use Prim.Native.Nat.{_≤_};
 ghost use lib.ListN.{length, getD};
-ghost use Rattle.run.proofs.Sorted.{less};
 ghost use Rattle.run.proofs.Coordinates.{leftLimit, rightLimit};
 ghost use Rattle.ints.specs.Lists.{sum};
 ghost use Rattle.place_run.specs.Call.{limitOf, memberOf, leftDistance, boxesFrom, isTaken, placedOf};
 ghost use Rattle.place_run.specs.Columns.{Small};
 ghost use Rattle.place_run.specs.Halves.{SmallLimit};
-ghost use Rattle.place_run.specs.Offsets.{lessOffsets, lessNear, plusOffsets, Near, maxOffset, Fits, placedBetween, requestOf};
+ghost use Rattle.place_run.specs.Offsets.{offsetsFrom, plusOffsets, OffsetsOf, maxOffset, Fits, placedBetween, requestOf};
 
 // The largest run: "64 boxes", "2,048 neighbours in all".
 pub const MAX_BOXES: usize = 64;
@@ -30,60 +28,28 @@ fn distance_at(distances: &[u64], i: usize) -> u64
     if i < distances.len() { distances[i] } else { 0 }
 }
 
-fn less_old(steps: &[u64], old: &[i64], out: &mut [i64])
-    requires { ⌜ (length (now out) ≡ length (now old)) × (sum (now steps) ≤ maxOffset) ⌝ }
-    requires { ⌜ Near (now old) ⌝ }
-    ensures { λ _. ⌜ now (out .exit) ≡ lessOffsets 0 (now (steps .entry)) (now (old .entry)) ⌝ }
-{
-    let mut offset: u64 = 0;
-    let mut i: usize = 0;
-    while i < old.len() {
-        out[i] = minus(old[i], offset);
-        offset += distance_at(steps, i);
-        i += 1;
-    }
-}
-
-// One box's neighbours.
-fn less_part(offset: u64, near: &[i64], out: &mut [i64])
-    requires { ⌜ (length (now out) ≡ length (now near)) × (offset ≤ maxOffset) ⌝ }
-    requires { ⌜ Near (now near) ⌝ }
-    ensures { λ _. ⌜ now (out .exit) ≡ map (less offset) (now (near .entry)) ⌝ }
-{
-    let mut i: usize = 0;
-    while i < near.len() {
-        out[i] = minus(near[i], offset);
-        i += 1;
-    }
-}
-
-fn less_near(steps: &[u64], counts: &[u64], near: &[i64], out: &mut [i64])
-    requires { ⌜ (length (now near) ≡ sum (now counts)) × (length (now out) ≡ length (now near)) ⌝ }
-    requires { ⌜ (sum (now steps) ≤ maxOffset) × Near (now near) ⌝ }
-    ensures { λ _. ⌜ now (out .exit) ≡ lessNear 0 (now (steps .entry)) (now (counts .entry)) (now (near .entry)) ⌝ }
-{
-    let mut offset: u64 = 0;
-    let mut at: usize = 0;
-    let mut i: usize = 0;
-    while i < counts.len() {
-        let c = counts[i] as usize;
-        less_part(offset, &near[at..at + c], &mut out[at..at + c]);
-        offset += distance_at(steps, i);
-        at += c;
-        i += 1;
-    }
-}
-
-fn plus_offsets(steps: &[u64], z: &mut [i64])
+// The offset of each box.
+fn fill_offsets(steps: &[u64], offsets: &mut [u64])
     requires { ⌜ sum (now steps) ≤ maxOffset ⌝ }
-    requires { ⌜ Small (now z) ⌝ }
-    ensures { λ _. ⌜ now (z .exit) ≡ plusOffsets 0 (now (steps .entry)) (now (z .entry)) ⌝ }
+    ensures { λ _. ⌜ now (offsets .exit) ≡ offsetsFrom 0 (now (steps .entry)) (length (now (offsets .entry))) ⌝ }
 {
     let mut offset: u64 = 0;
+    let mut i: usize = 0;
+    while i < offsets.len() {
+        offsets[i] = offset;
+        offset += distance_at(steps, i);
+        i += 1;
+    }
+}
+
+fn plus_offsets(offsets: &[u64], z: &mut [i64])
+    requires { ⌜ OffsetsOf (now offsets) (now z) ⌝ }
+    requires { ⌜ Small (now z) ⌝ }
+    ensures { λ _. ⌜ now (z .exit) ≡ plusOffsets (now (offsets .entry)) (now (z .entry)) ⌝ }
+{
     let mut i: usize = 0;
     while i < z.len() {
-        z[i] = plus(z[i], offset);
-        offset += distance_at(steps, i);
+        z[i] = plus(z[i], offsets[i]);
         i += 1;
     }
 }
@@ -126,7 +92,7 @@ fn right_limit(right: Bound, steps: &[u64]) -> Bound
     }
 }
 
-// Places boxes between two limits, with working space for their old positions and neighbours in run coordinates.
+// Places boxes between two limits, with working space for their offsets.
 fn place_between(
     left: Bound,
     right: Bound,
@@ -134,18 +100,16 @@ fn place_between(
     old: &[i64],
     counts: &[u64],
     neighbours: &[i64],
-    olds: &mut [i64],
-    near: &mut [i64],
+    offsets: &mut [u64],
     answer: &mut [i64],
 )
     requires { ⌜ Fits (limitOf left) (limitOf right) (now steps) (now old) (now counts) (now neighbours) (now answer) ⌝ }
-    requires { ⌜ (length (now olds) ≡ length (now old)) × (length (now near) ≡ length (now neighbours)) ⌝ }
+    requires { ⌜ length (now offsets) ≡ length (now old) ⌝ }
     ensures { λ _. ⌜ now (answer .exit) ≡ placedBetween (limitOf left) (limitOf right) (boxesFrom (now (old .entry)) (now (steps .entry)) (now (counts .entry)) (now (neighbours .entry))) ⌝ }
 {
-    less_old(steps, old, olds);
-    less_near(steps, counts, neighbours, near);
-    place_halves(left, right, olds, counts, near, answer);
-    plus_offsets(steps, answer);
+    fill_offsets(steps, offsets);
+    place_halves(left, right, old, offsets, counts, neighbours, answer);
+    plus_offsets(offsets, answer);
 }
 
 // Places the boxes of one run between its bounds.
@@ -165,13 +129,11 @@ pub fn place(
     if r == 0 {
         return;
     }
-    let s = neighbours.len();
     let first = members(left);
     let steps = &distances[first..];
     let low = left_limit(left, distances);
     let high = right_limit(right, steps);
-    let mut olds = [0i64; MAX_BOXES];
-    let mut near = [0i64; MAX_NEIGHBOURS];
+    let mut offsets = [0u64; MAX_BOXES];
     place_between(
         low,
         high,
@@ -179,8 +141,7 @@ pub fn place(
         old,
         counts,
         neighbours,
-        &mut olds[..r],
-        &mut near[..s],
+        &mut offsets[..r],
         answer,
     );
 }

@@ -2,15 +2,16 @@
 use crate::types::Bound;
 use ints::too_near;
 ghost use mathlib.Core.Path.{_≡_};
-ghost use mathlib.Core.Bool.{true};
+ghost use mathlib.Core.Bool.{true, _&&_};
 ghost use mathlib.Core.List.{List};
 ghost use Prim.Native.Nat.{ℕ, _+_, _-_, _^_, _≤_, _<_, min};
-ghost use lib.ListN.{length};
-ghost use lib.IntN.{ℤ};
-ghost use Rattle.run.specs.Run.{nondecreasing, neighboursInOrder};
+ghost use lib.ListN.{length, getD};
+ghost use lib.IntN.{ℤ, pos};
+ghost use Rattle.run.specs.Run.{nondecreasing};
 ghost use Rattle.run.specs.Words.{isPossible};
 ghost use Rattle.ints.specs.Lists.{sum};
 ghost use Rattle.place_run.specs.Call.{Request, limitOf, memberOf, positionsOf, leftDistance, otherDistances, boxesFrom, maxBoxes, maxNeighbours, isWithin, allWithin, isDistance, allDistances, isTaken};
+ghost use Rattle.place_run.specs.Columns.{partsInOrder};
 
 // "over 64 boxes, over 2,048 neighbours in all"
 const MAX_BOXES: u64 = 64;
@@ -107,13 +108,12 @@ fn all_distances(distances: &[u64]) -> bool
     true
 }
 
-// Whether the neighbours of one box are in nondecreasing order.
 fn is_nondecreasing(positions: &[i64]) -> bool
     ensures { λ r. ⌜ r ≡ nondecreasing (now (positions .entry)) ⌝ }
 {
-    let mut i = 0;
-    while i + 1 < positions.len() {
-        if positions[i + 1] < positions[i] {
+    let mut i = 1;
+    while i < positions.len() {
+        if positions[i] < positions[i - 1] {
             return false;
         }
         i += 1;
@@ -121,16 +121,34 @@ fn is_nondecreasing(positions: &[i64]) -> bool
     true
 }
 
+// Whether the first and the last are within ±2^40.
+fn ends_within(positions: &[i64]) -> bool
+    ensures { λ r. ⌜ r ≡ (isWithin (getD (now (positions .entry)) 0 (pos 0)) && isWithin (getD (now (positions .entry)) (length (now (positions .entry)) - 1) (pos 0))) ⌝ }
+{
+    if positions.len() == 0 {
+        return true;
+    }
+    is_within(positions[0]) && is_within(positions[positions.len() - 1])
+}
+
+// Whether the neighbours of one box are within ±2^40 and in nondecreasing order. In that order none is farther out than the
+// first or the last.
+fn part_is_taken(positions: &[i64]) -> bool
+    ensures { λ r. ⌜ r ≡ (allWithin (now (positions .entry)) && nondecreasing (now (positions .entry))) ⌝ }
+{
+    is_nondecreasing(positions) && ends_within(positions)
+}
+
 // Whether those of every box are; each box has as many as its count says.
-fn neighbours_in_order(counts: &[u64], neighbours: &[i64]) -> bool
+fn neighbours_are_taken(counts: &[u64], neighbours: &[i64]) -> bool
     requires { ⌜ length (now neighbours) ≡ sum (now counts) ⌝ }
-    ensures { λ r. ⌜ ((old : List ℤ) (distances : List ℕ) → length old ≡ length (now (counts .entry)) → r ≡ neighboursInOrder (boxesFrom old distances (now (counts .entry)) (now (neighbours .entry)))) ⌝ }
+    ensures { λ r. ⌜ r ≡ (allWithin (now (neighbours .entry)) && partsInOrder (now (counts .entry)) (now (neighbours .entry))) ⌝ }
 {
     let mut from: usize = 0;
     let mut i = 0;
     while i < counts.len() {
         let to = from + counts[i] as usize;
-        if !is_nondecreasing(&neighbours[from..to]) {
+        if !part_is_taken(&neighbours[from..to]) {
             return false;
         }
         from = to;
@@ -168,7 +186,7 @@ fn is_possible(left: Bound, right: Bound, distances: &[u64]) -> bool
     }
 }
 
-// Whether place-run takes the run: the tests of refusal 8, in its order.
+// Whether place-run takes the run: the tests of refusal 8.
 pub fn is_taken(
     r: u64,
     left: Bound,
@@ -192,8 +210,7 @@ pub fn is_taken(
         && bound_within(left)
         && bound_within(right)
         && all_within(old)
-        && all_within(neighbours)
         && all_distances(distances)
-        && neighbours_in_order(counts, neighbours)
+        && neighbours_are_taken(counts, neighbours)
         && is_possible(left, right, distances)
 }

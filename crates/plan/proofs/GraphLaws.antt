@@ -1,8 +1,8 @@
 -- What checks 3 to 6 have to do with each other: by check 3 every end is a vertex, and all four ask about the graph alone.
 -- Assumes nothing.
 use Prim.Native.Nat.{ℕ, zero, suc, _+_, _<_}
-use mathlib.Core.Path.{_≡_, refl, ap}
-use mathlib.Core.Bool.{Bool, true, false, not, _&&_}
+use mathlib.Core.Path.{_≡_, refl, sym, _∙_, ap}
+use mathlib.Core.Bool.{Bool, true, false, cond, not, _&&_}
 use mathlib.Core.List.{List, [], _∷_}
 use native.Mathlib.Omega.{arith}
 use borrow.Author.Tests.{ltb-true}
@@ -43,25 +43,26 @@ within-of sizes vias «as» bs l c = record {
 
 -- ---- the first that fails
 module _ (p : PlanData) where
-  pub fails-3 : check3 p ≡ false → firstFailed p ≡ 3
-  unfolding firstFailed
-  fails-3 a = rw a
+  early : (a b : Bool) (m n : ℕ) → cond a (cond b 0 4) 3 ≡ m → (m ≡ 0 → ⊥) → m ≡ cond a (cond b n 4) 3
+  early true true m n e z = absurd (z (sym e))
+  early true false m n e z = sym e
+  early false b m n e z = sym e
 
-  pub fails-4 : check3 p ≡ true → check4 p ≡ false → firstFailed p ≡ 4
+  pub fails-early : (m : ℕ) → m ≡ cond (check3 p) (cond (check4 p) 0 4) 3 → (m ≡ 0 → ⊥) → m ≡ firstFailed p
   unfolding firstFailed
-  fails-4 a b = rw (a, b)
+  fails-early m e z = early (check3 p) (check4 p) m (cond (check5 p) (cond (check6 p) 0 6) 5) (sym e) z
 
-  pub fails-5 : check3 p ≡ true → check4 p ≡ true → check5 p ≡ false → firstFailed p ≡ 5
-  unfolding firstFailed
-  fails-5 a b c = rw (a, b, c)
+  passed : (a b : Bool) → _≡_ {A = ℕ} (cond a (cond b 0 4) 3) 0 → (a ≡ true) × (b ≡ true)
+  passed true true e = (refl, refl)
+  passed true false e = absurd (omega arith)
+  passed false b e = absurd (omega arith)
 
-  pub fails-6 : check3 p ≡ true → check4 p ≡ true → check5 p ≡ true → check6 p ≡ false → firstFailed p ≡ 6
-  unfolding firstFailed
-  fails-6 a b c d = rw (a, b, c, d)
+  pub passes-early : (m : ℕ) → m ≡ cond (check3 p) (cond (check4 p) 0 4) 3 → m ≡ 0 → (check3 p ≡ true) × (check4 p ≡ true)
+  passes-early m e z = passed (check3 p) (check4 p) (sym e ∙ z)
 
-  pub fails-none : check3 p ≡ true → check4 p ≡ true → check5 p ≡ true → check6 p ≡ true → firstFailed p ≡ 0
+  pub fails-late : (m : ℕ) → check3 p ≡ true → check4 p ≡ true → m ≡ cond (check5 p) (cond (check6 p) 0 6) 5 → m ≡ firstFailed p
   unfolding firstFailed
-  fails-none a b c d = rw (a, b, c, d)
+  fails-late m a b e = rw (a, b) e
 
 -- ---- the checks of any plan's data are those of its graph
 abbrev pub graph : PlanData → PlanData

@@ -150,22 +150,28 @@ pub fn check_levels(sizes: &[u16], vias: &[bool], uppers: &[u32], lowers: &[u32]
     check_ends(&level[..n], uppers, lowers)
 }
 
+// The number of the first of two checks that fails, 0 if both hold.
+pub fn first_of(m: u32, a: bool, n: u32, b: bool) -> u32
+    ensures { λ r. ⌜ r ≡ cond a (cond b 0 n) m ⌝ }
+{
+    if !a {
+        return m;
+    }
+    if b { 0 } else { n }
+}
+
 // Checks 3 to 6 in this order: the number of the first that fails, 0 if none does.
 pub fn check_plan(sizes: &[u16], vias: &[bool], uppers: &[u32], lowers: &[u32]) -> u32
     requires { ⌜ InLimits (now sizes) (now vias) (now uppers) (now lowers) ⌝ }
     ensures { λ r. ⌜ r ≡ firstFailed (graphOf (now (sizes .entry)) (now (vias .entry)) (now (uppers .entry)) (now (lowers .entry))) ⌝ }
 {
-    if !check_levels(sizes, vias, uppers, lowers) {
-        return 3;
+    let ends = check_levels(sizes, vias, uppers, lowers);
+    let order = check_order(uppers, lowers);
+    let failed = first_of(3, ends, 4, order);
+    if failed != 0 {
+        return failed;
     }
-    if !check_order(uppers, lowers) {
-        return 4;
-    }
-    if !check_vias(vias, uppers, lowers) {
-        return 5;
-    }
-    if !check_inner(vias, uppers, lowers) {
-        return 6;
-    }
-    0
+    let through = check_vias(vias, uppers, lowers);
+    let apart = check_inner(vias, uppers, lowers);
+    first_of(5, through, 6, apart)
 }

@@ -14,8 +14,9 @@ use Rattle.text.specs.Decimal.{decimal, signed}
 use Rattle.text.proofs.DecimalLaws.{decimal-length}
 use Rattle.writing.specs.Written.{Room, Wrote}
 use Rattle.writing.proofs.Written.{wrote-none, wrote-long, and-then, and-both, room-after}
-use Rattle.writing.proofs.LineLaws.{numbers-add, concat-append, concat-one}
-use Rattle.positions.specs.Counts.{SizedTo}
+use Rattle.ints.proofs.Lists.{concat-append, concat-one}
+use Rattle.writing.proofs.LineLaws.{numbers-add}
+use Rattle.shifting.specs.Counts.{SizedTo}
 use Rattle.position_lines.specs.Lines.{positionLine, linesTo}
 
 numbers-last : (v n : ℕ) → numbers v (n + 1) ≡ numbers v n ++ (v + n) ∷ []

@@ -1,9 +1,9 @@
 // The preliminary positions of a text's plan, written at the front of a lent buffer.
 use plan::data::Plan;
+use reading::Answer;
+use reading::read;
 use starting::start::preliminary_positions;
-use text::Answer;
 use text::form::wide;
-use text::read;
 use writing::again::refuse;
 use writing::number::put_signed;
 use writing::number::put_then;
@@ -18,7 +18,7 @@ ghost use Rattle.text.specs.Reading.{reading};
 ghost use Rattle.writing.specs.Written.{Room, Wrote, Fronts};
 ghost use Rattle.writing.specs.Data.{isStoredPlan};
 ghost use Rattle.preliminary.specs.Positions.{preliminary};
-ghost use Rattle.positions.specs.Counts.{SizedTo};
+ghost use Rattle.shifting.specs.Counts.{SizedTo};
 ghost use Rattle.position_lines.specs.Lines.{positionLine, linesTo, printedPositions, maxPosition, maxPrinted};
 
 // Most bytes of all lines together: 1,024 of 20 bytes.

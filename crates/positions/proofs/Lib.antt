@@ -1,14 +1,2 @@
-pub mod CodeChains
-pub mod CodePlace
-pub mod CodeClasses
-pub mod CodeAsked
-pub mod CodeMiddle
-pub mod CodeMove
-pub mod CodeCollect
-pub mod CodeSpread
-pub mod CodeShift
-pub mod CodeArrange
-pub mod CodeLevels
-pub mod CodeStrands
-pub mod CodeSide
-pub mod CodePositions
+pub mod SideLaws
+pub mod PositionLaws

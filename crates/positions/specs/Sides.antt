@@ -11,8 +11,8 @@ use Rattle.plan.specs.Segments.{innerSegments}
 use Rattle.plan.specs.Strands.{strandIn}
 use Rattle.plan.specs.Graph.{Below}
 use Rattle.preliminary.specs.Positions.{positionsOn}
-use Rattle.positions.specs.Walks.{Strung, StrandsBy}
-use Rattle.positions.specs.Arranged.{levelsBy, InnerLinks, Tops}
+use Rattle.strands.specs.Strands.{Strung, StrandsBy, StrandLists}
+use Rattle.placement.specs.Arranged.{levelsBy}
 
 -- Lists within document 01's limits, the strands as chains.
 pub record Ready (gap : ℕ) (sizes halves next top uppers lowers : List ℕ) : Type 0 where
@@ -52,12 +52,6 @@ pub record Fresh (n : ℕ) (order right left classes sibling apart at : List ℕ
   pub aparts : length apart ≡ n
   pub places : at ≡ replicate n 0
   pub marks : begun ≡ replicate n false
-
--- Of each vertex the one below and above it in its strand, and the topmost.
-pub record StrandLists (vias : List Bool) (uppers lowers next prev top : List ℕ) : Type 0 where
-  pub down : InnerLinks vias uppers lowers next
-  pub up : InnerLinks vias lowers uppers prev
-  pub tops : Tops prev top
 
 -- Lists of a plan whose inner segments link its vias into strands.
 pub record Proper (gap : ℕ) (sizes : List ℕ) (vias : List Bool) (halves uppers lowers : List ℕ) : Type 0 where

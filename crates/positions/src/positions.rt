@@ -1,26 +1,35 @@
 // Preliminary positions: x₋ and, from the reversed levels, x₊; then their sum.
-use crate::links::NONE;
 use crate::side::side;
-use crate::side::strands;
 use ints::difference;
+use strands::inner::strands;
+use strands::links::NONE;
 ghost use mathlib.Core.Path.{_≡_};
-ghost use mathlib.Core.List.{List, map};
-ghost use Prim.Native.Nat.{ℕ, _≤_, _<_};
-ghost use lib.ListN.{length, getD};
-ghost use lib.IntN.{ℤ, pos, negℤ};
+ghost use mathlib.Core.List.{map};
+ghost use Prim.Native.Nat.{_+_, _<_, _^_};
+ghost use lib.ListN.{length};
+ghost use lib.IntN.{negℤ, _+ℤ_};
+ghost use Rattle.ints.specs.Ints.{size};
 ghost use Rattle.plan.specs.Plan.{PlanData};
-ghost use Rattle.positions.specs.Counts.{SizedTo};
+ghost use Rattle.shifting.specs.Counts.{SizedTo};
 ghost use Rattle.preliminary.specs.Positions as spec;
 ghost use Rattle.positions.specs.Sides.{Proper, PlanOf};
 
-// Takes from each number that of the other list: adds the other list negated.
+// x₋ and x₊ together, y being the position by the reversed levels: x₊ is its negation.
+fn both(x: i64, y: i64) -> i64
+    requires { ⌜ size x + size y < 2 ^ 63 ⌝ }
+    ensures { λ r. ⌜ r ≡ x +ℤ negℤ y ⌝ }
+{
+    difference(x, y)
+}
+
+// Adds the other list negated.
 fn subtract(xs: &mut [i64], ys: &[i64])
     requires { ⌜ (length (now xs) ≡ length (now ys)) × SizedTo 33312000 (now xs) × SizedTo 33312000 (now ys) ⌝ }
     ensures { λ _. ⌜ now (xs .exit) ≡ spec.sums (now (xs .entry)) (map negℤ (now (ys .entry))) ⌝ }
 {
     let mut i: usize = 0;
     while i < xs.len() {
-        let x = difference(xs[i], ys[i]);
+        let x = both(xs[i], ys[i]);
         xs[i] = x;
         i += 1;
     }

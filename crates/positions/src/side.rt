@@ -1,22 +1,19 @@
 // x₋ on levels in the order in hand: strands classed, placed and shifted.
-use crate::arrange::arrange;
-use crate::arrange::lefts;
-use crate::asked::asked;
-use crate::classes::class;
-use crate::inner::link_vias;
-use crate::inner::tops;
-use crate::links::NONE;
-use crate::place::place;
-use crate::shift::shift;
+use placement::arrange::arrange;
+use placement::arrange::lefts;
+use placement::asked::asked;
+use placement::classes::class;
+use placement::place::place;
+use shifting::shift::shift;
+use strands::links::NONE;
 ghost use mathlib.Core.Path.{_≡_};
 ghost use mathlib.Core.Bool.{Bool};
 ghost use mathlib.Core.List.{List, map};
 ghost use Prim.Native.Nat.{ℕ, _≤_, _<_};
 ghost use lib.ListN.{length, getD, replicate};
 ghost use lib.IntN.{ℤ, pos};
-ghost use Rattle.plan.specs.Graph.{Below};
-ghost use Rattle.positions.specs.Counts.{SizedTo};
-ghost use Rattle.positions.specs.Sides.{Ready, SideIs, Fresh, StrandLists};
+ghost use Rattle.shifting.specs.Counts.{SizedTo};
+ghost use Rattle.positions.specs.Sides.{Ready, SideIs, Fresh};
 
 fn place_of(x: u32) -> i64
     ensures { λ r. ⌜ r ≡ pos x ⌝ }
@@ -35,24 +32,6 @@ fn widen(at: &[u32], xs: &mut [i64])
         xs[v] = x;
         v += 1;
     }
-}
-
-// Of each vertex the one below it and above it in its strand, and the topmost.
-pub fn strands(
-    vias: &[bool],
-    uppers: &[u32],
-    lowers: &[u32],
-    next: &mut [u16],
-    prev: &mut [u16],
-    top: &mut [u16],
-)
-    requires { ⌜ (length (now uppers) ≡ length (now lowers)) × Below (length (now vias)) (now uppers) × Below (length (now vias)) (now lowers) × (length (now vias) ≤ 1024) ⌝ }
-    requires { ⌜ (now next ≡ replicate (length (now vias)) 2048) × (now prev ≡ replicate (length (now vias)) 2048) × (length (now top) ≡ length (now vias)) ⌝ }
-    ensures { λ _. ⌜ StrandLists (now (vias .entry)) (now (uppers .entry)) (now (lowers .entry)) (now (next .exit)) (now (prev .exit)) (now (top .exit)) ⌝ }
-{
-    link_vias(vias, uppers, lowers, next);
-    link_vias(vias, lowers, uppers, prev);
-    tops(prev, top);
 }
 
 // The positions, by lists of scratch.

@@ -10,7 +10,7 @@ use Rattle.plan.specs.Plan.{PlanData}
 use Rattle.plan.specs.Segments.{segmentsFrom, aboveIn, belowIn, isInner, innerIn}
 use Rattle.plan.specs.Graph.{segment}
 use Rattle.plan.proofs.CountLaws.{by-same}
-use Rattle.positions.specs.Arranged.{innerEnds}
+use Rattle.strands.specs.Strands.{innerEnds}
 
 and-turn : (a b : Bool) → a && b ≡ b && a
 and-turn true true = refl

@@ -14,9 +14,8 @@ use Rattle.plan.specs.Strands.{firstOr}
 use Rattle.plan.proofs.Sound.{Sound, mem-above, mem-below, above-mem, below-mem}
 use Rattle.plan.proofs.Crossings.{level-rises}
 use Rattle.preliminary.proofs.Strands.{Link, link, link-down}
-use Rattle.positions.specs.Sides.{StrandLists}
-use Rattle.positions.specs.Walks.{Strung}
-use Rattle.positions.proofs.CodeStrands.{Mutual, strung}
+use Rattle.strands.specs.Strands.{StrandLists, Strung}
+use Rattle.strands.proofs.StrandLaws.{Mutual, strung}
 use Rattle.starting.proofs.Ends.{below-ends, above-ends}
 
 -- the vertex below v, where there is one, by the segments and by a list

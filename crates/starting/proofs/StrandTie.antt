@@ -12,10 +12,10 @@ use Rattle.plan.specs.Strands.{topFrom, chainFrom, strandIn}
 use Rattle.plan.specs.Acceptable.{acceptable}
 use Rattle.plan.proofs.Sound.{Sound, sound}
 use Rattle.preliminary.proofs.Strands.{low, high}
-use Rattle.positions.specs.Links.{chain}
-use Rattle.positions.specs.Walks.{StrandsBy}
-use Rattle.positions.specs.Sides.{StrandLists, PlanOf}
-use Rattle.positions.proofs.CodeChains.{along-end, chain-on}
+use Rattle.strands.specs.Links.{chain}
+use Rattle.strands.specs.Strands.{StrandsBy, StrandLists}
+use Rattle.positions.specs.Sides.{PlanOf}
+use Rattle.strands.proofs.ChainLaws.{along-end, chain-on}
 use Rattle.starting.proofs.LinkLaws.{Under, Over, link-rises, under-of, over-of, mutual-links, lists-strung}
 
 module _ (p : PlanData) (S : Sound p) (next prev top : List ℕ) (L : StrandLists (p .vias) (p .uppers) (p .lowers) next prev top) where

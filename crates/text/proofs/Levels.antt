@@ -1,17 +1,19 @@
 -- Level lines: a line of them, and all of them, as the loop over them has found and stored them so far.
-use mathlib.Core.Path.{_≡_, refl, sym, _∙_}
+use mathlib.Core.Path.{_≡_, refl, sym, _∙_, ap}
 use mathlib.Core.Bool.{Bool, true, false, cond, _&&_}
-use mathlib.Core.List.{List, [], _∷_, _++_, map, map-append, append-assoc, append-nil}
+use mathlib.Core.List.{List, [], _∷_, _++_, map, map-append}
 use Prim.Native.Nat.{ℕ, suc, _+_, _≤_}
 use native.Mathlib.Omega.{arith}
 use lib.Dec.{leb}
 use lib.ListN.{length, drop, set, length-set, length-append, length-map}
 use lib.Seq.{sets}
+use Rattle.ints.specs.Lists.{concat}
+use Rattle.ints.proofs.Lists.{concat-append, concat-one}
 use Rattle.plan.specs.Checks.{every}
 use Rattle.text.specs.Bytes.{bytes}
 use Rattle.text.specs.Parser.{Got, got, nothing, Rule, then, again, word, many}
 use Rattle.text.specs.Form.{Vertex, levelLine}
-use Rattle.text.specs.Reading.{rowInLimit, inReadingOrder}
+use Rattle.text.specs.Reading.{rowInLimit}
 use Rattle.text.specs.Scanned.{vertex}
 use Rattle.text.specs.Filled.{viasOf, halvesOf, levelRest, FindsRow, FindsLevel, FindsRows}
 use Rattle.text.specs.declared.form.Row.{Row}
@@ -74,31 +76,29 @@ module _ (s : List ℕ) (at first : ℕ) (r : Row) (vias : List Bool) (halves : 
 pub record RowsSoFar (s : List ℕ) (from : ℕ) (sizes₀ : List ℕ) (vias₀ : List Bool) (halves₀ sizes : List ℕ) (vias : List Bool) (halves : List ℕ) (at levels vertices : ℕ) (fit : Bool) : Type 0 where
   pub rows : List (List Vertex)
   pub reached : Reached (levelLine (length s)) (length s) s from levels at rows
-  pub vertices-are : vertices ≡ length (inReadingOrder rows)
+  pub vertices-are : vertices ≡ length (concat rows)
   pub fewer : vertices ≤ at
   pub fit-is : fit ≡ every rowInLimit rows
   pub sizes-stored : sizes ≡ sets sizes₀ 0 (map length rows)
-  pub vias-stored : vias ≡ sets vias₀ 0 (viasOf (inReadingOrder rows))
-  pub halves-stored : fit ≡ true → halves ≡ sets halves₀ 0 (halvesOf (inReadingOrder rows))
+  pub vias-stored : vias ≡ sets vias₀ 0 (viasOf (concat rows))
+  pub halves-stored : fit ≡ true → halves ≡ sets halves₀ 0 (halvesOf (concat rows))
   pub sizes-long : length sizes ≡ length sizes₀
   pub vias-long : length vias ≡ length vias₀
   pub halves-long : length halves ≡ length halves₀
 
-pub order-more : (rows : List (List Vertex)) (vs : List Vertex) → inReadingOrder (rows ++ vs ∷ []) ≡ inReadingOrder rows ++ vs
-unfolding inReadingOrder
-order-more [] vs = append-nil vs
-order-more (r ∷ rows) vs = rw (order-more rows vs, append-assoc)
+pub order-more : (rows : List (List Vertex)) (vs : List Vertex) → concat (rows ++ vs ∷ []) ≡ concat rows ++ vs
+order-more rows vs = concat-append rows (vs ∷ []) ∙ ap (λ (l : List Vertex). concat rows ++ l) (concat-one vs)
 
 -- the stores of one more line
-stored-more : {A : Type 0} (f : Vertex → A) (l : List A) (n : ℕ) (rows : List (List Vertex)) (vs : List Vertex) → n ≡ length (inReadingOrder rows)
-    → sets l 0 (map f (inReadingOrder (rows ++ vs ∷ []))) ≡ sets (sets l 0 (map f (inReadingOrder rows))) n (map f vs)
+stored-more : {A : Type 0} (f : Vertex → A) (l : List A) (n : ℕ) (rows : List (List Vertex)) (vs : List Vertex) → n ≡ length (concat rows)
+    → sets l 0 (map f (concat (rows ++ vs ∷ []))) ≡ sets (sets l 0 (map f (concat rows))) n (map f vs)
 stored-more f l n rows vs e =
-    let k : 0 + length (map f (inReadingOrder rows)) ≡ n = omega (arith, length-map (inReadingOrder rows) f) in
-    rw (order-more rows vs, map-append f (inReadingOrder rows) vs) (sets-append l 0 (map f (inReadingOrder rows)) (map f vs) ∙ rw k)
+    let k : 0 + length (map f (concat rows)) ≡ n = omega (arith, length-map (concat rows) f) in
+    rw (order-more rows vs, map-append f (concat rows) vs) (sets-append l 0 (map f (concat rows)) (map f vs) ∙ rw k)
 
 module _ (s : List ℕ) (from : ℕ) (sizes₀ : List ℕ) (vias₀ : List Bool) (halves₀ : List ℕ) where
   pub rows-none : from ≤ length s → RowsSoFar s from sizes₀ vias₀ halves₀ sizes₀ vias₀ halves₀ from 0 0 true
-  unfolding every inReadingOrder
+  unfolding every concat
   rows-none h = record {
     rows = [];
     reached = reached-none (levelLine (length s)) (length s) s from h;

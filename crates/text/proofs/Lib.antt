@@ -8,7 +8,6 @@ pub mod Rows
 pub mod Levels
 pub mod SegmentLines
 pub mod Texts
-pub mod Verdict
 pub mod TestLaws
 pub mod ParserLaws
 pub mod DecimalLaws

@@ -1,6 +1,6 @@
 -- The limits of a plan's data and the limits of the lines of a text, fact by fact, and that they say the same: lines that
 -- were read and pass check 2 store data within the limits, and the lines of such data can be read and pass check 2.
-use mathlib.Core.Path.{_≡_, refl, sym, _∙_, ap}
+use mathlib.Core.Path.{_≡_, sym, _∙_, ap}
 use mathlib.Core.Bool.{Bool, true, _&&_}
 use mathlib.Core.List.{List, [], _∷_, map}
 use Prim.Native.Nat.{ℕ, _+_, _≤_, _<_}
@@ -8,20 +8,21 @@ use native.Mathlib.Omega.{arith}
 use borrow.Author.Tests.{leb-true, le-leb, eqb-true, eq-eqb, ltb-true, lt-ltb}
 use lib.Dec.{ltb, leb, eqb}
 use lib.ListN.{length, length-map}
-use Rattle.ints.specs.Lists.{sum}
+use Rattle.ints.specs.Lists.{sum, concat}
+use Rattle.ints.proofs.Lists.{concat-length}
 use Rattle.plan.specs.Plan.{PlanData, vertexCount, levelOf}
 use Rattle.plan.specs.Segments.{Segment, segmentsFrom, segmentsOf}
 use Rattle.plan.specs.Limits.{within, maxLevels, maxGap, maxSpacing, maxOnLevel, maxVertices, maxSegments}
 use Rattle.plan.specs.Checks.{every, goesOneDown, check3}
 use Rattle.plan.specs.Acceptable.{halvesHold, limitsHold}
 use Rattle.text.specs.Form.{Vertex, Lines}
-use Rattle.text.specs.Reading.{sum as lineSum, halfInLimit, rowInLimit, check2, inReadingOrder, stored}
+use Rattle.text.specs.Reading.{halfInLimit, rowInLimit, check2, stored}
 use Rattle.text.proofs.Stores.{both-first, both-second}
 use Rattle.text.proofs.TestLaws.{_and_, conj-at, every-so, every-and}
 use Rattle.text.proofs.DecimalLaws.{fits}
 use Rattle.text.proofs.WrittenLines.{vertexOk, segmentOk}
 use Rattle.text.proofs.WrittenForm.{LinesOk}
-use Rattle.text.proofs.PlanLines.{verticesFrom, vertices-of, halves-hold, rowsFrom, rows-of, sizes-hold, order-holds, order-length, uppers-again, linesFrom, lines-stored}
+use Rattle.text.proofs.PlanLines.{verticesFrom, vertices-of, halves-hold, rowsFrom, rows-of, sizes-hold, order-holds, uppers-again, linesFrom, lines-stored}
 
 -- ---- the limits of data
 pub record Limits (p : PlanData) : Type 0 where
@@ -79,17 +80,12 @@ pub record LineLimits (l : Lines) : Type 0 where
   pub vertices : sum (map length (l .rows)) ≤ maxVertices
   pub segments : length (l .segments) ≤ maxSegments
 
-sums-same : (ns : List ℕ) → lineSum ns ≡ sum ns
-unfolding lineSum sum
-sums-same [] = refl
-sums-same (n ∷ ns) = rw (sums-same ns)
-
 -- the tests of `check2` after the first
 abbrev furtherLineLimits : Lines → List Bool
 furtherLineLimits l =
     within 1 maxGap (l .gap) ∷ within 1 maxSpacing (l .spacing)
     ∷ eqb (length (l .rows)) (l .levels) ∷ every rowInLimit (l .rows)
-    ∷ leb (lineSum (map length (l .rows))) maxVertices ∷ leb (length (l .segments)) maxSegments ∷ []
+    ∷ leb (sum (map length (l .rows))) maxVertices ∷ leb (length (l .segments)) maxSegments ∷ []
 
 pub check2-of : (l : Lines) → check2 l ≡ true → LineLimits l
 unfolding check2
@@ -101,7 +97,7 @@ check2-of l h =
       spacing = test 2;
       counted = eqb-true (length (l .rows)) (l .levels) (test 3);
       rows = test 4;
-      vertices = rw sums-same at (leb-true (lineSum (map length (l .rows))) maxVertices (test 5));
+      vertices = leb-true (sum (map length (l .rows))) maxVertices (test 5);
       segments = leb-true (length (l .segments)) maxSegments (test 6);
     }
 
@@ -110,13 +106,13 @@ unfolding check2
 check2-holds l h =
     h .levels and h .gap and h .spacing
     and eq-eqb (length (l .rows)) (l .levels) (h .counted) and h .rows
-    and le-leb (lineSum (map length (l .rows))) maxVertices (rw sums-same (h .vertices)) and le-leb (length (l .segments)) maxSegments (h .segments)
+    and le-leb (sum (map length (l .rows))) maxVertices (h .vertices) and le-leb (length (l .segments)) maxSegments (h .segments)
 
 -- ---- lines that were read, within the limits, store data within the limits
 pub stored-limits : (l : Lines) → LinesOk l → LineLimits l → Limits (stored l)
 unfolding stored
 stored-limits l ok h =
-    let all = inReadingOrder (l .rows) in
+    let all = concat (l .rows) in
     let count : length (map (λ (v : Vertex). v .via) all) ≡ length all = length-map all (λ v. v .via) in
     let low = sizes-hold (ltb 0) vertexOk (l .rows) (ok .rows) in
     let high = sizes-hold (λ n. leb n maxOnLevel) halfInLimit (l .rows) (h .rows) in
@@ -126,8 +122,8 @@ stored-limits l ok h =
       spacing = h .spacing;
       counted = length-map (l .rows) length ∙ h .counted;
       sizes = every-and (leb 1) (λ n. leb n maxOnLevel) (map length (l .rows)) low high;
-      summed = order-length (l .rows) ∙ sym count;
-      vertices = omega (arith, h .vertices, order-length (l .rows), count);
+      summed = sym (concat-length (l .rows)) ∙ sym count;
+      vertices = omega (arith, h .vertices, concat-length (l .rows), count);
       halves = halves-hold all (order-holds (ltb 0) vertexOk (l .rows) (ok .rows)) (order-holds (λ n. leb n maxOnLevel) halfInLimit (l .rows) (h .rows));
       ends = length-map (l .segments) (λ s. s .lower) ∙ sym (length-map (l .segments) (λ s. s .upper));
       segments = omega (arith, h .segments, length-map (l .segments) (λ s. s .upper));

@@ -7,16 +7,16 @@ use Prim.Native.Nat.{ℕ, suc}
 use native.Mathlib.Omega.{arith}
 use borrow.Author.Tests.{leb-true, lt-ltb}
 use lib.Dec.{leb}
-use lib.ListN.{length, take, drop, length-append, length-drop, take-append-drop}
+use lib.ListN.{length, take, drop, length-drop, take-append-drop}
 use lib.Seq.{length-take-le}
-use Rattle.ints.specs.Lists.{sum}
+use Rattle.ints.specs.Lists.{sum, concat}
 use Rattle.plan.specs.Plan.{PlanData}
 use Rattle.plan.specs.Segments.{segmentsFrom, segmentsOf}
 use Rattle.plan.specs.Limits.{maxHalfWidth}
 use Rattle.plan.specs.Checks.{every}
 use Rattle.plan.specs.Acceptable.{halfHolds, halvesHold}
 use Rattle.text.specs.Form.{Vertex, Lines}
-use Rattle.text.specs.Reading.{halfInLimit, inReadingOrder, stored}
+use Rattle.text.specs.Reading.{halfInLimit, stored}
 use Rattle.text.proofs.Words.{never}
 use Rattle.text.proofs.Stores.{both-first, both-second}
 use Rattle.text.proofs.TestLaws.{test, _and_, every-one, every-cons, every-append, every-both}
@@ -81,12 +81,12 @@ abbrev pub rowHolds : (ℕ → Bool) → (Vertex → Bool) → List Vertex → B
 rowHolds c t vs = c (length vs) && every t vs
 
 pub record Rows (sizes : List ℕ) (vs : List Vertex) : Type 0 where
-  pub order : inReadingOrder (rowsFrom sizes vs) ≡ vs
+  pub order : concat (rowsFrom sizes vs) ≡ vs
   pub sizes-again : map length (rowsFrom sizes vs) ≡ sizes
   pub hold : (c : ℕ → Bool) (t : Vertex → Bool) → every c sizes ≡ true → every t vs ≡ true → every (rowHolds c t) (rowsFrom sizes vs) ≡ true
 
 pub rows-of : (sizes : List ℕ) (vs : List Vertex) → sum sizes ≡ length vs → Rows sizes vs
-unfolding rowsFrom sum inReadingOrder every
+unfolding rowsFrom sum concat every
 rows-of [] [] e = record { order = refl; sizes-again = refl; hold = λ c t h k. refl }
 rows-of [] (v ∷ vs) e = absurd (omega arith)
 rows-of (n ∷ ns) vs e =
@@ -112,17 +112,12 @@ module _ (c : ℕ → Bool) (t : Vertex → Bool) where
       let a = every-one (rowHolds c t) row rows e in
       every-cons c (length row) (map length rows) (both-first (c (length row)) (every t row) (a .0)) (sizes-hold rows (a .1))
 
-  pub order-holds : (rows : List (List Vertex)) → every (rowHolds c t) rows ≡ true → every t (inReadingOrder rows) ≡ true
-  unfolding every inReadingOrder
+  pub order-holds : (rows : List (List Vertex)) → every (rowHolds c t) rows ≡ true → every t (concat rows) ≡ true
+  unfolding every concat
   order-holds [] e = refl
   order-holds (row ∷ rows) e =
       let a = every-one (rowHolds c t) row rows e in
-      every-append t row (inReadingOrder rows) (both-second (c (length row)) (every t row) (a .0)) (order-holds rows (a .1))
-
-pub order-length : (rows : List (List Vertex)) → sum (map length rows) ≡ length (inReadingOrder rows)
-unfolding sum inReadingOrder
-order-length [] = refl
-order-length (row ∷ rows) = rw (length-append row (inReadingOrder rows), order-length rows)
+      every-append t row (concat rows) (both-second (c (length row)) (every t row) (a .0)) (order-holds rows (a .1))
 
 -- ---- segments
 pub uppers-again : («as» bs : List ℕ) → length bs ≡ length «as» → map (λ s. s .upper) (segmentsFrom «as» bs) ≡ «as»

@@ -8,20 +8,16 @@ use native.Mathlib.Omega.{arith}
 use lib.ListN.{length, getD, drop, List·getD-map}
 use lib.Seq.{getD-drop, drop-drop, drop-append-seam}
 use Rattle.ints.specs.Lists.{concat}
+use Rattle.ints.proofs.Lists.{concat-append}
 use Rattle.plan.specs.Plan.{PlanData, numbers, levelsFrom, levelsOf}
 use Rattle.plan.specs.Segments.{Segment, segmentsFrom, segmentsOf}
 use Rattle.text.specs.Form.{Vertex, Lines}
-use Rattle.text.specs.Reading.{inReadingOrder, stored}
+use Rattle.text.specs.Reading.{stored}
 use Rattle.text.specs.Writing.{planLine, vertexWords, levelLineOf, segmentLineOf, lastLine, linesOf, textOf}
 use Rattle.text.proofs.WrittenLines.{vertexText, rowText}
 use Rattle.text.proofs.WrittenForm.{headText, formText}
 
 -- ---- lists of lines
-concat-append : (a b : List (List ℕ)) → concat (a ++ b) ≡ concat a ++ concat b
-unfolding concat
-concat-append [] b = refl
-concat-append (l ∷ a) b = rw (concat-append a b) (sym (append-assoc l (concat a) (concat b)))
-
 concat-lines : (a b : List (List ℕ)) (z : List ℕ) → concat (a ++ b ++ z ∷ []) ≡ concat a ++ (concat b ++ z)
 unfolding concat
 concat-lines a b z = concat-append (a ++ b) (z ∷ []) ∙ rw (concat-append a b, append-nil z, append-assoc)
@@ -49,11 +45,11 @@ module _ (p : PlanData) (all : List Vertex) (words : (i : ℕ) → vertexWords p
   row-words : (v : ℕ) (row rest : List Vertex) → drop v all ≡ row ++ rest → map (vertexWords p) (numbers v (length row)) ≡ map vertexText row
   row-words v row rest e = ap (λ (f : ℕ → List ℕ). map f (numbers v (length row))) (fun-ext words) ∙ numbers-row vertexText all v row rest e
 
-  rows-text : (v : ℕ) (rows : List (List Vertex)) → drop v all ≡ inReadingOrder rows → map (levelLineOf p) (levelsFrom v (map length rows)) ≡ map rowText rows
-  unfolding levelsFrom inReadingOrder levelLineOf rowText
+  rows-text : (v : ℕ) (rows : List (List Vertex)) → drop v all ≡ concat rows → map (levelLineOf p) (levelsFrom v (map length rows)) ≡ map rowText rows
+  unfolding levelsFrom concat levelLineOf rowText
   rows-text v [] e = refl
   rows-text v (row ∷ rows) e =
-      let rest = inReadingOrder rows in
+      let rest = concat rows in
       let next : drop (v + length row) all ≡ rest = sym (drop-drop (length row) v all) ∙ ap (drop (length row)) e ∙ drop-append-seam row rest in
       rw (row-words v row rest e, rows-text (v + length row) rows next)
 
@@ -65,17 +61,17 @@ segments-again (s ∷ ss) = rw (segments-again ss)
 
 -- ---- the whole text
 module _ (l : Lines) where
-  stored-words : (i : ℕ) → vertexWords (stored l) i ≡ vertexText (getD (inReadingOrder (l .rows)) i noVertex)
+  stored-words : (i : ℕ) → vertexWords (stored l) i ≡ vertexText (getD (concat (l .rows)) i noVertex)
   unfolding vertexWords vertexText stored
   stored-words i =
-      let all = inReadingOrder (l .rows) in
+      let all = concat (l .rows) in
       let v : getD (map (λ (v : Vertex). v .via) all) i false ≡ getD all i noVertex .via = List·getD-map (λ v. v .via) all i noVertex in
       let h : getD (map (λ (v : Vertex). v .half) all) i 0 ≡ getD all i noVertex .half = List·getD-map (λ v. v .half) all i noVertex in
       rw (v, h)
 
   stored-rows : map (levelLineOf (stored l)) (levelsOf (stored l)) ≡ map rowText (l .rows)
   unfolding levelsOf stored
-  stored-rows = rows-text (stored l) (inReadingOrder (l .rows)) stored-words 0 (l .rows) refl
+  stored-rows = rows-text (stored l) (concat (l .rows)) stored-words 0 (l .rows) refl
 
   pub stored-segments : segmentsOf (stored l) ≡ l .segments
   unfolding segmentsOf stored

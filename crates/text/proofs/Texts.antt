@@ -1,20 +1,22 @@
 -- A whole text: from what stands on its lines to `formOf`, and from the program's counts to `check2` and `stored`.
 use mathlib.Core.Path.{_≡_, refl, sym, _∙_, ap}
-use mathlib.Core.Bool.{Bool, true, false, cond, _&&_}
-use mathlib.Core.List.{List, [], _∷_, map}
+use mathlib.Core.Bool.{Bool, true, false, cond}
+use mathlib.Core.List.{List, map}
 use mathlib.Core.Option.{none, some}
 use Prim.Native.Nat.{ℕ, _≤_}
 use native.Mathlib.Omega.{arith}
-use borrow.Author.Tests.{leb-true, eqb-true}
-use lib.Dec.{leb, eqb}
-use lib.ListN.{length, drop, length-append, length-map}
-use Rattle.plan.specs.Limits.{within, maxLevels, maxGap, maxSpacing, maxVertices, maxSegments}
+use borrow.Author.Tests.{leb-true}
+use lib.Dec.{leb}
+use lib.ListN.{length, drop, length-map}
+use Rattle.ints.specs.Lists.{concat}
+use Rattle.ints.proofs.Lists.{concat-length}
+use Rattle.plan.specs.Limits.{maxLevels}
 use Rattle.plan.specs.Segments.{Segment}
 use Rattle.plan.specs.Checks.{every}
 use Rattle.text.specs.Bytes.{bytes}
 use Rattle.text.specs.Parser.{got, nothing, Rule, then, word, many, number}
 use Rattle.text.specs.Form.{Vertex, Lines, levelLine, segmentLine, planText, whole, formOf}
-use Rattle.text.specs.Reading.{sum, rowInLimit, check2, inReadingOrder, stored}
+use Rattle.text.specs.Reading.{rowInLimit, check2, stored}
 use Rattle.text.specs.Scanned.{numberThen, Header, planLine}
 use Rattle.text.specs.Filled.{Ends, FindsRows, FindsSegments, Kept, Scans, inLimits}
 use Rattle.text.specs.declared.scanners.FoundHeader.{FoundHeader}
@@ -24,7 +26,8 @@ use Rattle.text.specs.declared.form.Scanned.{Scanned}
 use Rattle.text.proofs.Words.{word-is}
 use Rattle.text.proofs.Lines.{then-then, then-same, number-then}
 use Rattle.text.proofs.Repeats.{many-done}
-use Rattle.text.proofs.Stores.{sets-over, both-first, both-second}
+use Rattle.text.proofs.Stores.{sets-over, both-second}
+use Rattle.text.proofs.PlanLimits.{check2-of}
 
 -- ---- the form
 -- what the lines say
@@ -80,49 +83,11 @@ module _ (s : List ℕ) where
     form-ends segments at b e f = rw (plan-text (length s) s, p, q, e) (f .gives (linesOf h rows segments))
 
 -- ---- the limits
-sum-length : (rows : List (List Vertex)) → sum (map length rows) ≡ length (inReadingOrder rows)
-unfolding sum inReadingOrder
-sum-length [] = refl
-sum-length (r ∷ rows) = rw (sum-length rows, length-append)
-
 limits-is : (h : FoundHeader) (r : Rows) (e : ℕ) (rows : List (List Vertex)) (segments : List Segment) → r .levels ≡ length rows → r .fit ≡ every rowInLimit rows
-    → r .vertices ≡ length (inReadingOrder rows) → e ≡ length segments
+    → r .vertices ≡ length (concat rows) → e ≡ length segments
     → inLimits h r e ≡ check2 (record { levels = h .levels; gap = h .gap; spacing = h .spacing; rows = rows; segments = segments })
 unfolding check2
-limits-is h r e rows segments a b c d = rw (a, b, c, d, sum-length rows)
-
--- what check 2 gives
-record Fits (l : Lines) : Type 0 where
-  levels : length (l .rows) ≤ 64
-  level-lines : length (l .rows) ≡ l .levels
-  rows : every rowInLimit (l .rows) ≡ true
-  vertices : length (inReadingOrder (l .rows)) ≤ 1024
-  segments : length (l .segments) ≤ 2048
-
-fits : (l : Lines) → check2 l ≡ true → Fits l
-unfolding check2
-fits l e =
-    let a = within 1 maxLevels (l .levels) in
-    let b = a && within 1 maxGap (l .gap) in
-    let c = b && within 1 maxSpacing (l .spacing) in
-    let d = c && eqb (length (l .rows)) (l .levels) in
-    let f = d && every rowInLimit (l .rows) in
-    let g = f && leb (sum (map length (l .rows))) maxVertices in
-    let eg = both-first g (leb (length (l .segments)) maxSegments) e in
-    let ef = both-first f (leb (sum (map length (l .rows))) maxVertices) eg in
-    let ed = both-first d (every rowInLimit (l .rows)) ef in
-    let ec = both-first c (eqb (length (l .rows)) (l .levels)) ed in
-    let ea = both-first a (within 1 maxGap (l .gap)) (both-first b (within 1 maxSpacing (l .spacing)) ec) in
-    let top = leb-true (l .levels) maxLevels (both-second (leb 1 (l .levels)) (leb (l .levels) maxLevels) ea) in
-    let same = eqb-true (length (l .rows)) (l .levels) (both-second c (eqb (length (l .rows)) (l .levels)) ed) in
-    let many-vertices = leb-true (sum (map length (l .rows))) maxVertices (both-second f (leb (sum (map length (l .rows))) maxVertices) eg) in
-    record {
-      levels = omega arith;
-      level-lines = same;
-      rows = both-second d (every rowInLimit (l .rows)) ef;
-      vertices = omega (arith, sum-length (l .rows));
-      segments = leb-true (length (l .segments)) maxSegments (both-second g (leb (length (l .segments)) maxSegments) e);
-    }
+limits-is h r e rows segments a b c d = rw (a, b, c, d, concat-length rows)
 
 -- ---- what the program has
 module _ (s : List ℕ) (sizes : List ℕ) (vias : List Bool) (halves uppers lowers sizes′ : List ℕ) (vias′ : List Bool) (halves′ uppers′ lowers′ : List ℕ) where
@@ -142,18 +107,20 @@ module _ (s : List ℕ) (sizes : List ℕ) (vias : List Bool) (halves uppers low
         → check2 found-lines ≡ true → Kept (stored found-lines) o sizes vias halves uppers lowers sizes′ vias′ halves′ uppers′ lowers′
     unfolding stored
     lines-kept o a b c d g t =
-        let F = fits found-lines t in
+        let F = check2-of found-lines t in
+        let top = leb-true (h .levels) maxLevels (both-second (leb 1 (h .levels)) (leb (h .levels) maxLevels) (F .levels)) in
+        let all = concat-length (R .rows) in
         record {
           levels = a;
           gap = b;
           spacing = c;
-          level-lines = rw length-map (a ∙ sym (F .level-lines));
+          level-lines = rw length-map (a ∙ sym (F .counted));
           vertices = rw length-map (d ∙ R .vertices);
           segments = rw length-map (g ∙ S .counted);
           lower-ends = rw length-map (g ∙ S .counted);
-          sizes-kept = R .sizes-stored f ∙ sets-over sizes (map length (R .rows)) (rw length-map (omega (arith, F .levels)));
-          vias-kept = R .vias-stored f ∙ sets-over vias (map (λ v. v .via) (inReadingOrder (R .rows))) (rw length-map (omega (arith, F .vertices)));
-          halves-kept = R .halves-stored f (R .fit ∙ F .rows) ∙ sets-over halves (map (λ v. v .half) (inReadingOrder (R .rows))) (rw length-map (omega (arith, F .vertices)));
+          sizes-kept = R .sizes-stored f ∙ sets-over sizes (map length (R .rows)) (rw length-map (omega (arith, F .counted, top)));
+          vias-kept = R .vias-stored f ∙ sets-over vias (map (λ v. v .via) (concat (R .rows))) (rw length-map (omega (arith, F .vertices, all)));
+          halves-kept = R .halves-stored f (R .fit ∙ F .rows) ∙ sets-over halves (map (λ v. v .half) (concat (R .rows))) (rw length-map (omega (arith, F .vertices, all)));
           uppers-kept = S .uppers-stored ∙ sets-over uppers (map (λ x. x .upper) (S .segments)) (rw length-map (omega (arith, F .segments)));
           lowers-kept = S .lowers-stored ∙ sets-over lowers (map (λ x. x .lower) (S .segments)) (rw length-map (omega (arith, F .segments)));
         }

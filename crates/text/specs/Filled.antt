@@ -8,7 +8,7 @@ use Prim.Native.Nat.{ℕ, suc, _+_, _≤_}
 use lib.Dec.{leb, eqb}
 use lib.ListN.{length, drop}
 use lib.Seq.{sets}
-use Rattle.ints.specs.Lists.{over}
+use Rattle.ints.specs.Lists.{over, concat}
 use Rattle.plan.specs.Plan.{PlanData}
 use Rattle.plan.specs.Segments.{Segment}
 use Rattle.plan.specs.Checks.{every}
@@ -16,7 +16,7 @@ use Rattle.plan.specs.Limits.{within, maxLevels, maxGap, maxSpacing, maxVertice
 use Rattle.text.specs.Bytes.{bytes}
 use Rattle.text.specs.Parser.{got, nothing, Rule, give, then, _>>=_, _>>_, word, many}
 use Rattle.text.specs.Form.{Vertex, Lines, levelLine, segmentLine, whole, formOf}
-use Rattle.text.specs.Reading.{maxBytes, halfInLimit, rowInLimit, check2, inReadingOrder, stored}
+use Rattle.text.specs.Reading.{maxBytes, halfInLimit, rowInLimit, check2, stored}
 use Rattle.text.specs.Scanned.{vertex}
 use Rattle.text.specs.declared.scanners.FoundHeader.{FoundHeader}
 use Rattle.text.specs.declared.form.Row.{Row}
@@ -72,12 +72,12 @@ pub record FindsRows (s : List ℕ) (at : ℕ) (r : Rows) (sizes : List ℕ) (vi
   pub gives : many (length s) (levelLine (length s)) (drop at s) ≡ got rows (drop (r .next) s)
   pub inside : r .next ≤ length s
   pub counted : r .levels ≡ length rows
-  pub vertices : r .vertices ≡ length (inReadingOrder rows)
+  pub vertices : r .vertices ≡ length (concat rows)
   pub fit : r .fit ≡ every rowInLimit rows
   pub broken : r .form ≡ false → word (bytes "(level") (drop (r .next) s) ≡ got tt (drop (r .next + 6) s)
   pub sizes-stored : r .form ≡ true → sizes′ ≡ sets sizes 0 (map length rows)
-  pub vias-stored : r .form ≡ true → vias′ ≡ sets vias 0 (viasOf (inReadingOrder rows))
-  pub halves-stored : r .form ≡ true → r .fit ≡ true → halves′ ≡ sets halves 0 (halvesOf (inReadingOrder rows))
+  pub vias-stored : r .form ≡ true → vias′ ≡ sets vias 0 (viasOf (concat rows))
+  pub halves-stored : r .form ≡ true → r .fit ≡ true → halves′ ≡ sets halves 0 (halvesOf (concat rows))
 
 -- The segment lines from `at` on.
 pub record FindsSegments (s : List ℕ) (at : ℕ) (r : Segments) (uppers lowers uppers′ lowers′ : List ℕ) : Type 0 where
@@ -131,13 +131,3 @@ pub record Scans (s : List ℕ) (r : Scanned) (sizes : List ℕ) (vias : List Bo
   pub form : r .form ≡ isSome (formOf s)
   pub limits : (l : Lines) → formOf s ≡ some l → r .limits ≡ check2 l
   pub kept : (l : Lines) → formOf s ≡ some l → check2 l ≡ true → Kept (stored l) r sizes vias halves uppers lowers sizes′ vias′ halves′ uppers′ lowers′
-
--- The first k level sizes, n vertices and e segments of lists within the limits.
-pub record Fronts (k n e : ℕ) (sizes : List ℕ) (vias : List Bool) (uppers lowers : List ℕ) : Type 0 where
-  pub levels : k ≤ length sizes
-  pub vertices : n ≤ length vias
-  pub uppers-reach : e ≤ length uppers
-  pub lowers-reach : e ≤ length lowers
-  pub few-levels : length sizes ≤ maxLevels
-  pub few-vertices : length vias ≤ maxVertices
-  pub few-segments : length uppers ≤ maxSegments

@@ -6,4 +6,3 @@ pub mod Reading
 pub mod Writing
 pub mod Scanned
 pub mod Filled
-pub mod Answer

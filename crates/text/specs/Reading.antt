@@ -1,12 +1,12 @@
 -- Reading a plan text: document 01's checks 1 to 6, "Checked in this order", each over the whole text before the next.
-use mathlib.Core.Bool.{Bool, true, false, cond, _&&_}
-use mathlib.Core.List.{List, [], _∷_, _++_, map}
+use mathlib.Core.Bool.{Bool, true, cond, _&&_}
+use mathlib.Core.List.{List, map}
 use mathlib.Core.Option.{Option, none, some}
-use Prim.Native.Nat.{ℕ, _+_}
+use Prim.Native.Nat.{ℕ}
 use lib.Dec.{leb, eqb}
 use lib.ListN.{length}
+use Rattle.ints.specs.Lists.{sum, concat}
 use Rattle.plan.specs.Plan.{PlanData}
-use Rattle.plan.specs.Segments.{Segment}
 use Rattle.plan.specs.Limits.{within, maxLevels, maxGap, maxSpacing, maxHalfWidth, maxOnLevel, maxVertices, maxSegments}
 use Rattle.plan.specs.Checks.{every, check3, check4, check5, check6}
 use Rattle.text.specs.Form.{Vertex, Lines, formOf}
@@ -16,10 +16,6 @@ abbrev pub maxBytes : ℕ
 maxBytes = 65536
 
 -- 2: "A number or count outside its limit, or level lines not K."
-unfoldable pub sum : List ℕ → ℕ
-sum [] = 0
-sum (n ∷ ns) = n + sum ns
-
 abbrev pub halfInLimit : Vertex → Bool
 halfInLimit v = cond (v .via) true (within 1 maxHalfWidth (v .half))
 
@@ -33,19 +29,15 @@ check2 l =
     && eqb (length (l .rows)) (l .levels) && rows
     && leb (sum (map length (l .rows))) maxVertices && leb (length (l .segments)) maxSegments
 
--- What is stored of a text within the limits.
-unfoldable pub inReadingOrder : List (List Vertex) → List Vertex
-inReadingOrder [] = []
-inReadingOrder (vs ∷ rows) = vs ++ inReadingOrder rows
-
+-- What is stored of a text within the limits, its vertices in reading order.
 unfoldable pub stored : Lines → PlanData
 stored l = record {
   levels = l .levels;
   gap = l .gap;
   spacing = l .spacing;
   sizes = map length (l .rows);
-  vias = map (λ v. v .via) (inReadingOrder (l .rows));
-  halves = map (λ v. v .half) (inReadingOrder (l .rows));
+  vias = map (λ v. v .via) (concat (l .rows));
+  halves = map (λ v. v .half) (concat (l .rows));
   uppers = map (λ s. s .upper) (l .segments);
   lowers = map (λ s. s .lower) (l .segments);
 }

@@ -1,6 +1,6 @@
 -- A pass down along a loop over the levels. Assumes nothing.
-use Prim.Native.Nat.{ℕ, zero, suc, _+_, _-_, _<_, _≤_}
-use mathlib.Core.Path.{_≡_, refl, sym, _∙_, ap, subst}
+use Prim.Native.Nat.{ℕ, suc, _+_, _-_, _<_, _≤_}
+use mathlib.Core.Path.{_≡_, refl, _∙_, ap, subst}
 use mathlib.Core.Bool.{Bool}
 use mathlib.Core.List.{List, [], _∷_, _++_}
 use native.Mathlib.Omega.{arith}
@@ -8,7 +8,7 @@ use lib.ListN.{length, getD}
 use lib.IntN.{ℤ}
 use Rattle.ints.specs.Lists.{sum}
 use Rattle.ints.proofs.Laws.{cases}
-use Rattle.plan.specs.Plan.{PlanData, vertexCount, numbers}
+use Rattle.plan.specs.Plan.{PlanData, numbers}
 use Rattle.demand3.proofs.Levels.{firstOn, sizeOn, size-suc, level-within, numbers-snoc}
 use Rattle.demand3.proofs.Sound.{Sound, sound}
 use Rattle.demand3.proofs.Schedule.{Visit, passVisits}

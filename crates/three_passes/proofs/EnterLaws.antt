@@ -1,17 +1,16 @@
 -- Coming to a level: its tables can be made, and what is made tells which runs are ready. Assumes nothing.
 use Prim.Native.Nat.{ℕ, _+_, _-_, _<_, _≤_}
-use mathlib.Core.Path.{_≡_, sym, _∙_, ap}
+use mathlib.Core.Path.{_≡_, _∙_, ap}
 use mathlib.Core.Bool.{Bool}
 use mathlib.Core.List.{List}
 use native.Mathlib.Omega.{arith}
 use lib.ListN.{length, getD}
 use lib.IntN.{ℤ}
 use Rattle.plan.specs.Plan.{PlanData, vertexCount}
-use Rattle.demand3.proofs.Levels.{firstOn, sizeOn, level-within}
+use Rattle.demand3.proofs.Levels.{level-within}
 use Rattle.demand3.proofs.Sound.{Sound, sound}
 use Rattle.demand3.proofs.Schedule.{Visit}
 use Rattle.draw.specs.Joins.{Joinable, joinedAt, lastIn, firstIn, marksIn}
-use Rattle.moments.specs.Moments.{Tables}
 use Rattle.moments.proofs.Near.{joinable}
 use Rattle.visits.specs.Visits.{Levelling}
 use Rattle.three_passes.specs.Levels.{LevelNext}

@@ -1,5 +1,5 @@
 -- Before the first visit: the doubled distances and the marks of runs with slack are the state at the start. Assumes nothing.
-use Prim.Native.Nat.{ℕ, _<_, _≤_}
+use Prim.Native.Nat.{ℕ, _≤_}
 use mathlib.Core.Path.{_≡_, refl, sym, _∙_, ap}
 use mathlib.Core.Bool.{Bool}
 use mathlib.Core.List.{List, []}
@@ -8,7 +8,7 @@ use lib.ListN.{length, getD}
 use lib.IntN.{ℤ, pos}
 use Rattle.ints.specs.Ints.{size}
 use Rattle.ints.specs.Lists.{sum}
-use Rattle.plan.specs.Plan.{PlanData, vertexCount, levelsFrom, levelsOf}
+use Rattle.plan.specs.Plan.{PlanData, levelsFrom, levelsOf}
 use Rattle.preliminary.specs.Positions.{preliminary}
 use Rattle.preliminary.proofs.Positions.{preliminary-length, preliminary-size}
 use Rattle.passes.specs.State.{doubledIn, startAt}

@@ -1,6 +1,6 @@
 -- The passes one after another make the drawing. Assumes nothing.
 use Prim.Native.Nat.{ℕ}
-use mathlib.Core.Path.{_≡_, refl, sym, _∙_, ap, subst}
+use mathlib.Core.Path.{_≡_, sym, _∙_, ap, subst}
 use mathlib.Core.Bool.{Bool}
 use mathlib.Core.List.{List, [], _++_, append-assoc, append-nil}
 use lib.ListN.{length}
@@ -13,9 +13,8 @@ use Rattle.demand3.proofs.Trace.{start}
 use Rattle.demand3.proofs.Schedule.{Visit, passVisits, firstPass, secondPass, thirdPass, schedule, three-is}
 use Rattle.moments.specs.Moments.{stateAfter, Held}
 use Rattle.moments.specs.Listing.{Listing}
-use Rattle.visits.specs.Visits.{Written}
-use Rattle.three_passes.specs.Passing.{downward, upward, PassMade, TurnNext, SomeTurn}
-use Rattle.three_passes.specs.Drawn.{Drawn, AtStart}
+use Rattle.three_passes.specs.Passing.{downward, upward, PassMade, TurnNext}
+use Rattle.three_passes.specs.Drawn.{Drawn, AtStart, TwoMade}
 
 -- ---- the visits of each pass
 abbrev one : PlanData → List Visit
@@ -30,10 +29,6 @@ three p = passVisits p 3 (downward p)
 schedule-is : (p : PlanData) → schedule p ≡ one p ++ (two p ++ (three p ++ []))
 unfolding firstPass secondPass thirdPass
 schedule-is p = append-assoc (one p) (two p) (three p) ∙ ap (λ (vs : List Visit). one p ++ (two p ++ vs)) (sym (append-nil (three p)))
-
-schedule-whole : (p : PlanData) → (one p ++ two p) ++ three p ≡ schedule p
-unfolding firstPass secondPass thirdPass
-schedule-whole p = refl
 
 -- ---- the drawing
 drawing-final : (p : PlanData) → stateAfter p (schedule p) .at ≡ drawingOf p .final
@@ -58,20 +53,22 @@ module _ {p : PlanData} {ns : List ℕ} {vias : List Bool} {uppers lowers : List
         → TurnNext p (one p) (three p ++ []) 2 (upward p) ns vias uppers lowers at apart marks
     second-turn m = turn (one p) (three p ++ []) 2 (upward p) (m .held)
 
-    pub third-turn : PassMade p (one p) (three p ++ []) 2 (upward p) n b at apart marks passes levels sizes vertices positions
-        → TurnNext p (one p ++ two p) [] 3 (downward p) ns vias uppers lowers at apart marks
-    third-turn m = turn (one p ++ two p) [] 3 (downward p) (m .held)
+    pub third-turn : TwoMade p n b at apart marks passes levels sizes vertices positions → TurnNext p (firstPass p ++ secondPass p) [] 3 (downward p) ns vias uppers lowers at apart marks
+    unfolding thirdPass
+    third-turn m = turn (firstPass p ++ secondPass p) [] 3 (downward p) (subst (λ (vs : List Visit). Held p (firstPass p ++ secondPass p) vs at apart marks) (sym (append-nil (thirdPass p))) (m .held))
 
--- ---- what the third leaves
+-- ---- what the second leaves, and the third
+pub two-made : {p : PlanData} {n b : ℕ} {at : List ℤ} {apart : List ℕ} {marks : List Bool} {passes levels sizes vertices : List ℕ} {positions : List ℤ}
+    → PassMade p (one p) (three p ++ []) 2 (upward p) n b at apart marks passes levels sizes vertices positions → TwoMade p n b at apart marks passes levels sizes vertices positions
+unfolding firstPass secondPass thirdPass
+two-made {p} {at = at} {apart} {marks} m = record { held = subst (λ (vs : List Visit). Held p (one p ++ two p) vs at apart marks) (append-nil (three p)) (m .held); written = m .written }
+
 pub all-drawn : {p : PlanData} {n b : ℕ} {at : List ℤ} {apart : List ℕ} {marks : List Bool} {passes levels sizes vertices : List ℕ} {positions : List ℤ}
-    → PassMade p (one p ++ two p) [] 3 (downward p) n b at apart marks passes levels sizes vertices positions → Drawn p n b at passes levels sizes vertices positions
-all-drawn {p} {n} {b} {at} {apart} {marks} {passes} {levels} {sizes} {vertices} {positions} m =
-    let h = subst (λ (vs : List Visit). Held p vs [] at apart marks) (schedule-whole p) (m .held) in
-    let w = subst (λ (vs : List Visit). Written p vs n b passes levels sizes vertices positions) (schedule-whole p) (m .written) in
-    let e = drawing-placings p in
-    record {
-      final = h .places ∙ drawing-final p;
-      lists = subst (λ (l : List Placing). Listing l passes levels sizes vertices positions) e (w .lists);
-      placings = w .placings ∙ ap length e;
-      boxes = w .boxes ∙ ap (λ (l : List Placing). length (boxesListed l)) e;
-    }
+    → PassMade p (firstPass p ++ secondPass p) [] 3 (downward p) n b at apart marks passes levels sizes vertices positions → Drawn p n b at passes levels sizes vertices positions
+unfolding thirdPass
+all-drawn {p} {passes} {levels} {sizes} {vertices} {positions} m = let e = drawing-placings p in record {
+  final = m .held .places ∙ drawing-final p;
+  lists = subst (λ (l : List Placing). Listing l passes levels sizes vertices positions) e (m .written .lists);
+  placings = m .written .placings ∙ ap length e;
+  boxes = m .written .boxes ∙ ap (λ (l : List Placing). length (boxesListed l)) e;
+}

@@ -1,14 +1,14 @@
 -- A pass up along a loop over the levels. Assumes nothing.
-use Prim.Native.Nat.{ℕ, zero, suc, _+_, _-_, _<_, _≤_}
+use Prim.Native.Nat.{ℕ, suc, _+_, _-_, _<_, _≤_}
 use mathlib.Core.Path.{_≡_, refl, sym, _∙_, ap, subst}
 use mathlib.Core.Bool.{Bool}
 use mathlib.Core.List.{List, [], _∷_, _++_, reverse, reverse-append, reverse-cons}
 use native.Mathlib.Omega.{arith}
-use lib.ListN.{length, getD, take}
+use lib.ListN.{length, getD}
 use lib.Seq.{take-all}
 use lib.IntN.{ℤ}
 use Rattle.ints.specs.Lists.{sum}
-use Rattle.plan.specs.Plan.{PlanData, vertexCount, numbers}
+use Rattle.plan.specs.Plan.{PlanData, numbers}
 use Rattle.demand3.proofs.Levels.{firstOn, sizeOn, level-within, numbers-snoc}
 use Rattle.demand3.proofs.Sound.{Sound, sound}
 use Rattle.demand3.proofs.Schedule.{Visit, passVisits}

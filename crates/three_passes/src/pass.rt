@@ -7,7 +7,6 @@ use visits::level::Listed;
 use visits::level::visit_level;
 ghost use mathlib.Core.Path.{_≡_};
 ghost use mathlib.Core.List.{List};
-ghost use Prim.Native.Nat.{ℕ};
 ghost use Rattle.plan.specs.Plan.{PlanData};
 ghost use Rattle.demand3.proofs.Schedule.{Visit};
 ghost use Rattle.visits.specs.Visits.{Written, Levelled};

@@ -4,17 +4,17 @@ use crate::pass::pass_up;
 use draw::distances::distances;
 use draw::rows::rows;
 use draw::slack::mark_loose;
+use plan::data::Plan;
 use visits::level::Listed;
 ghost use mathlib.Core.Path.{_≡_};
 ghost use mathlib.Core.List.{List};
-ghost use Prim.Native.Nat.{ℕ};
 ghost use Rattle.plan.specs.Plan.{PlanData};
 ghost use Rattle.preliminary.specs.Positions.{preliminary};
 ghost use Rattle.demand3.proofs.Schedule.{Visit};
 ghost use Rattle.starting.specs.Lists.{Lists};
 ghost use Rattle.visits.specs.Visits.{Written};
 ghost use Rattle.three_passes.specs.Passing.{downward, upward, PassMade, TurnNext, SomeTurn};
-ghost use Rattle.three_passes.specs.Drawn.{Drawn, AtStart, SomeAtStart, SomeStart};
+ghost use Rattle.three_passes.specs.Drawn.{Drawn, AtStart, SomeAtStart, TwoMade, SomeStart};
 
 // A pass down: the preceding level is the one above.
 fn down(
@@ -39,12 +39,12 @@ fn down(
     let n = vias.len();
     let m = n + 1;
     let e = uppers.len();
-    let mut first = [0u16; 1025];
-    let mut ends = [0u32; 2048];
+    let mut first = [0u16; Plan::MAX_VERTICES + 1];
+    let mut ends = [0u32; Plan::MAX_SEGMENTS];
     rows(lowers, uppers, &mut first[..m], &mut ends[..e]);
-    let mut before = [0u32; 1024];
-    let mut after = [0u32; 1024];
-    let mut counts = [0u16; 1024];
+    let mut before = [0u32; Plan::MAX_VERTICES];
+    let mut after = [0u32; Plan::MAX_VERTICES];
+    let mut counts = [0u16; Plan::MAX_VERTICES];
     pass_down(
         q,
         lengths,
@@ -88,12 +88,12 @@ fn up(
     let n = vias.len();
     let m = n + 1;
     let e = uppers.len();
-    let mut first = [0u16; 1025];
-    let mut ends = [0u32; 2048];
+    let mut first = [0u16; Plan::MAX_VERTICES + 1];
+    let mut ends = [0u32; Plan::MAX_SEGMENTS];
     rows(uppers, lowers, &mut first[..m], &mut ends[..e]);
-    let mut before = [0u32; 1024];
-    let mut after = [0u32; 1024];
-    let mut counts = [0u16; 1024];
+    let mut before = [0u32; Plan::MAX_VERTICES];
+    let mut after = [0u32; Plan::MAX_VERTICES];
+    let mut counts = [0u16; Plan::MAX_VERTICES];
     pass_up(
         lengths,
         vias,
@@ -106,6 +106,61 @@ fn up(
         apart,
         marks,
         list,
+        passes,
+        levels,
+        sizes,
+        vertices,
+        positions,
+    )
+}
+
+// Passes 1 and 2.
+fn down_and_up(
+    lengths: &[u16],
+    vias: &[bool],
+    uppers: &[u32],
+    lowers: &[u32],
+    at: &mut [i64],
+    apart: &mut [u64],
+    marks: &mut [bool],
+    passes: &mut [u16],
+    levels: &mut [u16],
+    sizes: &mut [u16],
+    vertices: &mut [u16],
+    positions: &mut [i64],
+) -> Listed
+    requires { ⌜ SomeAtStart (now lengths) (now vias) (now uppers) (now lowers) (now at) (now apart) (now marks) (now passes) (now levels) (now sizes) (now vertices) (now positions) ⌝ }
+    ensures { λ r. ⌜ ((p : PlanData) → AtStart p (now (lengths .entry)) (now (vias .entry)) (now (uppers .entry)) (now (lowers .entry)) (now (at .entry)) (now (apart .entry)) (now (marks .entry)) (now (passes .entry)) (now (levels .entry)) (now (sizes .entry)) (now (vertices .entry)) (now (positions .entry)) → TwoMade p (r .placings) (r .boxes) (now (at .exit)) (now (apart .exit)) (now (marks .exit)) (now (passes .exit)) (now (levels .exit)) (now (sizes .exit)) (now (vertices .exit)) (now (positions .exit))) ⌝ }
+{
+    let none = Listed {
+        placings: 0,
+        boxes: 0,
+    };
+    let one = down(
+        1,
+        lengths,
+        vias,
+        uppers,
+        lowers,
+        at,
+        apart,
+        marks,
+        none,
+        passes,
+        levels,
+        sizes,
+        vertices,
+        positions,
+    );
+    up(
+        lengths,
+        vias,
+        uppers,
+        lowers,
+        at,
+        apart,
+        marks,
+        one,
         passes,
         levels,
         sizes,
@@ -132,12 +187,7 @@ fn run_passes(
     requires { ⌜ SomeAtStart (now lengths) (now vias) (now uppers) (now lowers) (now at) (now apart) (now marks) (now passes) (now levels) (now sizes) (now vertices) (now positions) ⌝ }
     ensures { λ r. ⌜ ((p : PlanData) → AtStart p (now (lengths .entry)) (now (vias .entry)) (now (uppers .entry)) (now (lowers .entry)) (now (at .entry)) (now (apart .entry)) (now (marks .entry)) (now (passes .entry)) (now (levels .entry)) (now (sizes .entry)) (now (vertices .entry)) (now (positions .entry)) → Drawn p (r .placings) (r .boxes) (now (at .exit)) (now (passes .exit)) (now (levels .exit)) (now (sizes .exit)) (now (vertices .exit)) (now (positions .exit))) ⌝ }
 {
-    let none = Listed {
-        placings: 0,
-        boxes: 0,
-    };
-    let one = down(
-        1,
+    let two = down_and_up(
         lengths,
         vias,
         uppers,
@@ -145,22 +195,6 @@ fn run_passes(
         at,
         apart,
         marks,
-        none,
-        passes,
-        levels,
-        sizes,
-        vertices,
-        positions,
-    );
-    let two = up(
-        lengths,
-        vias,
-        uppers,
-        lowers,
-        at,
-        apart,
-        marks,
-        one,
         passes,
         levels,
         sizes,
@@ -204,8 +238,8 @@ pub fn three_passes(
     ensures { λ r. ⌜ ((p : PlanData) → Lists p gap (now (lengths .entry)) (now (vias .entry)) (now (halves .entry)) (now (uppers .entry)) (now (lowers .entry)) → now (at .entry) ≡ preliminary p → Drawn p (r .placings) (r .boxes) (now (at .exit)) (now (passes .exit)) (now (levels .exit)) (now (sizes .exit)) (now (vertices .exit)) (now (positions .exit))) ⌝ }
 {
     let n = vias.len();
-    let mut apart = [0u64; 1024];
-    let mut marks = [false; 1024];
+    let mut apart = [0u64; Plan::MAX_VERTICES];
+    let mut marks = [false; Plan::MAX_VERTICES];
     distances(gap, lengths, halves, &mut apart[..n]);
     mark_loose(lengths, vias, &apart[..n], at, &mut marks[..n]);
     run_passes(

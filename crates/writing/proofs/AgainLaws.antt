@@ -1,10 +1,10 @@
 -- A plan as it was read is stored with the very data of the reading, so its text is the reading's.
 use mathlib.Core.Path.{_≡_, refl, sym, _∙_, ap}
 use mathlib.Core.Bool.{true, false}
-use mathlib.Core.List.{List, [], _∷_, _++_}
+use mathlib.Core.List.{List, [], _∷_}
 use Prim.Native.Nat.{ℕ, _≤_, _<_, _^_}
 use native.Mathlib.Omega.{arith}
-use borrow.Author.Tests.{leb-true}
+use borrow.Author.Tests.{leb-true, lt-leb, le-leb}
 use lib.Dec.{leb}
 use lib.ListN.{length, take, drop, replicate, length-append}
 use lib.Seq.{take-at}
@@ -14,18 +14,19 @@ use Rattle.plan.specs.Limits.{maxLevels, maxVertices, maxSegments}
 use Rattle.plan.specs.Stored.{planData}
 use Rattle.plan.specs.Acceptable.{acceptable}
 use Rattle.plan.specs.declared.data.Plan.{Plan}
-use Rattle.text.specs.Decimal.{decimal}
 use Rattle.text.specs.Reading.{Reading, accepted, refused, reading}
 use Rattle.text.specs.Writing.{textOf, isPlanOfText}
-use Rattle.text.specs.Answer.{planOf, answerOf}
-use Rattle.text.specs.declared.Answer.the-variants.{Accepted, Refused}
-use Rattle.text.specs.declared.ReadText.{ReadText}
-use Rattle.text.proofs.TestLaws.{conj-at}
+use Rattle.reading.specs.Answer.{planOf, answerOf}
+use Rattle.reading.specs.declared.Answer.the-variants.{Accepted, Refused}
+use Rattle.reading.specs.declared.ReadText.{ReadText}
+use Rattle.text.proofs.TestLaws.{test, conj-at}
 use Rattle.text.proofs.DecimalLaws.{decimal-length}
 use Rattle.text.proofs.PlanLimits.{Limits}
-use Rattle.text.proofs.PlanOfText.{plan-of-text, acceptable-of, read-acceptable}
-use Rattle.writing.specs.Data.{isStoredPlan}
-use Rattle.writing.specs.Again.{refusedLine, writtenAgain}
+use Rattle.text.proofs.PlanOfText.{plan-of-text, acceptable-of, text-short, written-read, read-acceptable}
+use Rattle.writing.specs.Data.{isStoredPlan, maxText}
+use Rattle.writing.specs.Again.{refusedLine, writtenAgain, textIfShort, rewritten, Leaves}
+use Rattle.writing.specs.Written.{Fronts}
+use Rattle.writing.specs.declared.again.Rewritten.the-variants.{Written, Refused as Not, Short}
 use Rattle.writing.proofs.Limits.{within-most, stored-is}
 use Rattle.writing.proofs.LineLaws.{halves-long}
 
@@ -62,10 +63,12 @@ stored-data p l =
     let b = front (p .lowers) (replicate maxSegments 0) (length (p .uppers)) (l .ends) in
     rw (s, v, h, a, b)
 
--- a plan that was read, stored with the data of the reading
+-- a plan that was read, stored with the data of the reading, and its text
 pub record Again (s : List ℕ) (p : Plan) (v e : ℕ) : Type 0 where
   pub stored : isStoredPlan p v e ≡ true
   pub read : reading s ≡ accepted (planData p v e)
+  pub same : textOf (planData p v e) ≡ s
+  pub short : length (textOf (planData p v e)) ≤ maxText
 
 plan-again : (s : List ℕ) (p : PlanData) → reading s ≡ accepted p → Again s (planOf p) (length (p .vias)) (length (p .uppers))
 plan-again s p e =
@@ -75,6 +78,8 @@ plan-again s p e =
     record {
       stored = stored-is (planOf p) (length (p .vias)) (length (p .uppers)) (l .vertices) (l .segments) ∙ ap acceptable same ∙ a;
       read = e ∙ ap accepted (sym same);
+      same = ap textOf same ∙ written-read s p e;
+      short = rw same (text-short p a);
     }
 
 pub read-accepted : (s : List ℕ) (r : ReadText) (v e : ℕ) → r ≡ answerOf (reading s) → r .answer ≡ Accepted v e → Again s (r .plan) v e
@@ -117,6 +122,35 @@ pub again-refused : (n : ℕ) → writtenAgain (refused n) ≡ refusedLine n
 unfolding writtenAgain
 again-refused n = refl
 
+pub rewritten-accepted : (p : PlanData) (o : List ℕ) → rewritten (accepted p) o ≡ textIfShort (textOf p) o
+unfolding rewritten
+rewritten-accepted p o = refl
+
+-- into a buffer with no room, and with room
+module _ (w o : List ℕ) where
+  pub leaves-short : length o < length w → Leaves (textIfShort w o) Short o
+  unfolding textIfShort
+  leaves-short h = rw (lt-leb (length w) (length o) h) (record { answer = refl; buffer = refl })
+
+  pub leaves-written : {n : ℕ} {out : List ℕ} → length w ≤ length o → Fronts w o n out → Leaves (textIfShort w o) (Written n) out
+  unfolding textIfShort
+  leaves-written h f = rw (le-leb (length w) (length o) h) (record { answer = ap Written (f .count); buffer = f .bytes })
+
+pub leaves-refused : (n : ℕ) (o : List ℕ) → Leaves (rewritten (refused n) o) (Not n) o
+unfolding rewritten
+leaves-refused n o = record { answer = refl; buffer = refl }
+
 pub refused-short : (n : ℕ) → n < 2 ^ 32 → length (refusedLine n) ≤ 21
 unfolding refusedLine
 refused-short n h = let d = decimal-length 9 n (omega arith) in simp length-append (omega arith)
+
+-- no more than a plan's text is written
+pub written-few : (s o : List ℕ) (n : ℕ) → rewritten (reading s) o .answer ≡ Written n → n ≤ maxText
+unfolding rewritten textIfShort
+written-few s o n = go (reading s) refl
+  where
+    go : (g : Reading) → reading s ≡ g → rewritten g o .answer ≡ Written n → n ≤ maxText
+    go (accepted p) h e = test (leb (length (textOf p)) (length o))
+        (λ t. let told : Written (length (textOf p)) ≡ Written n = rw t at e in let same : length (textOf p) ≡ n = cc told in omega (arith, text-short p (read-acceptable s p h)))
+        (λ t. let told : Short ≡ Written n = rw t at e in let z : _≡_ {A = ℕ} 0 1 = cc told in absurd (omega arith))
+    go (refused m) h e = let z : _≡_ {A = ℕ} 0 1 = cc e in absurd (omega arith)

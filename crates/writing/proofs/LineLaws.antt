@@ -1,36 +1,26 @@
 -- The lines of a plan's text by number, and the vertices of a level one after another.
 use mathlib.Core.Path.{_≡_, refl, sym, _∙_, ap}
 use mathlib.Core.Bool.{Bool, true, false}
-use mathlib.Core.List.{List, [], _∷_, _++_, map, append-assoc, append-nil, map-append}
+use mathlib.Core.List.{List, [], _∷_, _++_, map, append-assoc, map-append}
 use Prim.Native.Nat.{ℕ, zero, suc, _+_, _-_, _≤_, _<_}
 use native.Mathlib.Omega.{arith}
 use native.Mathlib.Numerals.{add-one}
 use lib.ListN.{length, getD, take, drop, length-append, length-map, List·getD-append, take-append-drop}
 use lib.Seq.{getD-append-add, take-suc, take-all}
 use Rattle.ints.specs.Lists.{sum, concat}
-use Rattle.ints.proofs.Lists.{map-getD}
+use Rattle.ints.proofs.Lists.{map-getD, concat-append, concat-one}
 use Rattle.plan.specs.Plan.{PlanData, numbers, levelsFrom, levelsOf}
-use Rattle.plan.specs.Segments.{Segment, segmentsFrom, segmentsOf}
+use Rattle.plan.specs.Segments.{segmentsFrom, segmentsOf}
 use Rattle.plan.specs.Graph.{segment}
 use Rattle.plan.specs.Acceptable.{halfHolds, halvesHold, acceptable}
 use Rattle.text.specs.Writing.{planLine, vertexWords, levelLineOf, segmentLineOf, lastLine, linesOf, textOf}
 use Rattle.text.proofs.Words.{never}
 use Rattle.text.proofs.TestLaws.{test}
-use Rattle.text.proofs.PlanOfText.{text-short}
 use Rattle.writing.specs.Written.{Room, Wrote, Fronts}
-use Rattle.writing.specs.Data.{dataOf, verticesOf, numbersOf, rowWords, wordsOf, lineOf, levelVertices, maxText, LineRoom}
+use Rattle.writing.specs.Data.{verticesOf, numbersOf, rowWords, wordsOf, lineOf, levelVertices, LineRoom}
 use Rattle.writing.proofs.Written.{and-then, wrote-none, wrote-long, front-of}
 
 -- ---- lists of lists
-pub concat-append : (a b : List (List ℕ)) → concat (a ++ b) ≡ concat a ++ concat b
-unfolding concat
-concat-append [] b = refl
-concat-append (l ∷ a) b = rw (concat-append a b) (sym (append-assoc l (concat a) (concat b)))
-
-pub concat-one : (l : List ℕ) → concat (l ∷ []) ≡ l
-unfolding concat
-concat-one l = append-nil l
-
 pub concat-more : (ls : List (List ℕ)) (n : ℕ) → n < length ls → concat (take (n + 1) ls) ≡ concat (take n ls) ++ getD ls n []
 concat-more ls n h = rw (add-one, take-suc ls n [] h, concat-append) (ap (λ (l : List ℕ). concat (take n ls) ++ l) (concat-one (getD ls n [])))
 
@@ -207,25 +197,22 @@ module _ (p : PlanData) where
       → Wrote (concat (take (n + 1) (linesOf p))) o 0 to r
   text-more n h a b = rw (concat-more (linesOf p) n h) (and-then a b)
 
-  text-long : acceptable p ≡ true → length (concat (linesOf p)) ≤ maxText
+  pub text-room : (n : ℕ) {o q : List ℕ} {at : ℕ} → acceptable p ≡ true → length (textOf p) ≤ length o → n < length (linesOf p) → Wrote (concat (take n (linesOf p))) o 0 at q → LineRoom p n q at
   unfolding textOf
-  text-long h = text-short p h
-
-  pub text-room : (n : ℕ) {o q : List ℕ} {at : ℕ} → acceptable p ≡ true → maxText ≤ length o → n < length (linesOf p) → Wrote (concat (take n (linesOf p))) o 0 at q → LineRoom p n q at
   text-room n {o} {q} {at} a l h w = record {
     plan = a;
     line = h;
     room =
         let part = concat-part (linesOf p) (n + 1) in
         let more = ap length (concat-more (linesOf p) n h) ∙ length-append (concat (take n (linesOf p))) (lineOf p n) in
-        omega (arith, text-long a, wrote-long w, w .next);
+        omega (arith, wrote-long w, w .next);
   }
 
-  pub text-all : (n : ℕ) {o q : List ℕ} {at : ℕ} → acceptable p ≡ true → maxText ≤ length o → length (linesOf p) ≤ n → Wrote (concat (take n (linesOf p))) o 0 at q → Fronts (textOf p) o at q
+  pub text-all : (n : ℕ) {o q : List ℕ} {at : ℕ} → length (textOf p) ≤ length o → length (linesOf p) ≤ n → Wrote (concat (take n (linesOf p))) o 0 at q → Fronts (textOf p) o at q
   unfolding textOf
-  text-all n {o} {q} {at} a l h w =
+  text-all n {o} {q} {at} l h w =
       let whole = rw (take-all n (linesOf p) h) at w in
-      front-of whole (omega (arith, text-long a))
+      front-of whole l
 
 -- ---- lines as the code picks them
 module _ (p : PlanData) (n : ℕ) where

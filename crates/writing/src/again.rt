@@ -3,18 +3,26 @@ use crate::lines::text as write_text;
 use crate::number::put_then;
 use crate::number::put_word;
 use plan::data::Plan;
-use text::Answer;
-use text::read;
+use reading::Answer;
+use reading::read;
 ghost use mathlib.Core.Path.{_≡_};
 ghost use mathlib.Core.Bool.{true};
-ghost use Prim.Native.Nat.{ℕ, _≤_};
+ghost use Prim.Native.Nat.{_≤_};
 ghost use lib.ListN.{length};
 ghost use Rattle.plan.specs.Stored.{planData};
 ghost use Rattle.text.specs.Reading.{reading};
 ghost use Rattle.text.specs.Writing.{textOf};
 ghost use Rattle.writing.specs.Written.{Fronts};
 ghost use Rattle.writing.specs.Data.{isStoredPlan, maxText};
-ghost use Rattle.writing.specs.Again.{refusedLine, writtenAgain};
+ghost use Rattle.writing.specs.Again.{refusedLine, writtenAgain, Leaves, textIfShort, rewritten};
+
+// What writing a text again gives: how many bytes were written, the number of the text's refusal, or that the buffer is too
+// short.
+pub enum Rewritten {
+    Written(usize),
+    Refused(u32),
+    Short,
+}
 
 // "(refused N)", at the front of the buffer: how many bytes it has.
 pub fn refuse(n: u32, out: &mut [u8]) -> usize
@@ -31,9 +39,10 @@ fn level_count(k: u32) -> usize
     k as usize
 }
 
-// The text of a plan with these numbers of vertices and segments that is that of a text.
+// The text of a plan with these numbers of vertices and segments that is that of a text, at the front of a buffer that has
+// room for it.
 fn stored_text(plan: Plan, vertices: usize, segments: usize, out: &mut [u8]) -> usize
-    requires { ⌜ (isStoredPlan plan vertices segments ≡ true) × (maxText ≤ length (now out)) ⌝ }
+    requires { ⌜ (isStoredPlan plan vertices segments ≡ true) × (length (textOf (planData plan vertices segments)) ≤ length (now out)) ⌝ }
     ensures { λ r. ⌜ Fronts (textOf (planData plan vertices segments)) (now (out .entry)) r (now (out .exit)) ⌝ }
 {
     let k = level_count(plan.levels);
@@ -65,5 +74,34 @@ pub fn reread(text: &[u8], out: &mut [u8]) -> usize
     match answer {
         Answer::Accepted(v, e) => stored_text(r.plan, v, e, out),
         Answer::Refused(n) => refuse(n, out),
+    }
+}
+
+// The text of such a plan, which has n bytes, if the buffer has room for it.
+fn text_if_short(
+    plan: Plan,
+    vertices: usize,
+    segments: usize,
+    n: usize,
+    out: &mut [u8],
+) -> Rewritten
+    requires { ⌜ (isStoredPlan plan vertices segments ≡ true) × (n ≡ length (textOf (planData plan vertices segments))) ⌝ }
+    ensures { λ r. ⌜ Leaves (textIfShort (textOf (planData plan vertices segments)) (now (out .entry))) r (now (out .exit)) ⌝ }
+{
+    if out.len() < n {
+        return Rewritten::Short;
+    }
+    Rewritten::Written(stored_text(plan, vertices, segments, out))
+}
+
+// The plan's text again, at the front of the buffer, if it has room for it. Else the buffer stays as it is.
+pub fn rewrite(text: &[u8], out: &mut [u8]) -> Rewritten
+    ensures { λ r. ⌜ Leaves (rewritten (reading (now (text .entry))) (now (out .entry))) r (now (out .exit)) ⌝ }
+{
+    let r = read(text);
+    let answer = r.answer;
+    match answer {
+        Answer::Accepted(v, e) => text_if_short(r.plan, v, e, text.len(), out),
+        Answer::Refused(n) => Rewritten::Refused(n),
     }
 }

@@ -4,18 +4,15 @@ use crate::number::put_then;
 use crate::number::put_word;
 use plan::levels::wide;
 ghost use mathlib.Core.Path.{_≡_};
-ghost use mathlib.Core.Bool.{Bool, true};
-ghost use mathlib.Core.List.{List};
-ghost use Prim.Native.Nat.{ℕ, _+_, _<_, _≤_};
-ghost use lib.ListN.{length, take, getD};
-ghost use Rattle.ints.specs.Lists.{sum};
-ghost use Rattle.plan.specs.Limits.{maxLevels};
+ghost use mathlib.Core.Bool.{true};
+ghost use Prim.Native.Nat.{_+_, _<_, _≤_};
+ghost use lib.ListN.{length};
 ghost use Rattle.plan.specs.Plan.{numbers};
 ghost use Rattle.plan.specs.Graph.{segment};
 ghost use Rattle.plan.specs.Acceptable.{acceptable};
-ghost use Rattle.text.specs.Writing.{planLine, levelLineOf, segmentLineOf, linesOf, textOf};
+ghost use Rattle.text.specs.Writing.{planLine, levelLineOf, segmentLineOf, textOf};
 ghost use Rattle.writing.specs.Written.{Room, Wrote, Fronts};
-ghost use Rattle.writing.specs.Data.{dataOf, verticesOf, numbersOf, rowWords, wordsOf, lineOf, levelVertices, LevelRoom, LineRoom, maxText};
+ghost use Rattle.writing.specs.Data.{dataOf, verticesOf, numbersOf, rowWords, wordsOf, lineOf, levelVertices, LevelRoom, LineRoom};
 
 // "(plan K G S)"
 fn put_plan(out: &mut [u8], at: usize, levels: u32, gap: u32, spacing: u32) -> usize
@@ -165,7 +162,7 @@ pub fn line(
     )
 }
 
-// The whole text of an acceptable plan, at the front of the buffer: how many bytes it has.
+// The whole text of an acceptable plan, at the front of a buffer that has room for it: how many bytes it has.
 pub fn text(
     levels: u32,
     gap: u32,
@@ -177,7 +174,7 @@ pub fn text(
     lowers: &[u32],
     out: &mut [u8],
 ) -> usize
-    requires { ⌜ (acceptable (dataOf levels gap spacing (now sizes) (now vias) (now halves) (now uppers) (now lowers)) ≡ true) × (maxText ≤ length (now out)) ⌝ }
+    requires { ⌜ (acceptable (dataOf levels gap spacing (now sizes) (now vias) (now halves) (now uppers) (now lowers)) ≡ true) × (length (textOf (dataOf levels gap spacing (now sizes) (now vias) (now halves) (now uppers) (now lowers))) ≤ length (now out)) ⌝ }
     ensures { λ r. ⌜ Fronts (textOf (dataOf levels gap spacing (now (sizes .entry)) (now (vias .entry)) (now (halves .entry)) (now (uppers .entry)) (now (lowers .entry)))) (now (out .entry)) r (now (out .exit)) ⌝ }
 {
     let lines = sizes.len() + uppers.len() + 2;

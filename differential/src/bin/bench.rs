@@ -8,15 +8,19 @@ use reference::requests::{Request, Scale};
 use std::hint::black_box;
 use std::time::Instant;
 
-const ROUNDS: usize = 41;
+/// Random requests of each size.
+const REQUESTS: usize = 16;
 
-/// Seconds that one call takes, over calls enough to be measured.
-fn seconds(calls: usize, mut call: impl FnMut()) -> f64 {
+/// Short rounds and many of them, so that the median is of rounds that no other process broke into.
+const ROUNDS: usize = 401;
+
+/// Seconds that one call takes, over some passes through the requests.
+fn seconds(passes: usize, mut call: impl FnMut(usize)) -> f64 {
     let began = Instant::now();
-    for _ in 0..calls {
-        call();
+    for _ in 0..passes {
+        (0..REQUESTS).for_each(&mut call);
     }
-    began.elapsed().as_secs_f64() / calls as f64
+    began.elapsed().as_secs_f64() / (passes * REQUESTS) as f64
 }
 
 fn median(mut values: Vec<f64>) -> f64 {
@@ -24,31 +28,34 @@ fn median(mut values: Vec<f64>) -> f64 {
     values[values.len() / 2]
 }
 
-/// The proved call against the reference's jumps, on the same accepted request.
+/// The proved call against the reference's jumps, on the same accepted requests.
 fn place_run(boxes: usize, neighbours: usize, name: &str, scale: Scale) {
-    let q = Request::accepted(&mut Random::new("bench", (boxes * 10_000 + neighbours) as u64), boxes, neighbours, scale);
-    let distances: Vec<i64> = q.distances.iter().map(|&d| d as i64).collect();
-    let counts: Vec<usize> = q.counts.iter().map(|&c| c as usize).collect();
-    let mut ours = q.answer.clone();
-    let mut theirs = q.answer.clone();
+    let requests: Vec<Request> = (0..REQUESTS as u64)
+        .map(|seed| Request::accepted(&mut Random::new("bench", seed), boxes, neighbours, scale))
+        .collect();
+    let distances: Vec<Vec<i64>> = requests.iter().map(|q| q.distances.iter().map(|&d| d as i64).collect()).collect();
+    let counts: Vec<Vec<usize>> = requests.iter().map(|q| q.counts.iter().map(|&c| c as usize).collect()).collect();
+    let mut ours = vec![vec![0; boxes]; REQUESTS];
+    let mut theirs = ours.clone();
     let mut placer = Placer::new();
-    let calls = 4_000_000 / (1 + boxes * 400 + neighbours * 20) + 1;
+    let passes = 50_000 / (1 + boxes * 400 + neighbours * 20) + 1;
     let (mut proved_times, mut reference_times) = (Vec::new(), Vec::new());
     for _ in 0..ROUNDS {
-        proved_times.push(seconds(calls, || {
-            black_box(proved::place_run(&q, &mut ours));
+        proved_times.push(seconds(passes, |i| {
+            black_box(proved::place_run(&requests[i], &mut ours[i]));
         }));
-        reference_times.push(seconds(calls, || {
+        reference_times.push(seconds(passes, |i| {
+            let q = &requests[i];
             let run = Run {
                 left: q.left.bound(),
                 right: q.right.bound(),
                 old: &q.old,
-                distances: &distances,
-                counts: &counts,
+                distances: &distances[i],
+                counts: &counts[i],
                 neighbours: &q.neighbours,
             };
             assert!(black_box(run.is_acceptable()));
-            placer.place(&run, &mut theirs);
+            placer.place(&run, &mut theirs[i]);
             black_box(&theirs);
         }));
     }

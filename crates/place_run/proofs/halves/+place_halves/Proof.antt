@@ -12,9 +12,11 @@ use borrow.Fn.PlainCycle.{Measures, is, falls, and}
 use Rattle.ints.proofs.Laws.{back′}
 use Rattle.place_run.specs.Call.{limitOf}
 use Rattle.place_run.specs.Halves.{Placed}
+use Rattle.place_run.specs.Offsets.{lessOffsets, lessNear}
 use Rattle.place_run.proofs.Columns.{sum-cut}
 use Rattle.place_run.proofs.Fill.{rest-is, second-part, both-parts}
-use Rattle.place_run.proofs.ByHalves.{placed-none, placed-one, Halved, ready-left, ready-right, halves-cut, halves-small, placed-more}
+use Rattle.place_run.proofs.ByHalves.{Halved}
+use Rattle.place_run.proofs.Given.{given-none, given-one, given-left, given-right, given-join, given-more}
 use Rattle.place_run.proofs.halves.place_halves.Reads as place-halves
 use Rattle.place_run.proofs.halves.place_halves.Kinds as place-halves-kinds
 use Rattle.place_run.proofs.halves.+place_halves.Lts-place_halves as lts
@@ -24,15 +26,15 @@ use Rattle.place_run.proofs.meet.join.Reads as join-reads
 use Rattle.place_run.proofs.halves.+place_halves.{statement}
 use Rattle.place_run.proofs.halves.+place_halves.Tie.{close}
 
-abbrev μ : Measures 4 place-halves-kinds.ps ℕ
+abbrev μ : Measures 5 place-halves-kinds.ps ℕ
 μ κs a = length (a .1 .1 .0 .now)
 
 -- what is given at the measure t, and what a call of itself asks below t
-abbrev at : ℕ → In 4 place-halves-kinds.ps
-at t = and 4 place-halves-kinds.ps (is 4 place-halves-kinds.ps μ t) place-halves.Pre
+abbrev at : ℕ → In 5 place-halves-kinds.ps
+at t = and 5 place-halves-kinds.ps (is 5 place-halves-kinds.ps μ t) place-halves.Pre
 
-abbrev below : ℕ → In 4 place-halves-kinds.ps
-below t = and 4 place-halves-kinds.ps (falls 4 place-halves-kinds.ps _<_ μ t) place-halves.Pre
+abbrev below : ℕ → In 5 place-halves-kinds.ps
+below t = and 5 place-halves-kinds.ps (falls 5 place-halves-kinds.ps _<_ μ t) place-halves.Pre
 
 abbrev calls : ℕ → lts.Claims
 calls t = (
@@ -47,74 +49,89 @@ calls t = (
 )
 
 module _ (t : ℕ) where
+  -- the columns have an entry for each box
+  boxes : (s : lts.Start (calls t) (at t) place-halves.Post) → length (s .args .old .now) ≡ length (s .args .counts .now)
+  boxes s = s .pre .1 .columns .boxes
+
+  offsets : (s : lts.Start (calls t) (at t) place-halves.Post) → length (s .args .offsets .now) ≡ length (s .args .old .now)
+  offsets s = s .pre .1 .offsets .boxes
+
   -- the cut, and the two halves placed
-  halved : (c : lts.After-total (calls t) (at t) place-halves.Post) → let a = c .before .before .before .before .before .args in Halved (length (a .old .now) / 2) (c .total .result) (a .old .now) (a .counts .now)
+  halved : (c : lts.After-total (calls t) (at t) place-halves.Post) → let a = c .before .before .before .before .before .before .args in Halved (length (a .old .now) / 2) (c .total .result) (a .old .now) (a .counts .now)
   halved c = record { many = omega (arith, c .before .before .if2 .left, c .before .before .before .if1 .left); half = refl; before = c .total .ensures }
 
-  within : (c : lts.After-total (calls t) (at t) place-halves.Post) → c .total .result ≤ length (c .before .before .before .before .before .args .near .now)
-  within c = let s = c .before .before .before .before .before in let a = s .args in omega (arith, c .total .ensures, sum-cut (length (a .old .now) / 2) (a .counts .now), s .pre .1 .columns .neighbours)
+  within : (c : lts.After-total (calls t) (at t) place-halves.Post) → c .total .result ≤ length (c .before .before .before .before .before .before .args .near .now)
+  within c = let s = c .before .before .before .before .before .before in let a = s .args in omega (arith, c .total .ensures, sum-cut (length (a .old .now) / 2) (a .counts .now), s .pre .1 .columns .neighbours)
 
-  first-long : (c : lts.After-place-halves (calls t) (at t) place-halves.Post) → length (c .place-halves .last .1 .1 .1 .1 .1 .0) ≡ length (c .before .before .before .before .before .before .before .before .before .before .args .old .now) / 2
-  first-long c = let s = c .before .before .before .before .before .before .before .before .before .before in let a = s .args in omega (arith, c .place-halves .kept .1 .1 .1 .1 .1 .0, length-take (length (a .old .now) / 2) (a .z .now), s .pre .1 .answer)
+  first-long : (c : lts.After-place-halves (calls t) (at t) place-halves.Post) → length (c .place-halves .last .1 .1 .1 .1 .1 .1 .0) ≡ length (c .before .before .before .before .before .before .before .before .before .before .before .before .args .old .now) / 2
+  first-long c = let s = c .before .before .before .before .before .before .before .before .before .before .before .before in let a = s .args in omega (arith, c .place-halves .kept .1 .1 .1 .1 .1 .1 .0, length-take (length (a .old .now) / 2) (a .z .now), s .pre .1 .answer)
 
-  first-all : (c : lts.After-place-halves (calls t) (at t) place-halves.Post) → let a = c .before .before .before .before .before .before .before .before .before .before .args in let l = c .place-halves .last .1 .1 .1 .1 .1 .0 in
+  first-all : (c : lts.After-place-halves (calls t) (at t) place-halves.Post) → let a = c .before .before .before .before .before .before .before .before .before .before .before .before .args in let l = c .place-halves .last .1 .1 .1 .1 .1 .1 .0 in
       length (a .old .now) / 2 ≤ length (l ++ drop (length (a .old .now) / 2) (a .z .now))
-  first-all c = let a = c .before .before .before .before .before .before .before .before .before .before .args in let l = c .place-halves .last .1 .1 .1 .1 .1 .0 in omega (arith, length-append l (drop (length (a .old .now) / 2) (a .z .now)), first-long c)
+  first-all c = let a = c .before .before .before .before .before .before .before .before .before .before .before .before .args in let l = c .place-halves .last .1 .1 .1 .1 .1 .1 .0 in omega (arith, length-append l (drop (length (a .old .now) / 2) (a .z .now)), first-long c)
 
-  second-long : (c : lts.After-place-halves2 (calls t) (at t) place-halves.Post) → let a = c .before .before .before .before .before .before .before .before .before .before .before .before .before .before .before .before .args in
-      length (c .place-halves2 .last .1 .1 .1 .1 .1 .0) ≡ length (a .old .now) - length (a .old .now) / 2
-  second-long c = let s = c .before .before .before .before .before .before .before .before .before .before .before .before .before .before .before .before in let a = s .args in let h = c .before .before .before .before .before .before in let k = length (a .old .now) / 2 in let l = h .place-halves .last .1 .1 .1 .1 .1 .0 in
-      omega (arith, simp (second-part k (a .z .now) l l (first-long h)) at (c .place-halves2 .kept .1 .1 .1 .1 .1 .0), length-drop k (a .z .now), s .pre .1 .answer)
+  second-long : (c : lts.After-place-halves2 (calls t) (at t) place-halves.Post) → let a = c .before .before .before .before .before .before .before .before .before .before .before .before .before .before .before .before .before .before .before .args in
+      length (c .place-halves2 .last .1 .1 .1 .1 .1 .1 .0) ≡ length (a .old .now) - length (a .old .now) / 2
+  second-long c = let s = c .before .before .before .before .before .before .before .before .before .before .before .before .before .before .before .before .before .before .before in let a = s .args in let h = c .before .before .before .before .before .before .before in let k = length (a .old .now) / 2 in let l = h .place-halves .last .1 .1 .1 .1 .1 .1 .0 in
+      omega (arith, simp (second-part k (a .z .now) l l (first-long h)) at (c .place-halves2 .kept .1 .1 .1 .1 .1 .1 .0), length-drop k (a .z .now), s .pre .1 .answer)
 
-  second : (c : lts.After-place-halves2 (calls t) (at t) place-halves.Post) → let a = c .before .before .before .before .before .before .before .before .before .before .before .before .before .before .before .before .args in let k = length (a .old .now) / 2 in
-      Placed (limitOf (a .left)) (limitOf (a .right)) (drop k (a .old .now)) (drop k (a .counts .now)) (drop (c .before .before .before .before .before .before .before .before .before .before .before .total .result) (a .near .now)) (c .place-halves2 .last .1 .1 .1 .1 .1 .0)
+  second : (c : lts.After-place-halves2 (calls t) (at t) place-halves.Post) → let a = c .before .before .before .before .before .before .before .before .before .before .before .before .before .before .before .before .before .before .before .args in let k = length (a .old .now) / 2 in let n = c .before .before .before .before .before .before .before .before .before .before .before .before .before .total .result in
+      Placed (limitOf (a .left)) (limitOf (a .right)) (lessOffsets (drop k (a .offsets .now)) (drop k (a .old .now))) (drop k (a .counts .now))
+      (lessNear (drop k (a .offsets .now)) (drop k (a .counts .now)) (drop n (a .near .now))) (c .place-halves2 .last .1 .1 .1 .1 .1 .1 .0)
   second c = simp rest-is at (c .place-halves2 .ensures)
 
   returns : lts.Need-returns (calls t) (at t) place-halves.Post
-  returns c = let a = c .before .before .args in placed-none (limitOf (a .left)) (limitOf (a .right)) (a .old .now) (a .counts .now) (a .near .now) (a .z .now) (c .if1 .taken) (c .before .before .pre .1 .answer)
+  returns c = let s = c .before .before .before in let a = s .args in given-none (limitOf (a .left)) (limitOf (a .right)) (a .old .now) (a .offsets .now) (a .counts .now) (a .near .now) (a .z .now) (s .pre .1) (c .if1 .taken)
 
   shared-slice-copy-out-place-one : lts.Need-shared-slice-copy-out-place-one (calls t) (at t) place-halves.Post
   shared-slice-copy-out-place-one c = omega arith
 
+  shared-slice-read-place-one : lts.Need-shared-slice-read-place-one (calls t) (at t) place-halves.Post
+  shared-slice-read-place-one c = omega (arith, c .before .before .if2 .taken, offsets (c .before .before .before .before .before .before))
+
   place-one-requires : lts.Need-place-one-requires (calls t) (at t) place-halves.Post
-  place-one-requires c κs = search needs
+  place-one-requires c κs = let g = c .before .before .before .before .before .before .pre .1 in let old = c .before .before .before .before .before .before .args .old .now in
+      (simp (back′ (getD old 0 (pos 0)) (c .before .place-one-arg .given)) (g .olds 0 (omega (arith, c .before .before .if2 .taken))), g .offsets .small 0, g .nears)
 
   slice-set-from-x : lts.Need-slice-set-from-x (calls t) (at t) place-halves.Post
-  slice-set-from-x c = omega (arith, c .before .before .before .before .before .pre .1 .answer)
+  slice-set-from-x c = omega (arith, c .before .before .before .before .before .before .before .pre .1 .answer)
 
   same-length : lts.Need-same-length (calls t) (at t) place-halves.Post
   same-length c = simp length-set
 
   returns-2 : lts.Need-returns-2 (calls t) (at t) place-halves.Post
-  returns-2 c = let a = c .before .before .before .before .before .args in let b = back′ (c .place-one .result) (c .place-one .ok) in
-      let e = simp (back′ (getD (a .old .now) 0 (pos 0)) (c .before .place-one-arg .given)) at (c .place-one .ensures) in
-      simp b (placed-one (limitOf (a .left)) (limitOf (a .right)) (a .old .now) (a .counts .now) (a .near .now) (a .z .now) (c .place-one .result) (c .before .before .if2 .taken) (c .before .before .before .before .before .pre .1) e)
+  returns-2 c = let s = c .before .before .before .before .before .before .before in let a = s .args in let b = back′ (c .place-one .result) (c .place-one .ok) in
+      let e = simp (back′ (getD (a .old .now) 0 (pos 0)) (c .before .before .place-one-arg .given)) at (c .place-one .ensures) in
+      simp b (given-one (limitOf (a .left)) (limitOf (a .right)) (a .old .now) (a .offsets .now) (a .counts .now) (a .near .now) (a .z .now) (s .pre .1) (c .place-one .result) (c .before .before .before .if2 .taken) e)
 
   slice-aggregate-total : lts.Need-slice-aggregate-total (calls t) (at t) place-halves.Post
-  slice-aggregate-total c = let a = c .before .before .before .before .args in omega (arith, length-take (length (a .old .now) / 2) (a .counts .now), c .before .before .before .before .pre .1 .columns .boxes)
+  slice-aggregate-total c = let a = c .before .before .before .before .before .args in omega (arith, length-take (length (a .old .now) / 2) (a .counts .now), boxes (c .before .before .before .before .before))
 
   total-requires : lts.Need-total-requires (calls t) (at t) place-halves.Post
-  total-requires c κs = let a = c .before .before .before .before .args in omega (arith, sum-cut (length (a .old .now) / 2) (a .counts .now), c .before .before .before .before .pre .1 .columns .neighbours)
+  total-requires c κs = let a = c .before .before .before .before .before .args in omega (arith, sum-cut (length (a .old .now) / 2) (a .counts .now), c .before .before .before .before .before .pre .1 .columns .neighbours)
 
   slice-aggregate-place-halves : lts.Need-slice-aggregate-place-halves (calls t) (at t) place-halves.Post
-  slice-aggregate-place-halves c = let a = c .before .before .before .before .before .before .args in omega (arith, length-take (length (a .old .now) / 2) (a .old .now))
+  slice-aggregate-place-halves c = let a = c .before .before .before .before .before .before .before .args in omega (arith, length-take (length (a .old .now) / 2) (a .old .now))
 
   slice-aggregate-place-halves-2 : lts.Need-slice-aggregate-place-halves-2 (calls t) (at t) place-halves.Post
-  slice-aggregate-place-halves-2 c = let a = c .before .before .before .before .before .before .before .args in omega (arith, length-take (length (a .old .now) / 2) (a .counts .now), c .before .before .before .before .before .before .before .pre .1 .columns .boxes)
+  slice-aggregate-place-halves-2 c = let a = c .before .before .before .before .before .before .before .before .args in omega (arith, length-take (length (a .old .now) / 2) (a .offsets .now), offsets (c .before .before .before .before .before .before .before .before))
 
   slice-aggregate-place-halves-3 : lts.Need-slice-aggregate-place-halves-3 (calls t) (at t) place-halves.Post
-  slice-aggregate-place-halves-3 c = let a = c .before .before .before .before .before .before .before .before .args in omega (arith, length-take (c .before .before .before .total .result) (a .near .now), within (c .before .before .before))
-
-  slice-relend-prefix-place-halves : lts.Need-slice-relend-prefix-place-halves (calls t) (at t) place-halves.Post
-  slice-relend-prefix-place-halves c = omega (arith, c .before .before .before .before .before .before .before .before .pre .1 .answer)
+  slice-aggregate-place-halves-3 c = let a = c .before .before .before .before .before .before .before .before .before .args in omega (arith, length-take (length (a .old .now) / 2) (a .counts .now), boxes (c .before .before .before .before .before .before .before .before .before))
 
   slice-aggregate-place-halves-4 : lts.Need-slice-aggregate-place-halves-4 (calls t) (at t) place-halves.Post
-  slice-aggregate-place-halves-4 c = let a = c .before .before .before .before .before .before .before .before .before .args in omega (arith, length-take (length (a .old .now) / 2) (a .z .now), c .before .before .before .before .before .before .before .before .before .pre .1 .answer)
+  slice-aggregate-place-halves-4 c = let a = c .before .before .before .before .before .before .before .before .before .before .args in omega (arith, length-take (c .before .before .before .before .total .result) (a .near .now), within (c .before .before .before .before))
+
+  slice-relend-prefix-place-halves : lts.Need-slice-relend-prefix-place-halves (calls t) (at t) place-halves.Post
+  slice-relend-prefix-place-halves c = omega (arith, c .before .before .before .before .before .before .before .before .before .before .pre .1 .answer)
+
+  slice-aggregate-place-halves-5 : lts.Need-slice-aggregate-place-halves-5 (calls t) (at t) place-halves.Post
+  slice-aggregate-place-halves-5 c = let a = c .before .before .before .before .before .before .before .before .before .before .before .args in omega (arith, length-take (length (a .old .now) / 2) (a .z .now), c .before .before .before .before .before .before .before .before .before .before .before .pre .1 .answer)
 
   place-halves-requires : lts.Need-place-halves-requires (calls t) (at t) place-halves.Post
-  place-halves-requires c κs = let s = c .before .before .before .before .before .before .before .before .before in let a = s .args in let k = length (a .old .now) / 2 in (
-    omega (arith, s .pre .0, length-take k (a .old .now), halved (c .before .before .before .before) .many),
-    ready-left (limitOf (a .left)) (limitOf (a .right)) k (c .before .before .before .before .total .result) (a .old .now) (a .counts .now) (a .near .now) (a .z .now) (halved (c .before .before .before .before)) (s .pre .1),
+  place-halves-requires c κs = let s = c .before .before .before .before .before .before .before .before .before .before .before in let a = s .args in let h = c .before .before .before .before .before in let k = length (a .old .now) / 2 in (
+    omega (arith, s .pre .0, length-take k (a .old .now), halved h .many),
+    given-left (limitOf (a .left)) (limitOf (a .right)) (a .old .now) (a .offsets .now) (a .counts .now) (a .near .now) (a .z .now) (s .pre .1) k (h .total .result) (halved h),
   )
 
   mul-place-halves : lts.Need-mul-place-halves (calls t) (at t) place-halves.Post
@@ -133,70 +150,79 @@ module _ (t : ℕ) where
   mul-place-halves-2 c = omega arith
 
   sub-place-halves-2 : lts.Need-sub-place-halves-2 (calls t) (at t) place-halves.Post
-  sub-place-halves-2 c = omega (arith, c .before .before .before .before .before .before .before .before .before .before .before .before .pre .1 .columns .boxes)
+  sub-place-halves-2 c = omega (arith, offsets (c .before .before .before .before .before .before .before .before .before .before .before .before .before .before))
 
   part-place-halves-start-2 : lts.Need-part-place-halves-start-2 (calls t) (at t) place-halves.Post
-  part-place-halves-start-2 c = omega (arith, c .before .before .before .before .before .before .before .before .before .before .before .before .pre .1 .columns .boxes)
+  part-place-halves-start-2 c = omega (arith, offsets (c .before .before .before .before .before .before .before .before .before .before .before .before .before .before))
 
   part-place-halves-end-2 : lts.Need-part-place-halves-end-2 (calls t) (at t) place-halves.Post
   part-place-halves-end-2 c = search needs
 
   mul-place-halves-3 : lts.Need-mul-place-halves-3 (calls t) (at t) place-halves.Post
-  mul-place-halves-3 c = omega (arith, within (c .before .before .before .before .before .before .before .before))
+  mul-place-halves-3 c = omega arith
 
   sub-place-halves-3 : lts.Need-sub-place-halves-3 (calls t) (at t) place-halves.Post
-  sub-place-halves-3 c = within (c .before .before .before .before .before .before .before .before)
+  sub-place-halves-3 c = omega (arith, boxes (c .before .before .before .before .before .before .before .before .before .before .before .before .before .before .before))
 
   part-place-halves-start-3 : lts.Need-part-place-halves-start-3 (calls t) (at t) place-halves.Post
-  part-place-halves-start-3 c = omega (arith, within (c .before .before .before .before .before .before .before .before))
+  part-place-halves-start-3 c = omega (arith, boxes (c .before .before .before .before .before .before .before .before .before .before .before .before .before .before .before))
 
   part-place-halves-end-3 : lts.Need-part-place-halves-end-3 (calls t) (at t) place-halves.Post
   part-place-halves-end-3 c = search needs
 
   mul-place-halves-4 : lts.Need-mul-place-halves-4 (calls t) (at t) place-halves.Post
-  mul-place-halves-4 c = omega arith
+  mul-place-halves-4 c = omega (arith, within (c .before .before .before .before .before .before .before .before .before .before))
 
   sub-place-halves-4 : lts.Need-sub-place-halves-4 (calls t) (at t) place-halves.Post
-  sub-place-halves-4 c = omega (arith, first-all (c .before .before .before .before))
+  sub-place-halves-4 c = within (c .before .before .before .before .before .before .before .before .before .before)
 
   part-place-halves-start-4 : lts.Need-part-place-halves-start-4 (calls t) (at t) place-halves.Post
-  part-place-halves-start-4 c = omega (arith, first-all (c .before .before .before .before))
+  part-place-halves-start-4 c = omega (arith, within (c .before .before .before .before .before .before .before .before .before .before))
 
   part-place-halves-end-4 : lts.Need-part-place-halves-end-4 (calls t) (at t) place-halves.Post
   part-place-halves-end-4 c = search needs
 
+  mul-place-halves-5 : lts.Need-mul-place-halves-5 (calls t) (at t) place-halves.Post
+  mul-place-halves-5 c = omega arith
+
+  sub-place-halves-5 : lts.Need-sub-place-halves-5 (calls t) (at t) place-halves.Post
+  sub-place-halves-5 c = omega (arith, first-all (c .before .before .before .before .before))
+
+  part-place-halves-start-5 : lts.Need-part-place-halves-start-5 (calls t) (at t) place-halves.Post
+  part-place-halves-start-5 c = omega (arith, first-all (c .before .before .before .before .before))
+
+  part-place-halves-end-5 : lts.Need-part-place-halves-end-5 (calls t) (at t) place-halves.Post
+  part-place-halves-end-5 c = search needs
+
   place-halves-requires-2 : lts.Need-place-halves-requires-2 (calls t) (at t) place-halves.Post
-  place-halves-requires-2 c κs = let s = c .before .before .before .before .before .before .before .before .before .before .before .before .before .before .before in let a = s .args in let k = length (a .old .now) / 2 in let h = c .before .before .before .before .before in let l = h .place-halves .last .1 .1 .1 .1 .1 .0 in (
-    omega (arith, s .pre .0, length-drop k (a .old .now), halved (c .before .before .before .before .before .before .before .before .before .before) .many),
-    simp rest-is (ready-right (limitOf (a .left)) (limitOf (a .right)) k (c .before .before .before .before .before .before .before .before .before .before .total .result) (a .old .now) (a .counts .now) (a .near .now) (a .z .now) (halved (c .before .before .before .before .before .before .before .before .before .before)) (s .pre .1)
+  place-halves-requires-2 c κs = let s = c .before .before .before .before .before .before .before .before .before .before .before .before .before .before .before .before .before .before in let a = s .args in let k = length (a .old .now) / 2 in let h = c .before .before .before .before .before .before in let g = c .before .before .before .before .before .before .before .before .before .before .before .before in let l = h .place-halves .last .1 .1 .1 .1 .1 .1 .0 in (
+    omega (arith, s .pre .0, length-drop k (a .old .now), halved g .many),
+    simp rest-is (given-right (limitOf (a .left)) (limitOf (a .right)) (a .old .now) (a .offsets .now) (a .counts .now) (a .near .now) (a .z .now) (s .pre .1) k (g .total .result) (halved g)
         (drop k (l ++ drop k (a .z .now))) (omega (arith, length-drop k (l ++ drop k (a .z .now)), length-append l (drop k (a .z .now)), first-long h, length-drop k (a .z .now), s .pre .1 .answer))),
   )
 
   join-requires : lts.Need-join-requires (calls t) (at t) place-halves.Post
-  join-requires c κs = let s = c .before .before .before .before .before .before .before .before .before .before .before .before .before .before .before .before .before .before in let a = s .args in let k = length (a .old .now) / 2 in let h = c .before .before in let g = h .before .before .before .before .before .before in
-      let l = g .place-halves .last .1 .1 .1 .1 .1 .0 in let r = h .place-halves2 .last .1 .1 .1 .1 .1 .0 in
-      let e = both-parts k (a .z .now) l r (first-long g) in
-      rw e (
-        halves-cut (limitOf (a .left)) (limitOf (a .right)) k (c .before .before .before .before .before .before .before .before .before .before .before .before .before .total .result) (a .old .now) (a .counts .now) (a .near .now) (a .z .now) (halved (c .before .before .before .before .before .before .before .before .before .before .before .before .before)) (s .pre .1) l r (first-long g) (second-long h) (g .place-halves .ensures) (second h),
-        halves-small (limitOf (a .left)) (limitOf (a .right)) k (c .before .before .before .before .before .before .before .before .before .before .before .before .before .total .result) (a .old .now) (a .counts .now) (a .near .now) (a .z .now) (halved (c .before .before .before .before .before .before .before .before .before .before .before .before .before)) (s .pre .1) l r (first-long g) (second-long h) (g .place-halves .ensures) (second h),
-      )
+  join-requires c κs = let s = c .before .before .before .before .before .before .before .before .before .before .before .before .before .before .before .before .before .before .before .before .before in let a = s .args in let k = length (a .old .now) / 2 in let h = c .before .before in let g = c .before .before .before .before .before .before .before .before .before in let e = c .before .before .before .before .before .before .before .before .before .before .before .before .before .before .before in
+      let l = g .place-halves .last .1 .1 .1 .1 .1 .1 .0 in let r = h .place-halves2 .last .1 .1 .1 .1 .1 .1 .0 in
+      rw (both-parts k (a .z .now) l r (first-long g)) (given-join (limitOf (a .left)) (limitOf (a .right)) (a .old .now) (a .offsets .now) (a .counts .now) (a .near .now) (a .z .now) (s .pre .1) k (e .total .result) (halved e) l r (first-long g) (second-long h) (g .place-halves .ensures) (second h))
 
   same-length-2 : lts.Need-same-length-2 (calls t) (at t) place-halves.Post
-  same-length-2 c = let a = c .before .before .before .before .before .before .before .before .before .before .before .before .before .before .before .before .before .before .before .before .args in let h = c .before .before .before .before in let g = h .before .before .before .before .before .before in let k = length (a .old .now) / 2 in
-      let l = g .place-halves .last .1 .1 .1 .1 .1 .0 in let r = h .place-halves2 .last .1 .1 .1 .1 .1 .0 in
-      c .before .join .kept .1 .1 .1 .1 .0 ∙ ap length (both-parts k (a .z .now) l r (first-long g))
-      ∙ omega (arith, length-append l r, first-long g, second-long h, c .before .before .before .before .before .before .before .before .before .before .before .before .before .before .before .before .before .before .before .before .pre .1 .answer)
+  same-length-2 c = let s = c .before .before .before .before .before .before .before .before .before .before .before .before .before .before .before .before .before .before .before .before .before .before .before in let a = s .args in let h = c .before .before .before .before in let g = c .before .before .before .before .before .before .before .before .before .before .before in let k = length (a .old .now) / 2 in
+      let l = g .place-halves .last .1 .1 .1 .1 .1 .1 .0 in let r = h .place-halves2 .last .1 .1 .1 .1 .1 .1 .0 in
+      c .before .join .kept .1 .1 .1 .1 .1 .0 ∙ ap length (both-parts k (a .z .now) l r (first-long g))
+      ∙ omega (arith, length-append l r, first-long g, second-long h, s .pre .1 .answer)
 
   returns-3 : lts.Need-returns-3 (calls t) (at t) place-halves.Post
-  returns-3 c = let s = c .before .before .before .before .before .before .before .before .before .before .before .before .before .before .before .before .before .before .before .before in let a = s .args in let k = length (a .old .now) / 2 in let h = c .before .before .before .before in let g = h .before .before .before .before .before .before in
-      let l = g .place-halves .last .1 .1 .1 .1 .1 .0 in let r = h .place-halves2 .last .1 .1 .1 .1 .1 .0 in
-      let e = rw (both-parts k (a .z .now) l r (first-long g)) at (c .before .join .ensures) in
-      rw e (placed-more (limitOf (a .left)) (limitOf (a .right)) k (c .before .before .before .before .before .before .before .before .before .before .before .before .before .before .before .total .result) (a .old .now) (a .counts .now) (a .near .now) (a .z .now) (halved (c .before .before .before .before .before .before .before .before .before .before .before .before .before .before .before)) (s .pre .1) l r (first-long g) (second-long h) (g .place-halves .ensures) (second h))
+  returns-3 c = let s = c .before .before .before .before .before .before .before .before .before .before .before .before .before .before .before .before .before .before .before .before .before .before .before in let a = s .args in let k = length (a .old .now) / 2 in let h = c .before .before .before .before in let g = c .before .before .before .before .before .before .before .before .before .before .before in let e = c .before .before .before .before .before .before .before .before .before .before .before .before .before .before .before .before .before in
+      let l = g .place-halves .last .1 .1 .1 .1 .1 .1 .0 in let r = h .place-halves2 .last .1 .1 .1 .1 .1 .1 .0 in
+      given-more (limitOf (a .left)) (limitOf (a .right)) (a .old .now) (a .offsets .now) (a .counts .now) (a .near .now) (a .z .now) (s .pre .1) k (e .total .result) (halved e) l r (first-long g) (second-long h) (g .place-halves .ensures) (second h)
+      _ (rw (both-parts k (a .z .now) l r (first-long g)) at (c .before .join .ensures))
 
 pub +place-halves-spec : {M : Type 1} → statement M
 +place-halves-spec = close μ (λ t. lts.spec (calls t) (at t) place-halves.Post
     (returns t)
     (shared-slice-copy-out-place-one t)
+    (shared-slice-read-place-one t)
     (place-one-requires t)
     (slice-set-from-x t)
     (same-length t)
@@ -206,8 +232,9 @@ pub +place-halves-spec : {M : Type 1} → statement M
     (slice-aggregate-place-halves t)
     (slice-aggregate-place-halves-2 t)
     (slice-aggregate-place-halves-3 t)
-    (slice-relend-prefix-place-halves t)
     (slice-aggregate-place-halves-4 t)
+    (slice-relend-prefix-place-halves t)
+    (slice-aggregate-place-halves-5 t)
     (place-halves-requires t)
     (mul-place-halves t)
     (sub-place-halves t)
@@ -225,6 +252,10 @@ pub +place-halves-spec : {M : Type 1} → statement M
     (sub-place-halves-4 t)
     (part-place-halves-start-4 t)
     (part-place-halves-end-4 t)
+    (mul-place-halves-5 t)
+    (sub-place-halves-5 t)
+    (part-place-halves-start-5 t)
+    (part-place-halves-end-5 t)
     (place-halves-requires-2 t)
     (join-requires t)
     (same-length-2 t)

@@ -1,27 +1,24 @@
 -- `join` meets its contract: where the halves overlap, the first part is cut and then the second raised at their meeting place.
 use borrow.Author.Needs.{needs}
-use mathlib.Core.Path.{_≡_, _∙_}
-use mathlib.Core.Bool.{true}
+use mathlib.Core.Path.{_≡_}
 use native.Mathlib.Omega.{arith}
-use mathlib.Core.List.{List, _++_}
-use Prim.Native.Nat.{ℕ, _-_}
+use Prim.Native.Nat.{_-_}
 use lib.ListN.{length, take, drop, getD, length-take}
-use lib.IntN.{ℤ, pos}
-use lib.Signed.{ltZ}
+use lib.IntN.{pos}
 use mir.Syntax.{w64}
 use mir.Val.{toZ, ofZ}
-use Rattle.ints.proofs.Laws.{back′, lt-true}
+use Rattle.ints.proofs.Laws.{back′, lt-true, lt-false}
 use Rattle.run.proofs.Meet.{cutAt, raiseTo}
-use Rattle.place_run.specs.Columns.{lastBefore, firstAfter, meetAt, joined}
+use Rattle.place_run.specs.Columns.{lastBefore, firstAfter}
 use Rattle.place_run.proofs.Fill.{second-part, both-parts, length-cut}
 use Rattle.place_run.proofs.meet.join.Statement.{statement}
 use Rattle.place_run.proofs.meet.join.Tie as tie
 
-b-b : (c : tie.After-if12) → let a = c .before .before .args in toZ w64 (ofZ w64 (getD (a .z .now) (a .k) (pos 0))) ≡ getD (a .z .now) (a .k) (pos 0)
-b-b c = let a = c .before .before .args in back′ (getD (a .z .now) (a .k) (pos 0)) (c .if12 .given)
+b-b : (c : tie.After-if12) → let a = c .before .before .before .args in toZ w64 (ofZ w64 (getD (a .z .now) (a .k) (pos 0))) ≡ getD (a .z .now) (a .k) (pos 0)
+b-b c = let a = c .before .before .before .args in back′ (getD (a .z .now) (a .k) (pos 0)) (c .if12 .given)
 
-b-a : (c : tie.After-if13) → let a = c .before .before .before .args in toZ w64 (ofZ w64 (getD (a .z .now) (a .k - 1) (pos 0))) ≡ getD (a .z .now) (a .k - 1) (pos 0)
-b-a c = let a = c .before .before .before .args in back′ (getD (a .z .now) (a .k - 1) (pos 0)) (c .if13 .given)
+b-a : (c : tie.After-if13) → let a = c .before .before .before .before .args in toZ w64 (ofZ w64 (getD (a .z .now) (a .k - 1) (pos 0))) ≡ getD (a .z .now) (a .k - 1) (pos 0)
+b-a c = let a = c .before .before .before .before .args in back′ (getD (a .z .now) (a .k - 1) (pos 0)) (c .if13 .given)
 
 ruleset backs = (b-a, b-b)
 
@@ -41,13 +38,13 @@ slice-copy-out-if1-2 : tie.Need-slice-copy-out-if1-2
 slice-copy-out-if1-2 c = search needs
 
 meeting-place-requires : tie.Need-meeting-place-requires
-meeting-place-requires c κs = let s = c .before .before .before .before .before in (s .pre .0, (s .pre .1, lt-true (firstAfter (s .args .k) (s .args .z .now)) (lastBefore (s .args .k) (s .args .z .now)) (simp backs at (c .before .if1 .taken))))
+meeting-place-requires c κs = let s = c .before .before .before .before .before .before in (s .pre .0, (s .pre .1, lt-true (firstAfter (s .args .k) (s .args .z .now)) (lastBefore (s .args .k) (s .args .z .now)) (simp backs at (c .before .if1 .taken))))
 
 slice-relend-prefix-cut : tie.Need-slice-relend-prefix-cut
 slice-relend-prefix-cut c = search needs
 
 slice-aggregate-cut : tie.Need-slice-aggregate-cut
-slice-aggregate-cut c = let s = c .before .before .before .before .before .before .before in omega (arith, length-take (s .args .k) (s .args .z .now), s .pre .0 .others)
+slice-aggregate-cut c = let s = c .before .before .before .before .before .before .before .before in omega (arith, length-take (s .args .k) (s .args .z .now), s .pre .0 .0 .others)
 
 cut-requires : tie.Need-cut-requires
 cut-requires c κs = search needs
@@ -70,23 +67,18 @@ raise-requires c κs = search needs
 same-length : tie.Need-same-length
 same-length c = search needs
 
-overlapping : (k n : ℕ) (zs : List ℤ) (cs : List ℕ) (ns : List ℤ) (m : ℤ) → ltZ (firstAfter k zs) (lastBefore k zs) ≡ true → m ≡ meetAt k n zs cs ns
-    → cutAt m (take k zs) ++ raiseTo m (drop k zs) ≡ joined k n zs cs ns
-unfolding joined
-overlapping k n zs cs ns m t e = rw (t, e)
-
 returns : tie.Need-returns
-returns c = let s = c .before .before .before .before .before .before .before .before .before .before .before .before in let k = s .args .k in let z = s .args .z .now in let m = c .before .before .before .before .before .before .meeting-place .result in
+returns c = let s = c .before .before .before .before .before .before .before .before .before .before .before .before .before in let k = s .args .k in let z = s .args .z .now in let m = c .before .before .before .before .before .before .meeting-place .result in
     let bm = back′ m (c .before .before .before .before .before .before .meeting-place .ok) in
     let t = simp backs at (c .before .before .before .before .before .before .before .before .if1 .taken) in
     let l = simp bm at (c .before .before .before .before .cut .ensures) in
-    let el : length (cutAt m (take k z)) ≡ k = omega (arith, length-cut m (take k z), length-take k z, s .pre .0 .others) in
+    let el : length (cutAt m (take k z)) ≡ k = omega (arith, length-cut m (take k z), length-take k z, s .pre .0 .0 .others) in
     let r = simp (l, bm, second-part k z (cutAt m (take k z)) z el) at (c .before .raise .ensures) in
-    rw (l, r) (both-parts k z (cutAt m (take k z)) (raiseTo m (drop k z)) el ∙ overlapping k (s .args .n) z (s .args .counts .now) (s .args .near .now) m t (c .before .before .before .before .before .before .meeting-place .ensures))
+    record { place = m; meets = λ h. c .before .before .before .before .before .before .meeting-place .ensures; outcome = rw (t, l, r) (both-parts k z (cutAt m (take k z)) (raiseTo m (drop k z)) el) }
 
 returns-2 : tie.Need-returns-2
-unfolding joined
-returns-2 c = let t = simp backs at (c .if1 .left) in rw t
+returns-2 c = let a = c .before .before .before .before .before .args in let t = simp backs at (c .if1 .left) in
+    record { place = pos 0; meets = λ h. absurd (omega (arith, lt-false (firstAfter (a .k) (a .z .now)) (lastBefore (a .k) (a .z .now)) t)); outcome = rw t }
 
 pub join-spec : {M : Type 1} → statement M
 join-spec =

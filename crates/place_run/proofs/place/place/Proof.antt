@@ -45,31 +45,25 @@ right-limit-requires : tie.Need-right-limit-requires
 right-limit-requires c κs = let a = c .before .before .before .before .before .before .args in let k = known (c .before .before .before .before .before .before) in
     (near-limit (a .right) (k .right), simp rest-is (rw (c .before .before .members .ensures) (steps-small (a .left) (a .right) (a .old .now) (a .distances .now) (a .counts .now) (a .neighbours .now) (a .answer .now) k)))
 
-array-borrow-prefix-olds : tie.Need-array-borrow-prefix-olds
-array-borrow-prefix-olds c = known (c .before .before .before .before .before .before .before) .boxes
+array-borrow-prefix-offsets : tie.Need-array-borrow-prefix-offsets
+array-borrow-prefix-offsets c = known (c .before .before .before .before .before .before .before) .boxes
 
 slice-aggregate-place-between : tie.Need-slice-aggregate-place-between
 slice-aggregate-place-between c = sym (length-take-le _ _ (known (c .before .before .before .before .before .before .before .before) .boxes))
 
-array-borrow-prefix-near : tie.Need-array-borrow-prefix-near
-array-borrow-prefix-near c = known (c .before .before .before .before .before .before .before .before) .neighbours
-
-slice-aggregate-place-between-2 : tie.Need-slice-aggregate-place-between-2
-slice-aggregate-place-between-2 c = sym (length-take-le _ _ (known (c .before .before .before .before .before .before .before .before .before) .neighbours))
-
 place-between-requires : tie.Need-place-between-requires
-place-between-requires c κs = let a = c .before .before .before .before .before .before .before .before .before .before .args in let k = known (c .before .before .before .before .before .before .before .before .before .before) in let e = steps-is (c .before .before .before .before .before .before) in (
-  rw e (fits-between (a .left) (a .right) (a .old .now) (a .distances .now) (a .counts .now) (a .neighbours .now) (a .answer .now) k (some (c .before .before .before .before .before .before .before)) (limitOf (c .before .before .before .before .left-limit .result)) (limitOf (c .before .before .before .right-limit .result)) (c .before .before .before .before .left-limit .ensures) (rw e at (c .before .before .before .right-limit .ensures))),
-  (length-take-le _ _ (k .boxes), length-take-le _ _ (k .neighbours)),
+place-between-requires c κs = let s = c .before .before .before .before .before .before .before .before .before in let a = s .args in let k = known s in let e = steps-is (c .before .before .before .before .before) in (
+  rw e (fits-between (a .left) (a .right) (a .old .now) (a .distances .now) (a .counts .now) (a .neighbours .now) (a .answer .now) k (some (c .before .before .before .before .before .before)) (limitOf (c .before .before .before .left-limit .result)) (limitOf (c .before .before .right-limit .result)) (c .before .before .before .left-limit .ensures) (rw e at (c .before .before .right-limit .ensures))),
+  length-take-le _ _ (k .boxes),
 )
 
 same-length : tie.Need-same-length
 same-length c = search needs
 
 returns-2 : tie.Need-returns-2
-returns-2 c = let a = c .before .before .before .before .before .before .before .before .before .before .before .before .before .before .args in let e = steps-is (c .before .before .before .before .before .before .before .before .before .before) in let h = rw e at (c .before .before .before .before .before .before .before .right-limit .ensures) in
-    rw (e, c .before .before .before .before .before .before .before .before .left-limit .ensures, h) at (c .before .before .before .place-between .ensures)
-    ∙ between-is (a .left) (a .right) (a .old .now) (a .distances .now) (a .counts .now) (a .neighbours .now) (a .answer .now) (known (c .before .before .before .before .before .before .before .before .before .before .before .before .before .before)) (some (c .before .before .before .before .before .before .before .before .before .before .before))
+returns-2 c = let s = c .before .before .before .before .before .before .before .before .before .before .before .before in let a = s .args in let e = steps-is (c .before .before .before .before .before .before .before .before) in let h = rw e at (c .before .before .before .before .before .right-limit .ensures) in
+    rw (e, c .before .before .before .before .before .before .left-limit .ensures, h) at (c .before .before .place-between .ensures)
+    ∙ between-is (a .left) (a .right) (a .old .now) (a .distances .now) (a .counts .now) (a .neighbours .now) (a .answer .now) (known s) (some (c .before .before .before .before .before .before .before .before .before))
 
 pub place-spec : {M : Type 1} → statement M
 place-spec =
@@ -83,10 +77,8 @@ place-spec =
     part-steps-end
     left-limit-requires
     right-limit-requires
-    array-borrow-prefix-olds
+    array-borrow-prefix-offsets
     slice-aggregate-place-between
-    array-borrow-prefix-near
-    slice-aggregate-place-between-2
     place-between-requires
     same-length
     returns-2)

@@ -1,24 +1,32 @@
--- `place_between` meets its contract: its four steps are those of the definition, on columns.
+-- `place_between` meets its contract: its steps are those of the definition, on columns.
 use borrow.Author.Needs.{needs}
-use mathlib.Core.Path.{_∙_}
+use mathlib.Core.Path.{_≡_, sym, _∙_, ap}
+use lib.ListN.{length}
 use Rattle.place_run.specs.Call.{limitOf}
-use Rattle.place_run.proofs.Offsets.{ready-run, placed-run}
+use Rattle.place_run.specs.Offsets.{offsetsFrom, Given}
+use Rattle.place_run.proofs.Given.{given-between, placed-between}
 use Rattle.place_run.proofs.place.place_between.Statement.{statement}
 use Rattle.place_run.proofs.place.place_between.Tie as tie
 
-less-old-requires : tie.Need-less-old-requires
-less-old-requires c κs = search needs
+given : (s : tie.Start) → let a = s .args in
+    Given (limitOf (a .left)) (limitOf (a .right)) (a .old .now) (offsetsFrom 0 (a .steps .now) (length (a .old .now))) (a .counts .now) (a .neighbours .now) (a .answer .now)
+given s = let a = s .args in given-between (limitOf (a .left)) (limitOf (a .right)) (a .steps .now) (a .old .now) (a .counts .now) (a .neighbours .now) (a .answer .now) (s .pre .0)
 
-less-near-requires : tie.Need-less-near-requires
-less-near-requires c κs = search needs
+filled : (c : tie.After-fill-offsets) → let a = c .before .before .before .before .before .args in c .fill-offsets .last .1 .0 ≡ offsetsFrom 0 (a .steps .now) (length (a .old .now))
+filled c = let s = c .before .before .before .before .before in c .fill-offsets .ensures ∙ ap (offsetsFrom 0 (s .args .steps .now)) (s .pre .1)
+
+placed-long : (c : tie.After-place-halves) → length (c .place-halves .last .1 .1 .1 .1 .1 .1 .0) ≡ length (c .before .before .before .before .before .before .before .before .before .before .args .old .now)
+placed-long c = c .place-halves .kept .1 .1 .1 .1 .1 .1 .0 ∙ c .before .before .before .before .before .before .before .before .before .before .pre .0 .answer
+
+fill-offsets-requires : tie.Need-fill-offsets-requires
+fill-offsets-requires c κs = search needs
 
 place-halves-requires : tie.Need-place-halves-requires
-place-halves-requires c κs = let s = c .before .before .before .before .before .before .before .before .before .before .before in let a = s .args in
-    rw (c .before .before .before .before .before .before .before .less-old .ensures, c .before .before .before .before .less-near .ensures)
-    (ready-run (limitOf (a .left)) (limitOf (a .right)) (a .steps .now) (a .old .now) (a .counts .now) (a .neighbours .now) (a .answer .now) (s .pre .0))
+place-halves-requires c κs = rw (filled (c .before .before .before .before)) (given (c .before .before .before .before .before .before .before .before .before))
 
 plus-offsets-requires : tie.Need-plus-offsets-requires
-plus-offsets-requires c κs = search needs
+plus-offsets-requires c κs = let o = given (c .before .before .before .before .before .before .before .before .before .before .before .before .before) .offsets in
+    rw (filled (c .before .before .before .before .before .before .before .before)) (record { boxes = o .boxes ∙ sym (placed-long (c .before .before .before)); small = o .small }, c .before .before .before .place-halves .ensures .small)
 
 same-length : tie.Need-same-length
 same-length c = search needs
@@ -26,25 +34,19 @@ same-length c = search needs
 same-length-2 : tie.Need-same-length-2
 same-length-2 c = search needs
 
-same-length-3 : tie.Need-same-length-3
-same-length-3 c = search needs
-
 returns : tie.Need-returns
-returns c = let s = c .before .before .before .before .before .before .before .before .before .before .before .before .before .before .before .before in let a = s .args in let h = c .before .before .before .before .place-halves in
-    let q = rw (c .before .before .before .before .before .before .before .before .before .before .before .before .less-old .ensures, c .before .before .before .before .before .before .before .before .before .less-near .ensures) at (h .ensures) in
-    c .before .plus-offsets .ensures
-    ∙ placed-run (limitOf (a .left)) (limitOf (a .right)) (a .steps .now) (a .old .now) (a .counts .now) (a .neighbours .now) (a .answer .now) (s .pre .0)
-    (h .last .1 .1 .1 .1 .1 .0) (h .kept .1 .1 .1 .1 .1 .0 ∙ s .pre .0 .answer) q
+returns c = let s = c .before .before .before .before .before .before .before .before .before .before .before .before .before .before .before in let a = s .args in let h = c .before .before .before .before .before in let e = filled (c .before .before .before .before .before .before .before .before .before .before) in
+    rw e at (c .before .plus-offsets .ensures)
+    ∙ placed-between (limitOf (a .left)) (limitOf (a .right)) (a .steps .now) (a .old .now) (a .counts .now) (a .neighbours .now) (a .answer .now) (s .pre .0)
+    (h .place-halves .last .1 .1 .1 .1 .1 .1 .0) (placed-long h) (rw e at (h .place-halves .ensures))
 
 pub place-between-spec : {M : Type 1} → statement M
 place-between-spec =
     tie.close
     (tie.spec
-    less-old-requires
-    less-near-requires
+    fill-offsets-requires
     place-halves-requires
     plus-offsets-requires
     same-length
     same-length-2
-    same-length-3
     returns)

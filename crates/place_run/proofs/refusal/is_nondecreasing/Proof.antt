@@ -1,5 +1,5 @@
--- `refusal::is_nondecreasing` meets its contract: whether all are in order is whether those from the i-th on are.
-use Prim.Native.Nat.{_+_, _-_, _≤_}
+-- `refusal::is_nondecreasing` meets its contract: whether all are in order is whether those from the one before the i-th on are.
+use Prim.Native.Nat.{_+_, _-_, _<_}
 use mathlib.Core.Path.{_≡_, refl, sym, _∙_}
 use mathlib.Core.Bool.{true, false}
 use native.Mathlib.Omega.{arith}
@@ -14,7 +14,7 @@ use Rattle.place_run.proofs.refusal.is_nondecreasing.Statement.{stateme
 use Rattle.place_run.proofs.refusal.is_nondecreasing.Tie as tie
 
 abbrev Inv-loop : tie.InvT-loop
-Inv-loop positions i₀ i = (i ≤ length positions) × (nondecreasing (drop i positions) ≡ nondecreasing positions)
+Inv-loop positions i₀ i = (0 < i) × (nondecreasing (drop (i - 1) positions) ≡ nondecreasing positions)
 
 abbrev μ-loop : tie.MeasureT-loop
 μ-loop positions i₀ i = length positions - i
@@ -22,17 +22,14 @@ abbrev μ-loop : tie.MeasureT-loop
 loop-holds : tie.Need-loop-holds Inv-loop μ-loop
 loop-holds c = (omega arith, refl)
 
-add-loop : tie.Need-add-loop Inv-loop μ-loop
-add-loop c = search needs
-
-add-if1 : tie.Need-add-if1 Inv-loop μ-loop
-add-if1 c = search needs
-
 mul-if1 : tie.Need-mul-if1 Inv-loop μ-loop
 mul-if1 c = search needs
 
 shared-slice-copy-out-if1 : tie.Need-shared-slice-copy-out-if1 Inv-loop μ-loop
 shared-slice-copy-out-if1 c = search needs
+
+sub-if1 : tie.Need-sub-if1 Inv-loop μ-loop
+sub-if1 c = search needs
 
 mul-if1-2 : tie.Need-mul-if1-2 Inv-loop μ-loop
 mul-if1-2 c = search needs
@@ -44,9 +41,9 @@ returns : tie.Need-returns Inv-loop μ-loop
 returns c =
     let xs = c .before .before .before .before .before .args .positions .now in
     let l = c .before .before .before .before .loop in
-    let h = simp (back′ (getD xs (l .i + 1) (pos 0)) (c .before .before .if12 .given), back′ (getD xs (l .i) (pos 0)) (c .before .if13 .given)) at (c .if1 .taken) in
-    let stop : leZ (getD xs (l .i) (pos 0)) (getD xs (l .i + 1) (pos 0)) ≡ false = omega (arith, ints) in
-    sym (rw stop at (order-step xs (l .i) (c .before .before .before .loop-test .taken))) ∙ l .inv .1
+    let h = simp (back′ (getD xs (l .i) (pos 0)) (c .before .before .if12 .given), back′ (getD xs (l .i - 1) (pos 0)) (c .before .if13 .given)) at (c .if1 .taken) in
+    let stop : leZ (getD xs (l .i - 1) (pos 0)) (getD xs (l .i) (pos 0)) ≡ false = omega (arith, ints) in
+    sym (rw stop at (order-step xs (l .i) (l .inv .0) (c .before .before .before .loop-test .taken))) ∙ l .inv .1
 
 add-i : tie.Need-add-i Inv-loop μ-loop
 add-i c = search needs
@@ -58,9 +55,10 @@ loop-again : tie.Need-loop-again Inv-loop μ-loop
 loop-again c =
     let xs = c .before .before .before .before .before .args .positions .now in
     let l = c .before .before .before .before .loop in
-    let h = simp (back′ (getD xs (l .i + 1) (pos 0)) (c .before .before .if12 .given), back′ (getD xs (l .i) (pos 0)) (c .before .if13 .given)) at (c .if1 .left) in
-    let on : leZ (getD xs (l .i) (pos 0)) (getD xs (l .i + 1) (pos 0)) ≡ true = omega (arith, ints) in
-    (omega arith, sym (rw on at (order-step xs (l .i) (c .before .before .before .loop-test .taken))) ∙ l .inv .1)
+    let h = simp (back′ (getD xs (l .i) (pos 0)) (c .before .before .if12 .given), back′ (getD xs (l .i - 1) (pos 0)) (c .before .if13 .given)) at (c .if1 .left) in
+    let on : leZ (getD xs (l .i - 1) (pos 0)) (getD xs (l .i) (pos 0)) ≡ true = omega (arith, ints) in
+    let same : l .i + 1 - 1 ≡ l .i = omega arith in
+    (omega arith, rw same (sym (rw on at (order-step xs (l .i) (l .inv .0) (c .before .before .before .loop-test .taken))) ∙ l .inv .1))
 
 returns-2 : tie.Need-returns-2 Inv-loop μ-loop
 returns-2 c = sym (order-end (c .before .before .args .positions .now) (c .before .loop .i) (c .loop-test .left)) ∙ c .before .loop .inv .1
@@ -72,10 +70,9 @@ is-nondecreasing-spec =
     Inv-loop
     μ-loop
     loop-holds
-    add-loop
-    add-if1
     mul-if1
     shared-slice-copy-out-if1
+    sub-if1
     mul-if1-2
     shared-slice-copy-out-if1-2
     returns

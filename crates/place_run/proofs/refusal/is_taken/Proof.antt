@@ -1,4 +1,4 @@
--- `refusal::is_taken` meets its contract: the flag after each test is the tests so far (`to-small` to `to-order`), those
+-- `refusal::is_taken` meets its contract: the flag after each test is the tests so far (`to-small` to `to-neighbours-taken`), those
 -- are `isTaken` with its tests in one row (`taken-list`), and what the tests so far say is what the next one's function
 -- requires.
 use mathlib.Core.Path.{_≡_, sym, _∙_, ap}
@@ -13,8 +13,8 @@ use lib.IntN.{ℤ}
 use lib.ListN.{length}
 use Rattle.ints.specs.Lists.{sum}
 use Rattle.place_run.specs.Call.{Request, otherDistances, maxNeighbours, isSmall}
-use Rattle.place_run.proofs.RefusalLaws.{min-leb, member-le}
-use Rattle.place_run.proofs.TakenLaws.{toAnswer, toOld, toCounts, toNeighbours, toDistances, toLeftWithin, toRightWithin, toOldWithin, toNeighboursWithin, toAllDistances, toOrder, taken-list, total-of, few-of, Reached, reached, ordered}
+use Rattle.place_run.proofs.RefusalLaws.{min-leb, member-le, in-order-same}
+use Rattle.place_run.proofs.TakenLaws.{toAnswer, toOld, toCounts, toNeighbours, toDistances, toLeftWithin, toRightWithin, toOldWithin, toAllDistances, toNeighboursTaken, taken-list, total-of, few-of, Reached, reached, ordered}
 use Rattle.place_run.proofs.refusal.is_taken.Statement.{statement}
 use Rattle.place_run.proofs.refusal.is_taken.Tie as tie
 
@@ -59,9 +59,6 @@ s10 c = s9 (c .before)
 
 abbrev s11 : tie.Joined11 → tie.Start
 s11 c = s10 (c .before)
-
-abbrev s12 : tie.Joined12 → tie.Start
-s12 c = s11 (c .before)
 
 to-small : (c : tie.Joined1) → c .if1 .if2 ≡ isSmall (request (s1 c))
 to-small c =
@@ -113,28 +110,23 @@ to-old-within c =
     let p = sym (to-right-within (c .before)) in
     ⊎-elim (λ w. rw (p ∙ w .0 .taken) (w .2 ∙ w .1 .ensures)) (λ w. rw (p ∙ w .0 .left) (w .1 ∙ w .0 .left)) (c .if9 .came)
 
-to-neighbours-within : (c : tie.Joined10) → c .if10 .if11 ≡ tests toNeighboursWithin (s10 c)
-to-neighbours-within c =
+to-all-distances : (c : tie.Joined10) → c .if10 .if11 ≡ tests toAllDistances (s10 c)
+to-all-distances c =
     let p = sym (to-old-within (c .before)) in
     ⊎-elim (λ w. rw (p ∙ w .0 .taken) (w .2 ∙ w .1 .ensures)) (λ w. rw (p ∙ w .0 .left) (w .1 ∙ w .0 .left)) (c .if10 .came)
-
-to-all-distances : (c : tie.Joined11) → c .if11 .if12 ≡ tests toAllDistances (s11 c)
-to-all-distances c =
-    let p = sym (to-neighbours-within (c .before)) in
-    ⊎-elim (λ w. rw (p ∙ w .0 .taken) (w .2 ∙ w .1 .ensures)) (λ w. rw (p ∙ w .0 .left) (w .1 ∙ w .0 .left)) (c .if11 .came)
 
 reach : (s : tie.Start) → tests toAllDistances s ≡ true → Reached (request s) (s .args .answer .now)
 reach s e = reached (request s) (s .args .answer .now) e
 
-to-order : (c : tie.Joined12) → c .if12 .if13 ≡ tests toOrder (s12 c)
-to-order c =
+to-neighbours-taken : (c : tie.Joined11) → c .if11 .if12 ≡ tests toNeighboursTaken (s11 c)
+to-neighbours-taken c =
     let p = sym (to-all-distances (c .before)) in
     ⊎-elim
     (λ w.
-    let h = reach (s12 c) (p ∙ w .0 .taken) in
-    rw (p ∙ w .0 .taken) (w .2 ∙ w .1 .ensures (s12 c .args .old .now) (otherDistances (s12 c .args .left) (s12 c .args .distances .now)) (omega arith)))
+    let a = s11 c .args in let h = reach (s11 c) (p ∙ w .0 .taken) in
+    rw (p ∙ w .0 .taken, in-order-same (a .old .now) (otherDistances (a .left) (a .distances .now)) (a .counts .now) (a .neighbours .now) (omega arith)) (w .2 ∙ w .1 .ensures))
     (λ w. rw (p ∙ w .0 .left) (w .1 ∙ w .0 .left))
-    (c .if12 .came)
+    (c .if11 .came)
 
 neighbours-in-all-requires : tie.Need-neighbours-in-all-requires
 neighbours-in-all-requires c κs = search needs
@@ -151,33 +143,30 @@ bound-within-requires-2 c κs = search needs
 all-within-requires : tie.Need-all-within-requires
 all-within-requires c κs = search needs
 
-all-within-requires-2 : tie.Need-all-within-requires-2
-all-within-requires-2 c κs = search needs
-
 all-distances-requires : tie.Need-all-distances-requires
 all-distances-requires c κs = search needs
 
-neighbours-in-order-requires : tie.Need-neighbours-in-order-requires
-neighbours-in-order-requires c κs = reach (s11 (c .before)) (sym (to-all-distances (c .before)) ∙ c .if12 .taken) .fits .neighbours
+neighbours-are-taken-requires : tie.Need-neighbours-are-taken-requires
+neighbours-are-taken-requires c κs = reach (s10 (c .before)) (sym (to-all-distances (c .before)) ∙ c .if11 .taken) .fits .neighbours
 
 is-possible-requires : tie.Need-is-possible-requires
 is-possible-requires c κs =
-    let s = s12 (c .before) in
-    let h = reach s (ordered (request s) (s .args .answer .now) (sym (to-order (c .before)) ∙ c .if13 .taken)) in
+    let s = s11 (c .before) in
+    let h = reach s (ordered (request s) (s .args .answer .now) (sym (to-neighbours-taken (c .before)) ∙ c .if12 .taken)) in
     ((h .left, h .right), (omega (arith, member-le (s .args .left), member-le (s .args .right)), h .distances))
 
 returns : tie.Need-returns
 returns c =
-    let s = s12 (c .before .before) in
+    let s = s11 (c .before .before) in
     let q = request s in let a = s .args .answer .now in
-    let p = sym (to-order (c .before .before)) ∙ c .before .if13 .taken in
+    let p = sym (to-neighbours-taken (c .before .before)) ∙ c .before .if12 .taken in
     let h = reach s (ordered q a p) in
     rw (taken-list q a, p) (c .is-possible .ensures (q .old) (q .counts) (q .neighbours) (omega arith) (omega arith))
 
 returns-2 : tie.Need-returns-2
 returns-2 c =
-    let s = s12 (c .before) in
-    rw (taken-list (request s) (s .args .answer .now), sym (to-order (c .before)) ∙ c .if13 .left) (c .if13 .left)
+    let s = s11 (c .before) in
+    rw (taken-list (request s) (s .args .answer .now), sym (to-neighbours-taken (c .before)) ∙ c .if12 .left) (c .if12 .left)
 
 pub is-taken-spec : {M : Type 1} → statement M
 is-taken-spec =
@@ -188,9 +177,8 @@ is-taken-spec =
     bound-within-requires
     bound-within-requires-2
     all-within-requires
-    all-within-requires-2
     all-distances-requires
-    neighbours-in-order-requires
+    neighbours-are-taken-requires
     is-possible-requires
     returns
     returns-2)

@@ -15,7 +15,7 @@ use Rattle.position_lines.proofs.lines.position_lines.Tie as tie
 use Rattle.position_lines.proofs.lines.position_lines.Reads as reads
 use Rattle.position_lines.proofs.lines.position_lines.Lts as lts
 use Rattle.position_lines.proofs.lines.put_stored.Reads as put-stored-reads
-use Rattle.text.proofs.read.Reads as read-reads
+use Rattle.reading.proofs.read.Reads as read-reads
 use Rattle.writing.proofs.again.refuse.Reads as refuse-reads
 
 read-requires : tie.Need-read-requires

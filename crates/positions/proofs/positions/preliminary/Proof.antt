@@ -8,9 +8,10 @@ use native.Mathlib.Omega.{arith}
 use lib.ListN.{length, take, drop, replicate}
 use lib.Seq.{length-take-le}
 use lib.IntN.{ℤ, pos, negℤ}
-use Rattle.positions.specs.Counts.{SizedTo}
+use Rattle.shifting.specs.Counts.{SizedTo}
 use Rattle.preliminary.specs.Positions.{sums}
-use Rattle.positions.proofs.CodePositions.{take-replicate, both-sides, first-fit, first-is, first-count, proper-ready, side-by}
+use Rattle.strands.proofs.FrontLaws.{take-replicate, first-fit, first-is, first-count}
+use Rattle.positions.proofs.PositionLaws.{both-sides, proper-ready, side-by}
 use borrow.Author.Needs.{needs}
 use Rattle.positions.proofs.positions.preliminary.Statement.{statement}
 use Rattle.positions.proofs.positions.preliminary.Tie as tie
@@ -18,33 +19,26 @@ use Rattle.positions.proofs.positions.preliminary.Reads as reads
 use Rattle.positions.proofs.positions.preliminary.Lts as lts
 use Rattle.positions.proofs.positions.subtract.Reads as subtract-reads
 use Rattle.positions.proofs.side.side.Reads as side-reads
-use Rattle.positions.proofs.side.strands.Reads as strands-reads
+use Rattle.strands.proofs.inner.strands.Reads as strands-reads
 
--- src/positions.rt:45:35
 array-borrow-prefix-next : tie.Need-array-borrow-prefix-next
 array-borrow-prefix-next c = search needs
 
--- src/positions.rt:45:35
 slice-aggregate-strands : tie.Need-slice-aggregate-strands
 slice-aggregate-strands c = sym (length-take-le (length (c .before .before .before .before .before .before .args .vias .now)) (replicate 1024 2048) (c .before .before .before .before .before .before .pre .0 .few))
 
--- src/positions.rt:45:51
 array-borrow-prefix-prev : tie.Need-array-borrow-prefix-prev
 array-borrow-prefix-prev c = search needs
 
--- src/positions.rt:45:51
 slice-aggregate-strands-2 : tie.Need-slice-aggregate-strands-2
 slice-aggregate-strands-2 c = sym (length-take-le (length (c .before .before .before .before .before .before .before .args .vias .now)) (replicate 1024 2048) (c .before .before .before .before .before .before .before .pre .0 .few))
 
--- src/positions.rt:45:67
 array-borrow-prefix-top : tie.Need-array-borrow-prefix-top
 array-borrow-prefix-top c = search needs
 
--- src/positions.rt:45:67
 slice-aggregate-strands-3 : tie.Need-slice-aggregate-strands-3
 slice-aggregate-strands-3 c = sym (length-take-le (length (c .before .before .before .before .before .before .before .before .args .vias .now)) (replicate 1024 2048) (c .before .before .before .before .before .before .before .before .pre .0 .few))
 
--- src/positions.rt:45:5
 strands-requires : tie.Need-strands-requires
 strands-requires c κs =
     let a = c .before .before .before .before .before .before .before .before .args in
@@ -52,7 +46,6 @@ strands-requires c κs =
     let n = length (a .vias .now) in
     ((p .ends, p .upperEnds, p .lowerEnds, p .few), (take-replicate n 1024 2048 (p .few), take-replicate n 1024 2048 (p .few), length-take-le n (replicate 1024 2048) (p .few)))
 
--- src/positions.rt:46:37
 array-share-prefix-next : tie.Need-array-share-prefix-next
 array-share-prefix-next c =
     let a = c .before .before .before .before .before .before .before .before .before .before .before .before .args in
@@ -68,7 +61,6 @@ array-share-prefix-next c =
     let ti = first-is top1 rest n lt in
     first-fit next1 rest n ln
 
--- src/positions.rt:46:37
 slice-aggregate-side : tie.Need-slice-aggregate-side
 slice-aggregate-side c =
     let a = c .before .before .before .before .before .before .before .before .before .before .before .before .before .args in
@@ -84,7 +76,6 @@ slice-aggregate-side c =
     let ti = first-is top1 rest n lt in
     first-count next1 rest n ln
 
--- src/positions.rt:46:49
 array-share-prefix-top : tie.Need-array-share-prefix-top
 array-share-prefix-top c =
     let a = c .before .before .before .before .before .before .before .before .before .before .before .before .before .args in
@@ -100,7 +91,6 @@ array-share-prefix-top c =
     let ti = first-is top1 rest n lt in
     first-fit top1 rest n lt
 
--- src/positions.rt:46:49
 slice-aggregate-side-2 : tie.Need-slice-aggregate-side-2
 slice-aggregate-side-2 c =
     let a = c .before .before .before .before .before .before .before .before .before .before .before .before .before .before .args in
@@ -116,7 +106,6 @@ slice-aggregate-side-2 c =
     let ti = first-is top1 rest n lt in
     first-count top1 rest n lt
 
--- src/positions.rt:46:5
 side-requires : tie.Need-side-requires
 side-requires c κs =
     let a = c .before .before .before .before .before .before .before .before .before .before .before .before .before .before .before .args in
@@ -132,7 +121,6 @@ side-requires c κs =
     let ti = first-is top1 rest n lt in
     ((proper-ready (a .gap) (a .sizes .now) (a .vias .now) (a .halves .now) (a .uppers .now) (a .lowers .now) next1 prev1 top1 p (c .before .before .before .before .before .before .strands .ensures) ln (take n (next1 ++ rest)) (take n (top1 ++ rest)) ni ti), c .before .before .before .before .before .before .before .before .before .before .before .before .before .before .before .pre .1 ∙ first-count next1 rest n ln)
 
--- src/positions.rt:48:36
 array-share-prefix-next-2 : tie.Need-array-share-prefix-next-2
 array-share-prefix-next-2 c =
     let a = c .before .before .before .before .before .before .before .before .before .before .before .before .before .before .before .before .before .args in
@@ -148,7 +136,6 @@ array-share-prefix-next-2 c =
     let ti = first-is top1 rest n lt in
     first-fit next1 rest n ln
 
--- src/positions.rt:48:36
 slice-aggregate-side-3 : tie.Need-slice-aggregate-side-3
 slice-aggregate-side-3 c =
     let a = c .before .before .before .before .before .before .before .before .before .before .before .before .before .before .before .before .before .before .args in
@@ -164,7 +151,6 @@ slice-aggregate-side-3 c =
     let ti = first-is top1 rest n lt in
     first-count next1 rest n ln
 
--- src/positions.rt:48:48
 array-share-prefix-top-2 : tie.Need-array-share-prefix-top-2
 array-share-prefix-top-2 c =
     let a = c .before .before .before .before .before .before .before .before .before .before .before .before .before .before .before .before .before .before .args in
@@ -180,7 +166,6 @@ array-share-prefix-top-2 c =
     let ti = first-is top1 rest n lt in
     first-fit top1 rest n lt
 
--- src/positions.rt:48:48
 slice-aggregate-side-4 : tie.Need-slice-aggregate-side-4
 slice-aggregate-side-4 c =
     let a = c .before .before .before .before .before .before .before .before .before .before .before .before .before .before .before .before .before .before .before .args in
@@ -196,15 +181,12 @@ slice-aggregate-side-4 c =
     let ti = first-is top1 rest n lt in
     first-count top1 rest n lt
 
--- src/positions.rt:48:75
 array-borrow-prefix-other : tie.Need-array-borrow-prefix-other
 array-borrow-prefix-other c = search needs
 
--- src/positions.rt:48:75
 slice-aggregate-side-5 : tie.Need-slice-aggregate-side-5
 slice-aggregate-side-5 c = sym (length-take-le (length (c .before .before .before .before .before .before .before .before .before .before .before .before .before .before .before .before .before .before .before .before .args .vias .now)) (replicate 1024 (pos 0)) (c .before .before .before .before .before .before .before .before .before .before .before .before .before .before .before .before .before .before .before .before .pre .0 .few))
 
--- src/positions.rt:48:5
 side-requires-2 : tie.Need-side-requires-2
 side-requires-2 c κs =
     let a = c .before .before .before .before .before .before .before .before .before .before .before .before .before .before .before .before .before .before .before .before .args in
@@ -220,7 +202,6 @@ side-requires-2 c κs =
     let ti = first-is top1 rest n lt in
     ((proper-ready (a .gap) (a .sizes .now) (a .vias .now) (a .halves .now) (a .uppers .now) (a .lowers .now) next1 prev1 top1 p (c .before .before .before .before .before .before .before .before .before .before .before .strands .ensures) ln (take n (next1 ++ rest)) (take n (top1 ++ rest)) ni ti), length-take-le n (replicate 1024 (pos 0)) (p .few) ∙ first-count next1 rest n ln)
 
--- src/positions.rt:49:19
 array-share-prefix-other : tie.Need-array-share-prefix-other
 array-share-prefix-other c =
     let a = c .before .before .before .before .before .before .before .before .before .before .before .before .before .before .before .before .before .before .before .before .before .before .before .args in
@@ -228,7 +209,6 @@ array-share-prefix-other c =
     let n = length (a .vias .now) in
     first-fit (c .before .before .side2 .last .1 .1 .1 .1 .1 .1 .1 .1 .0) (drop n (replicate 1024 (pos 0))) n (c .before .before .side2 .kept .1 .1 .1 .1 .1 .1 .1 .1 .0 ∙ length-take-le n (replicate 1024 (pos 0)) (p .few))
 
--- src/positions.rt:49:19
 slice-aggregate-subtract : tie.Need-slice-aggregate-subtract
 slice-aggregate-subtract c =
     let a = c .before .before .before .before .before .before .before .before .before .before .before .before .before .before .before .before .before .before .before .before .before .before .before .before .args in
@@ -236,7 +216,6 @@ slice-aggregate-subtract c =
     let n = length (a .vias .now) in
     first-count (c .before .before .before .side2 .last .1 .1 .1 .1 .1 .1 .1 .1 .0) (drop n (replicate 1024 (pos 0))) n (c .before .before .before .side2 .kept .1 .1 .1 .1 .1 .1 .1 .1 .0 ∙ length-take-le n (replicate 1024 (pos 0)) (p .few))
 
--- src/positions.rt:49:5
 subtract-requires : tie.Need-subtract-requires
 subtract-requires c κs =
     let a = c .before .before .before .before .before .before .before .before .before .before .before .before .before .before .before .before .before .before .before .before .before .before .before .before .args in
@@ -247,11 +226,9 @@ subtract-requires c κs =
     let rz = drop n (replicate 1024 (pos 0)) in
     (c .before .before .before .before .before .before .before .before .side .kept .1 .1 .1 .1 .1 .1 .1 .1 .0 ∙ c .before .before .before .before .before .before .before .before .before .before .before .before .before .before .before .before .before .before .before .before .before .before .before .before .pre .1 ∙ first-count y rz n l, c .before .before .before .before .before .before .before .before .side .ensures .0, subst (λ (z : List ℤ). SizedTo 33312000 z) (sym (first-is y rz n l)) (c .before .before .before .side2 .ensures .0))
 
--- src/positions.rt:29:1
 same-length : tie.Need-same-length
 same-length c = c .before .subtract .kept .0 ∙ c .before .before .before .before .before .before .before .before .before .before .side .kept .1 .1 .1 .1 .1 .1 .1 .1 .0
 
--- src/positions.rt:29:1
 returns : tie.Need-returns
 returns c =
     let a = c .before .before .before .before .before .before .before .before .before .before .before .before .before .before .before .before .before .before .before .before .before .before .before .before .before .before .args in

@@ -7,11 +7,9 @@ use Rattle.positions.proofs.side.place_of.Tie as tie
 use Rattle.positions.proofs.side.place_of.Reads as reads
 use Rattle.positions.proofs.side.place_of.Lts as lts
 
--- src/side.rt:22:5
 cast-result : tie.Need-cast-result
 cast-result c = search needs
 
--- src/side.rt:19:1
 returns : tie.Need-returns
 returns c = of-nat (c .args .x) (omega arith)
 

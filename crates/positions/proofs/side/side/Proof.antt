@@ -5,7 +5,7 @@ use mathlib.Core.Bool.{false}
 use native.Mathlib.Omega.{arith}
 use lib.ListN.{length, take, replicate}
 use lib.Seq.{length-take-le}
-use Rattle.positions.proofs.CodePositions.{take-replicate}
+use Rattle.strands.proofs.FrontLaws.{take-replicate}
 use borrow.Author.Needs.{needs}
 use Rattle.positions.proofs.side.side.Statement.{statement}
 use Rattle.positions.proofs.side.side.Tie as tie
@@ -13,71 +13,54 @@ use Rattle.positions.proofs.side.side.Reads as reads
 use Rattle.positions.proofs.side.side.Lts as lts
 use Rattle.positions.proofs.side.side_in.Reads as side-in-reads
 
--- src/side.rt:126:9
 array-borrow-prefix-order : tie.Need-array-borrow-prefix-order
 array-borrow-prefix-order c = search needs
 
--- src/side.rt:126:9
 slice-aggregate-side-in : tie.Need-slice-aggregate-side-in
 slice-aggregate-side-in c = sym (length-take-le (length (c .before .before .before .before .before .before .before .args .next .now)) (replicate 1024 2048) (c .before .before .before .before .before .before .before .pre .0 .few))
 
--- src/side.rt:127:9
 array-borrow-prefix-right : tie.Need-array-borrow-prefix-right
 array-borrow-prefix-right c = search needs
 
--- src/side.rt:127:9
 slice-aggregate-side-in-2 : tie.Need-slice-aggregate-side-in-2
 slice-aggregate-side-in-2 c = sym (length-take-le (length (c .before .before .before .before .before .before .before .before .args .next .now)) (replicate 1024 2048) (c .before .before .before .before .before .before .before .before .pre .0 .few))
 
--- src/side.rt:128:9
 array-borrow-prefix-left : tie.Need-array-borrow-prefix-left
 array-borrow-prefix-left c = search needs
 
--- src/side.rt:128:9
 slice-aggregate-side-in-3 : tie.Need-slice-aggregate-side-in-3
 slice-aggregate-side-in-3 c = sym (length-take-le (length (c .before .before .before .before .before .before .before .before .before .args .next .now)) (replicate 1024 2048) (c .before .before .before .before .before .before .before .before .before .pre .0 .few))
 
--- src/side.rt:129:9
 array-borrow-prefix-classes : tie.Need-array-borrow-prefix-classes
 array-borrow-prefix-classes c = search needs
 
--- src/side.rt:129:9
 slice-aggregate-side-in-4 : tie.Need-slice-aggregate-side-in-4
 slice-aggregate-side-in-4 c = sym (length-take-le (length (c .before .before .before .before .before .before .before .before .before .before .args .next .now)) (replicate 1024 0) (c .before .before .before .before .before .before .before .before .before .before .pre .0 .few))
 
--- src/side.rt:130:9
 array-borrow-prefix-sibling : tie.Need-array-borrow-prefix-sibling
 array-borrow-prefix-sibling c = search needs
 
--- src/side.rt:130:9
 slice-aggregate-side-in-5 : tie.Need-slice-aggregate-side-in-5
 slice-aggregate-side-in-5 c = sym (length-take-le (length (c .before .before .before .before .before .before .before .before .before .before .before .args .next .now)) (replicate 1024 2048) (c .before .before .before .before .before .before .before .before .before .before .before .pre .0 .few))
 
--- src/side.rt:131:9
 array-borrow-prefix-apart : tie.Need-array-borrow-prefix-apart
 array-borrow-prefix-apart c = search needs
 
--- src/side.rt:131:9
 slice-aggregate-side-in-6 : tie.Need-slice-aggregate-side-in-6
 slice-aggregate-side-in-6 c = sym (length-take-le (length (c .before .before .before .before .before .before .before .before .before .before .before .before .args .next .now)) (replicate 1024 0) (c .before .before .before .before .before .before .before .before .before .before .before .before .pre .0 .few))
 
--- src/side.rt:132:9
 array-borrow-prefix-at : tie.Need-array-borrow-prefix-at
 array-borrow-prefix-at c = search needs
 
--- src/side.rt:132:9
 slice-aggregate-side-in-7 : tie.Need-slice-aggregate-side-in-7
 slice-aggregate-side-in-7 c = sym (length-take-le (length (c .before .before .before .before .before .before .before .before .before .before .before .before .before .args .next .now)) (replicate 1024 0) (c .before .before .before .before .before .before .before .before .before .before .before .before .before .pre .0 .few))
 
--- src/side.rt:133:9
 array-borrow-prefix-begun : tie.Need-array-borrow-prefix-begun
 array-borrow-prefix-begun c = search needs
 
--- src/side.rt:133:9
 slice-aggregate-side-in-8 : tie.Need-slice-aggregate-side-in-8
 slice-aggregate-side-in-8 c = sym (length-take-le (length (c .before .before .before .before .before .before .before .before .before .before .before .before .before .before .args .next .now)) (replicate 1024 false) (c .before .before .before .before .before .before .before .before .before .before .before .before .before .before .pre .0 .few))
 
--- src/side.rt:117:5
 side-in-requires : tie.Need-side-in-requires
 side-in-requires c κs =
     let n = length (c .before .before .before .before .before .before .before .before .before .before .before .before .before .before .before .args .next .now) in
@@ -98,11 +81,9 @@ side-in-requires c κs =
       ),
     )
 
--- src/side.rt:92:1
 same-length : tie.Need-same-length
 same-length c = c .before .before .before .before .before .before .before .before .before .side-in .kept .1 .1 .1 .1 .1 .1 .1 .1 .1 .1 .1 .1 .1 .1 .1 .1 .0
 
--- src/side.rt:92:1
 returns : tie.Need-returns
 returns c = c .before .before .before .before .before .before .before .before .before .side-in .ensures
 

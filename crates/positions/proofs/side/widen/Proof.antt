@@ -24,39 +24,30 @@ Inv-loop at xs₀ v₀ xs v = (v ≤ length at) × (length xs ≡ length xs₀) 
 abbrev μ-loop : tie.MeasureT-loop
 μ-loop at xs₀ v₀ xs v = length at - v
 
--- src/side.rt:31:5
 loop-holds : tie.Need-loop-holds Inv-loop μ-loop
 loop-holds c = (omega arith, refl, refl)
 
--- src/side.rt:32:26
 mul-place-of : tie.Need-mul-place-of Inv-loop μ-loop
 mul-place-of c = search needs
 
--- src/side.rt:32:26
 shared-slice-read-place-of : tie.Need-shared-slice-read-place-of Inv-loop μ-loop
 shared-slice-read-place-of c = search needs
 
--- src/side.rt:32:13
 place-of-requires : tie.Need-place-of-requires Inv-loop μ-loop
 place-of-requires c κs = search needs
 
--- src/side.rt:33:9
 mul-x : tie.Need-mul-x Inv-loop μ-loop
 mul-x c = search needs
 
--- src/side.rt:33:9
 slice-set-from-x : tie.Need-slice-set-from-x Inv-loop μ-loop
 slice-set-from-x c = search needs
 
--- src/side.rt:34:9
 add-v : tie.Need-add-v Inv-loop μ-loop
 add-v c = search needs
 
--- src/side.rt:31:5
 loop-less : tie.Need-loop-less Inv-loop μ-loop
 loop-less c = search needs
 
--- src/side.rt:31:5
 loop-again : tie.Need-loop-again Inv-loop μ-loop
 loop-again c =
     let a = c .before .before .before .before .before .args in
@@ -65,11 +56,9 @@ loop-again c =
     let e : x ≡ pos (getD (a .at .now) (l .v) 0) = back′ (c .place-of .result) (c .place-of .ok) ∙ c .place-of .ensures in
     (omega arith, length-set (l .xs) (l .v) x ∙ l .inv .1, ap (λ (y : ℤ). set (l .xs) (l .v) y) e ∙ ap (λ (z : List ℤ). set z (l .v) (pos (getD (a .at .now) (l .v) 0))) (l .inv .2) ∙ over-map pos (a .at .now) (a .xs .now) (l .v) 0 (omega arith) (omega (arith, c .before .before .before .before .before .pre)))
 
--- src/side.rt:26:1
 same-length : tie.Need-same-length Inv-loop μ-loop
 same-length c = search needs
 
--- src/side.rt:26:1
 returns : tie.Need-returns Inv-loop μ-loop
 returns c =
     let a = c .before .before .before .args in

@@ -7,7 +7,6 @@ use Rattle.starting.proofs.start.preliminary_positions.Reads as reads
 use Rattle.starting.proofs.start.preliminary_positions.Lts as lts
 use Rattle.positions.proofs.positions.preliminary.Reads as preliminary-reads
 
--- src/start.rt:22:5
 preliminary-requires : tie.Need-preliminary-requires
 preliminary-requires c κs = (
   lists-proper (c .before .before .before .before .before .before .args .gap) (c .before .before .before .before .before .before .args .sizes .now) (c .before .before .before .before .before .before .args .vias .now) (c .before .before .before .before .before .before .args .halves .now) (c .before .before .before .before .before .before .args .uppers .now) (c .before .before .before .before .before .before .args .lowers .now)
@@ -15,11 +14,9 @@ preliminary-requires c κs = (
   c .before .before .before .before .before .before .pre .1,
 )
 
--- src/start.rt:10:1
 same-length : tie.Need-same-length
 same-length c = search needs
 
--- src/start.rt:10:1
 returns : tie.Need-returns
 returns c = λ p l. c .before .preliminary .ensures p (lists-plan (c .before .before .before .before .before .before .before .before .args .gap) (c .before .before .before .before .before .before .before .before .args .sizes .now) (c .before .before .before .before .before .before .before .before .args .vias .now) (c .before .before .before .before .before .before .before .before .args .halves .now) (c .before .before .before .before .before .before .before .before .args .uppers .now) (c .before .before .before .before .before .before .before .before .args .lowers .now) p l)
 

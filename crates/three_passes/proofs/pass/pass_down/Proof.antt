@@ -1,10 +1,10 @@
 -- `three_passes::pass::pass_down` meets its contract: before each turn the levels above are visited and those from i on come next.
-use Prim.Native.Nat.{ℕ, _+_, _-_, _<_, _≤_}
-use mathlib.Core.Path.{_≡_, refl, _∙_}
+use Prim.Native.Nat.{_+_, _-_, _<_, _≤_}
+use mathlib.Core.Path.{refl, _∙_}
 use mathlib.Core.List.{List}
 use native.Mathlib.Omega.{arith}
 use borrow.Author.Needs.{needs}
-use lib.ListN.{length, getD}
+use lib.ListN.{length}
 use Rattle.plan.specs.Plan.{PlanData}
 use Rattle.demand3.proofs.Schedule.{Visit}
 use Rattle.visits.specs.Visits.{Written}
@@ -25,6 +25,22 @@ Inv-loop q lengths vias first ends before₀ after₀ counts₀ at₀ apart₀ m
 abbrev μ-loop : tie.MeasureT-loop
 μ-loop q lengths vias first ends before₀ after₀ counts₀ at₀ apart₀ marks₀ passes₀ levels₀ sizes₀ vertices₀ positions₀ listed₀ low₀ start₀ i₀ before after counts at apart marks passes levels sizes vertices positions listed low start i =
     length lengths - i
+
+-- what is known at the entry, at the loop's test and after each call, where a turn ends
+abbrev entry : tie.After-positions Inv-loop μ-loop → tie.Start Inv-loop μ-loop
+entry c = c .before .before .before .before .before .before .before .before .before .before .before .before .before .before .before .before .before .before .before .before .before .before .before .before .before .before .before .before .before .before .before .before .before .before .before .before .before .before .before .before .before .before .before .before .before .before .before .before .before
+
+abbrev turn : tie.After-positions Inv-loop μ-loop → tie.At-loop Inv-loop μ-loop
+turn c = c .before .before .before .before .before .before .before .before .before .before .before .before .before .before .before .before .before .before .before .before .before .before .before .before .before .before .before .before .before .before .before .before .before .before .before
+
+abbrev inside : tie.After-positions Inv-loop μ-loop → tie.In-loop Inv-loop μ-loop
+inside c = c .before .before .before .before .before .before .before .before .before .before .before .before .before .before .before .before .before .before .before .before .before .before .before .before .before .before .before .before .before .before .before .before .before .before
+
+abbrev size : tie.After-positions Inv-loop μ-loop → tie.After-wide Inv-loop μ-loop
+size c = c .before .before .before .before .before .before .before .before .before .before .before .before .before .before .before .before .before .before .before .before .before .before .before .before .before .before .before .before .before .before .before .before
+
+abbrev level : tie.After-positions Inv-loop μ-loop → tie.After-enter-level Inv-loop μ-loop
+level c = c .before .before .before .before .before .before .before .before .before .before .before .before .before .before .before .before .before .before .before .before
 
 loop-holds : tie.Need-loop-holds Inv-loop μ-loop
 loop-holds c = (
@@ -54,24 +70,25 @@ cast-enter-level c = omega (arith, levels-few (c .before .before .before .before
 
 enter-level-requires : tie.Need-enter-level-requires Inv-loop μ-loop
 enter-level-requires c κs =
-    let some = c .before .before .before .before .before .before .before .before .before .before .before .before .before .before .before .before .before .before .before .before .before .before .before .before .before .before .before .before .pre .1 in
+    let s = c .before .before .before .before .before .before .before .before .before .before .before .before .before .before .before .before .before .before .before .before .before .before .before .before .before .before .before .before in
+    let some = s .pre .1 in
     let l = c .before .before .before .before .before .before .before .before .before .before .before .before .before .before .loop in
-    down-enter (some .is) (l .inv .2 (some .plan) (some .past) (some .coming) (some .is) (some .written)) (c .before .before .before .before .before .before .before .before .before .before .before .before .before .before .before .before .before .before .before .before .before .before .before .before .before .before .before .before .pre .0) (omega arith) (l .start + c .before .before .before .before .before .before .before .before .before .before .before .wide .result) (omega (arith, c .before .before .before .before .before .before .before .before .before .before .before .wide .ensures))
+    down-enter (some .is) (l .inv .2 (some .plan) (some .past) (some .coming) (some .is) (some .written)) (s .pre .0) (omega (arith, c .before .before .before .before .before .before .before .before .before .before .before .before .before .loop-test)) (l .start + c .before .before .before .before .before .before .before .before .before .before .before .wide .result) (omega (arith, c .before .before .before .before .before .before .before .before .before .before .before .wide .ensures))
     (l .inv .1 .ofBefore) (l .inv .1 .ofAfter) (l .inv .1 .ofCounts)
 
 add-i : tie.Need-add-i Inv-loop μ-loop
-add-i c = omega (arith, c .before .before .before .before .before .before .before .before .before .before .before .before .before .before .before .before .before .before .before .before .before .before .before .before .before .before .before .before .before .before .before .before .before .before .loop-test, levels-few (c .before .before .before .before .before .before .before .before .before .before .before .before .before .before .before .before .before .before .before .before .before .before .before .before .before .before .before .before .before .before .before .before .before .before .before .before .before .before .before .before .before .before .before .before .before .before .before .before .before .pre .1 .is))
+add-i c = omega (arith, inside c .loop-test, levels-few (entry c .pre .1 .is))
 
 loop-less : tie.Need-loop-less Inv-loop μ-loop
-loop-less c = omega (arith, c .before .before .before .before .before .before .before .before .before .before .before .before .before .before .before .before .before .before .before .before .before .before .before .before .before .before .before .before .before .before .before .before .before .before .loop-test)
+loop-less c = omega (arith, inside c .loop-test)
 
 loop-again : tie.Need-loop-again Inv-loop μ-loop
 loop-again c =
-    let l = c .before .before .before .before .before .before .before .before .before .before .before .before .before .before .before .before .before .before .before .before .before .before .before .before .before .before .before .before .before .before .before .before .before .before .before .loop in
-    let w = c .before .before .before .before .before .before .before .before .before .before .before .before .before .before .before .before .before .before .before .before .before .before .before .before .before .before .before .before .before .before .before .before .wide in
-    let d = c .before .before .before .before .before .before .before .before .before .before .before .before .before .before .before .before .before .before .before .before .enter-level in
+    let l = turn c .loop in
+    let w = size c .wide in
+    let d = level c .enter-level in
     let s = l .inv .1 in
-    let h : l .i < length (c .before .before .before .before .before .before .before .before .before .before .before .before .before .before .before .before .before .before .before .before .before .before .before .before .before .before .before .before .before .before .before .before .before .before .before .before .before .before .before .before .before .before .before .before .before .before .before .before .before .args .lengths .now) = omega (arith, c .before .before .before .before .before .before .before .before .before .before .before .before .before .before .before .before .before .before .before .before .before .before .before .before .before .before .before .before .before .before .before .before .before .before .loop-test) in (
+    let h : l .i < length (entry c .args .lengths .now) = omega (arith, inside c .loop-test) in (
       omega (arith, h),
       record {
         ofBefore = d .kept .1 .1 .1 .1 .1 .1 .1 .1 .1 .0 ∙ s .ofBefore;
@@ -86,7 +103,7 @@ loop-again c =
         ofVertices = d .kept .1 .1 .1 .1 .1 .1 .1 .1 .1 .1 .1 .1 .1 .1 .1 .1 .1 .1 .1 .0 ∙ s .ofVertices;
         ofPositions = d .kept .1 .1 .1 .1 .1 .1 .1 .1 .1 .1 .1 .1 .1 .1 .1 .1 .1 .1 .1 .1 .0 ∙ s .ofPositions;
       },
-      λ p past coming k v. down-more k (l .inv .2 p past coming k v) (c .before .before .before .before .before .before .before .before .before .before .before .before .before .before .before .before .before .before .before .before .before .before .before .before .before .before .before .before .before .before .before .before .before .before .before .before .before .before .before .before .before .before .before .before .before .before .before .before .before .pre .0) h (l .start + w .result) (omega (arith, w .ensures)) (s .ofBefore) (s .ofAfter) (s .ofCounts) (d .ensures p),
+      λ p past coming k v. down-more k (l .inv .2 p past coming k v) (entry c .pre .0) h (l .start + w .result) (omega (arith, w .ensures)) (s .ofBefore) (s .ofAfter) (s .ofCounts) (d .ensures p),
     )
 
 same-length : tie.Need-same-length Inv-loop μ-loop

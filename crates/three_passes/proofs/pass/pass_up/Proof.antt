@@ -1,10 +1,10 @@
 -- `three_passes::pass::pass_up` meets its contract: before each turn the levels below are visited and i levels come next.
-use Prim.Native.Nat.{ℕ, _+_, _-_, _<_, _≤_}
-use mathlib.Core.Path.{_≡_, refl, _∙_}
+use Prim.Native.Nat.{_-_, _≤_}
+use mathlib.Core.Path.{refl, _∙_}
 use mathlib.Core.List.{List}
 use native.Mathlib.Omega.{arith}
 use borrow.Author.Needs.{needs}
-use lib.ListN.{length, getD}
+use lib.ListN.{length}
 use Rattle.plan.specs.Plan.{PlanData}
 use Rattle.demand3.proofs.Schedule.{Visit}
 use Rattle.visits.specs.Visits.{Written}
@@ -25,6 +25,22 @@ Inv-loop lengths vias first ends before₀ after₀ counts₀ at₀ apart₀ mar
 abbrev μ-loop : tie.MeasureT-loop
 μ-loop lengths vias first ends before₀ after₀ counts₀ at₀ apart₀ marks₀ passes₀ levels₀ sizes₀ vertices₀ positions₀ listed₀ high₀ to₀ i₀ before after counts at apart marks passes levels sizes vertices positions listed high to i =
     i
+
+-- what is known at the entry, at the loop's test and after each call, where a turn ends
+abbrev entry : tie.After-positions Inv-loop μ-loop → tie.Start Inv-loop μ-loop
+entry c = c .before .before .before .before .before .before .before .before .before .before .before .before .before .before .before .before .before .before .before .before .before .before .before .before .before .before .before .before .before .before .before .before .before .before .before .before .before .before .before .before .before .before .before .before .before .before .before .before .before
+
+abbrev turn : tie.After-positions Inv-loop μ-loop → tie.At-loop Inv-loop μ-loop
+turn c = c .before .before .before .before .before .before .before .before .before .before .before .before .before .before .before .before .before .before .before .before .before .before .before .before .before .before .before .before .before .before .before .before .before .before .before
+
+abbrev inside : tie.After-positions Inv-loop μ-loop → tie.In-loop Inv-loop μ-loop
+inside c = c .before .before .before .before .before .before .before .before .before .before .before .before .before .before .before .before .before .before .before .before .before .before .before .before .before .before .before .before .before .before .before .before .before .before
+
+abbrev size : tie.After-positions Inv-loop μ-loop → tie.After-wide Inv-loop μ-loop
+size c = c .before .before .before .before .before .before .before .before .before .before .before .before .before .before .before .before .before .before .before .before .before .before .before .before .before .before .before .before .before .before .before .before
+
+abbrev level : tie.After-positions Inv-loop μ-loop → tie.After-enter-level Inv-loop μ-loop
+level c = c .before .before .before .before .before .before .before .before .before .before .before .before .before .before .before .before .before .before .before .before
 
 loop-holds : tie.Need-loop-holds Inv-loop μ-loop
 loop-holds c = (
@@ -61,18 +77,18 @@ enter-level-requires c κs =
     up-enter (some .is) t (omega arith) (omega arith) (l .to - w .result) (omega (arith, w .ensures, up-small (some .is) t (omega arith))) (l .inv .1 .ofBefore) (l .inv .1 .ofAfter) (l .inv .1 .ofCounts)
 
 sub-i : tie.Need-sub-i Inv-loop μ-loop
-sub-i c = omega (arith, c .before .before .before .before .before .before .before .before .before .before .before .before .before .before .before .before .before .before .before .before .before .before .before .before .before .before .before .before .before .before .before .before .before .before .loop-test)
+sub-i c = omega (arith, inside c .loop-test)
 
 loop-less : tie.Need-loop-less Inv-loop μ-loop
-loop-less c = omega (arith, c .before .before .before .before .before .before .before .before .before .before .before .before .before .before .before .before .before .before .before .before .before .before .before .before .before .before .before .before .before .before .before .before .before .before .loop-test)
+loop-less c = omega (arith, inside c .loop-test)
 
 loop-again : tie.Need-loop-again Inv-loop μ-loop
 loop-again c =
-    let l = c .before .before .before .before .before .before .before .before .before .before .before .before .before .before .before .before .before .before .before .before .before .before .before .before .before .before .before .before .before .before .before .before .before .before .before .loop in
-    let w = c .before .before .before .before .before .before .before .before .before .before .before .before .before .before .before .before .before .before .before .before .before .before .before .before .before .before .before .before .before .before .before .before .wide in
-    let d = c .before .before .before .before .before .before .before .before .before .before .before .before .before .before .before .before .before .before .before .before .enter-level in
+    let l = turn c .loop in
+    let w = size c .wide in
+    let d = level c .enter-level in
     let s = l .inv .1 in
-    let h : 1 ≤ l .i = omega (arith, c .before .before .before .before .before .before .before .before .before .before .before .before .before .before .before .before .before .before .before .before .before .before .before .before .before .before .before .before .before .before .before .before .before .before .loop-test) in (
+    let h : 1 ≤ l .i = omega (arith, inside c .loop-test) in (
       omega (arith, l .inv .0),
       record {
         ofBefore = d .kept .1 .1 .1 .1 .1 .1 .1 .1 .1 .0 ∙ s .ofBefore;

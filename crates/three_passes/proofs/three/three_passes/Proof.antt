@@ -1,44 +1,71 @@
 -- `three_passes::three::three_passes` meets its contract: the doubled distances and the marks are the state before the first visit.
-use Prim.Native.Nat.{ℕ, _≤_}
+use Prim.Native.Nat.{ℕ}
 use mathlib.Core.Path.{_≡_, sym, _∙_}
 use mathlib.Core.Bool.{Bool, false}
 use mathlib.Core.List.{List, _++_}
-use native.Mathlib.Omega.{arith}
 use lib.ListN.{length, take, drop, replicate}
 use lib.Seq.{length-take-le}
-use Rattle.positions.proofs.CodePositions.{first-fit, first-is, first-count}
+use Rattle.strands.proofs.FrontLaws.{first-fit, first-is, first-count}
 use Rattle.three_passes.proofs.StartLaws.{vertices-few, boxes-count, vertices-count, loose-asks, at-start}
 use Rattle.three_passes.proofs.three.three_passes.Statement.{statement}
 use Rattle.three_passes.proofs.three.three_passes.Tie as tie
+
+-- what is known at the entry and after each call, where the function returns
+abbrev entry : tie.After-positions → tie.Start
+entry c = c .before .before .before .before .before .before .before .before .before .before .before .before .before .before .before .before .before .before .before .before .before .before .before .before .before .before .before .before .before .before .before .before .before .before .before .before .before .before
+
+abbrev measured : tie.After-positions → tie.After-distances
+measured c = c .before .before .before .before .before .before .before .before .before .before .before .before .before .before .before .before .before .before .before .before .before .before .before .before .before .before .before
+
+abbrev marked : tie.After-positions → tie.After-mark-loose
+marked c = c .before .before .before .before .before .before .before .before .before .before .before .before .before .before .before .before .before .before .before .before .before .before
+
+abbrev passed : tie.After-positions → tie.After-run-passes
+passed c = c .before .before .before .before .before .before .before .before .before .before .before .before
 
 array-borrow-prefix-apart : tie.Need-array-borrow-prefix-apart
 array-borrow-prefix-apart c = vertices-few (c .before .before .before .before .before .before .before .before .before .pre .lists)
 
 slice-aggregate-distances : tie.Need-slice-aggregate-distances
-slice-aggregate-distances c = sym (length-take-le (length (c .before .before .before .before .before .before .before .before .before .before .args .vias .now)) (replicate 1024 0) (vertices-few (c .before .before .before .before .before .before .before .before .before .before .pre .lists)))
+slice-aggregate-distances c =
+    let s = c .before .before .before .before .before .before .before .before .before .before in
+    sym (length-take-le (length (s .args .vias .now)) (replicate 1024 0) (vertices-few (s .pre .lists)))
 
 distances-requires : tie.Need-distances-requires
-distances-requires c κs = let l = c .before .before .before .before .before .before .before .before .before .before .pre .lists in
-    (vertices-count l ∙ sym (boxes-count l), length-take-le (length (c .before .before .before .before .before .before .before .before .before .before .args .vias .now)) (replicate 1024 0) (vertices-few (c .before .before .before .before .before .before .before .before .before .before .pre .lists)) ∙ sym (boxes-count l))
+distances-requires c κs =
+    let s = c .before .before .before .before .before .before .before .before .before .before in
+    let l = s .pre .lists in
+    (vertices-count l ∙ sym (boxes-count l), length-take-le (length (s .args .vias .now)) (replicate 1024 0) (vertices-few (s .pre .lists)) ∙ sym (boxes-count l))
 
 array-share-prefix-apart : tie.Need-array-share-prefix-apart
-array-share-prefix-apart c = let d = c .before .distances in let n = length (c .before .before .before .before .before .before .before .before .before .before .before .before .args .vias .now) in first-fit (d .last .1 .1 .1 .0) (drop n (replicate 1024 0)) n (d .kept .1 .1 .1 .0 ∙ length-take-le n (replicate 1024 0) (vertices-few (c .before .before .before .before .before .before .before .before .before .before .before .before .pre .lists)))
+array-share-prefix-apart c =
+    let s = c .before .before .before .before .before .before .before .before .before .before .before .before in
+    let d = c .before .distances in
+    let n = length (s .args .vias .now) in
+    first-fit (d .last .1 .1 .1 .0) (drop n (replicate 1024 0)) n (d .kept .1 .1 .1 .0 ∙ length-take-le n (replicate 1024 0) (vertices-few (s .pre .lists)))
 
 slice-aggregate-mark-loose : tie.Need-slice-aggregate-mark-loose
-slice-aggregate-mark-loose c = let d = c .before .before .distances in let n = length (c .before .before .before .before .before .before .before .before .before .before .before .before .before .args .vias .now) in first-count (d .last .1 .1 .1 .0) (drop n (replicate 1024 0)) n (d .kept .1 .1 .1 .0 ∙ length-take-le n (replicate 1024 0) (vertices-few (c .before .before .before .before .before .before .before .before .before .before .before .before .before .pre .lists)))
+slice-aggregate-mark-loose c =
+    let s = c .before .before .before .before .before .before .before .before .before .before .before .before .before in
+    let d = c .before .before .distances in
+    let n = length (s .args .vias .now) in
+    first-count (d .last .1 .1 .1 .0) (drop n (replicate 1024 0)) n (d .kept .1 .1 .1 .0 ∙ length-take-le n (replicate 1024 0) (vertices-few (s .pre .lists)))
 
 array-borrow-prefix-marks : tie.Need-array-borrow-prefix-marks
 array-borrow-prefix-marks c = vertices-few (c .before .before .before .before .before .before .before .before .before .before .before .before .before .before .pre .lists)
 
 slice-aggregate-mark-loose-2 : tie.Need-slice-aggregate-mark-loose-2
-slice-aggregate-mark-loose-2 c = sym (length-take-le (length (c .before .before .before .before .before .before .before .before .before .before .before .before .before .before .before .args .vias .now)) (replicate 1024 false) (vertices-few (c .before .before .before .before .before .before .before .before .before .before .before .before .before .before .before .pre .lists)))
+slice-aggregate-mark-loose-2 c =
+    let s = c .before .before .before .before .before .before .before .before .before .before .before .before .before .before .before in
+    sym (length-take-le (length (s .args .vias .now)) (replicate 1024 false) (vertices-few (s .pre .lists)))
 
 mark-loose-requires : tie.Need-mark-loose-requires
 mark-loose-requires c κs =
-    let some = c .before .before .before .before .before .before .before .before .before .before .before .before .before .before .before .pre in
+    let s = c .before .before .before .before .before .before .before .before .before .before .before .before .before .before .before in
+    let some = s .pre in
     let d = c .before .before .before .before .distances in
-    let n = length (c .before .before .before .before .before .before .before .before .before .before .before .before .before .before .before .args .vias .now) in
-    let long : length (d .last .1 .1 .1 .0) ≡ n = d .kept .1 .1 .1 .0 ∙ length-take-le n (replicate 1024 0) (vertices-few (c .before .before .before .before .before .before .before .before .before .before .before .before .before .before .before .pre .lists)) in
+    let n = length (s .args .vias .now) in
+    let long : length (d .last .1 .1 .1 .0) ≡ n = d .kept .1 .1 .1 .0 ∙ length-take-le n (replicate 1024 0) (vertices-few (s .pre .lists)) in
     let rest : List ℕ = drop n (replicate 1024 0) in
     let is : take n (d .last .1 .1 .1 .0 ++ rest) ≡ d .last .1 .1 .1 .0 = first-is (d .last .1 .1 .1 .0) rest n long in (
       (vertices-count (some .lists), length-take-le n (replicate 1024 false) (vertices-few (some .lists))),
@@ -46,61 +73,78 @@ mark-loose-requires c κs =
     )
 
 array-borrow-prefix-apart-2 : tie.Need-array-borrow-prefix-apart-2
-array-borrow-prefix-apart-2 c = let d = c .before .before .before .before .before .before .before .distances in let n = length (c .before .before .before .before .before .before .before .before .before .before .before .before .before .before .before .before .before .before .args .vias .now) in first-fit (d .last .1 .1 .1 .0) (drop n (replicate 1024 0)) n (d .kept .1 .1 .1 .0 ∙ length-take-le n (replicate 1024 0) (vertices-few (c .before .before .before .before .before .before .before .before .before .before .before .before .before .before .before .before .before .before .pre .lists)))
+array-borrow-prefix-apart-2 c =
+    let s = c .before .before .before .before .before .before .before .before .before .before .before .before .before .before .before .before .before .before in
+    let d = c .before .before .before .before .before .before .before .distances in
+    let n = length (s .args .vias .now) in
+    first-fit (d .last .1 .1 .1 .0) (drop n (replicate 1024 0)) n (d .kept .1 .1 .1 .0 ∙ length-take-le n (replicate 1024 0) (vertices-few (s .pre .lists)))
 
 slice-aggregate-run-passes : tie.Need-slice-aggregate-run-passes
-slice-aggregate-run-passes c = let d = c .before .before .before .before .before .before .before .before .distances in let n = length (c .before .before .before .before .before .before .before .before .before .before .before .before .before .before .before .before .before .before .before .args .vias .now) in first-count (d .last .1 .1 .1 .0) (drop n (replicate 1024 0)) n (d .kept .1 .1 .1 .0 ∙ length-take-le n (replicate 1024 0) (vertices-few (c .before .before .before .before .before .before .before .before .before .before .before .before .before .before .before .before .before .before .before .pre .lists)))
+slice-aggregate-run-passes c =
+    let s = c .before .before .before .before .before .before .before .before .before .before .before .before .before .before .before .before .before .before .before in
+    let d = c .before .before .before .before .before .before .before .before .distances in
+    let n = length (s .args .vias .now) in
+    first-count (d .last .1 .1 .1 .0) (drop n (replicate 1024 0)) n (d .kept .1 .1 .1 .0 ∙ length-take-le n (replicate 1024 0) (vertices-few (s .pre .lists)))
 
 array-borrow-prefix-marks-2 : tie.Need-array-borrow-prefix-marks-2
-array-borrow-prefix-marks-2 c = let m = c .before .before .before .mark-loose in let n = length (c .before .before .before .before .before .before .before .before .before .before .before .before .before .before .before .before .before .before .before .args .vias .now) in first-fit (m .last .1 .1 .1 .1 .0) (drop n (replicate 1024 false)) n (m .kept .1 .1 .1 .1 .0 ∙ length-take-le n (replicate 1024 false) (vertices-few (c .before .before .before .before .before .before .before .before .before .before .before .before .before .before .before .before .before .before .before .pre .lists)))
+array-borrow-prefix-marks-2 c =
+    let s = c .before .before .before .before .before .before .before .before .before .before .before .before .before .before .before .before .before .before .before in
+    let m = c .before .before .before .mark-loose in
+    let n = length (s .args .vias .now) in
+    first-fit (m .last .1 .1 .1 .1 .0) (drop n (replicate 1024 false)) n (m .kept .1 .1 .1 .1 .0 ∙ length-take-le n (replicate 1024 false) (vertices-few (s .pre .lists)))
 
 slice-aggregate-run-passes-2 : tie.Need-slice-aggregate-run-passes-2
-slice-aggregate-run-passes-2 c = let m = c .before .before .before .before .mark-loose in let n = length (c .before .before .before .before .before .before .before .before .before .before .before .before .before .before .before .before .before .before .before .before .args .vias .now) in first-count (m .last .1 .1 .1 .1 .0) (drop n (replicate 1024 false)) n (m .kept .1 .1 .1 .1 .0 ∙ length-take-le n (replicate 1024 false) (vertices-few (c .before .before .before .before .before .before .before .before .before .before .before .before .before .before .before .before .before .before .before .before .pre .lists)))
+slice-aggregate-run-passes-2 c =
+    let s = c .before .before .before .before .before .before .before .before .before .before .before .before .before .before .before .before .before .before .before .before in
+    let m = c .before .before .before .before .mark-loose in
+    let n = length (s .args .vias .now) in
+    first-count (m .last .1 .1 .1 .1 .0) (drop n (replicate 1024 false)) n (m .kept .1 .1 .1 .1 .0 ∙ length-take-le n (replicate 1024 false) (vertices-few (s .pre .lists)))
 
 run-passes-requires : tie.Need-run-passes-requires
 run-passes-requires c κs =
-    let some = c .before .before .before .before .before .before .before .before .before .before .before .before .before .before .before .before .before .before .before .before .before .before .before .before .before .pre in
+    let s = c .before .before .before .before .before .before .before .before .before .before .before .before .before .before .before .before .before .before .before .before .before .before .before .before .before in
+    let some = s .pre in
     let d = c .before .before .before .before .before .before .before .before .before .before .before .before .before .before .distances in
-    let n = length (c .before .before .before .before .before .before .before .before .before .before .before .before .before .before .before .before .before .before .before .before .before .before .before .before .before .args .vias .now) in
-    let long : length (d .last .1 .1 .1 .0) ≡ n = d .kept .1 .1 .1 .0 ∙ length-take-le n (replicate 1024 0) (vertices-few (c .before .before .before .before .before .before .before .before .before .before .before .before .before .before .before .before .before .before .before .before .before .before .before .before .before .pre .lists)) in
+    let n = length (s .args .vias .now) in
+    let long : length (d .last .1 .1 .1 .0) ≡ n = d .kept .1 .1 .1 .0 ∙ length-take-le n (replicate 1024 0) (vertices-few (s .pre .lists)) in
     let rest : List ℕ = drop n (replicate 1024 0) in
     let is : take n (d .last .1 .1 .1 .0 ++ rest) ≡ d .last .1 .1 .1 .0 = first-is (d .last .1 .1 .1 .0) rest n long in
     let m = c .before .before .before .before .before .before .before .before .before .mark-loose in
-    let marked : length (m .last .1 .1 .1 .1 .0) ≡ n = m .kept .1 .1 .1 .1 .0 ∙ length-take-le n (replicate 1024 false) (vertices-few (c .before .before .before .before .before .before .before .before .before .before .before .before .before .before .before .before .before .before .before .before .before .before .before .before .before .pre .lists)) in
+    let long′ : length (m .last .1 .1 .1 .1 .0) ≡ n = m .kept .1 .1 .1 .1 .0 ∙ length-take-le n (replicate 1024 false) (vertices-few (s .pre .lists)) in
     let others : List Bool = drop n (replicate 1024 false) in
-    let marks-are : take n (m .last .1 .1 .1 .1 .0 ++ others) ≡ m .last .1 .1 .1 .1 .0 = first-is (m .last .1 .1 .1 .1 .0) others n marked in
+    let marks-are : take n (m .last .1 .1 .1 .1 .0 ++ others) ≡ m .last .1 .1 .1 .1 .0 = first-is (m .last .1 .1 .1 .1 .0) others n long′ in
     record { plan = some .plan; is = at-start (some .lists) (λ g h. is ∙ d .ensures (some .plan) g h) (some .preliminaries) (marks-are ∙ m .ensures) (some .unlisted) }
 
 same-length : tie.Need-same-length
-same-length c = c .before .before .before .before .before .before .before .before .before .before .before .before .run-passes .kept .1 .1 .1 .1 .0
+same-length c = passed c .run-passes .kept .1 .1 .1 .1 .0
 
 same-length-2 : tie.Need-same-length-2
-same-length-2 c = c .before .before .before .before .before .before .before .before .before .before .before .before .run-passes .kept .1 .1 .1 .1 .1 .1 .1 .0
+same-length-2 c = passed c .run-passes .kept .1 .1 .1 .1 .1 .1 .1 .0
 
 same-length-3 : tie.Need-same-length-3
-same-length-3 c = c .before .before .before .before .before .before .before .before .before .before .before .before .run-passes .kept .1 .1 .1 .1 .1 .1 .1 .1 .0
+same-length-3 c = passed c .run-passes .kept .1 .1 .1 .1 .1 .1 .1 .1 .0
 
 same-length-4 : tie.Need-same-length-4
-same-length-4 c = c .before .before .before .before .before .before .before .before .before .before .before .before .run-passes .kept .1 .1 .1 .1 .1 .1 .1 .1 .1 .0
+same-length-4 c = passed c .run-passes .kept .1 .1 .1 .1 .1 .1 .1 .1 .1 .0
 
 same-length-5 : tie.Need-same-length-5
-same-length-5 c = c .before .before .before .before .before .before .before .before .before .before .before .before .run-passes .kept .1 .1 .1 .1 .1 .1 .1 .1 .1 .1 .0
+same-length-5 c = passed c .run-passes .kept .1 .1 .1 .1 .1 .1 .1 .1 .1 .1 .0
 
 same-length-6 : tie.Need-same-length-6
-same-length-6 c = c .before .before .before .before .before .before .before .before .before .before .before .before .run-passes .kept .1 .1 .1 .1 .1 .1 .1 .1 .1 .1 .1 .0
+same-length-6 c = passed c .run-passes .kept .1 .1 .1 .1 .1 .1 .1 .1 .1 .1 .1 .0
 
 returns : tie.Need-returns
 returns c =
-    let d = c .before .before .before .before .before .before .before .before .before .before .before .before .before .before .before .before .before .before .before .before .before .before .before .before .before .before .before .distances in
-    let n = length (c .before .before .before .before .before .before .before .before .before .before .before .before .before .before .before .before .before .before .before .before .before .before .before .before .before .before .before .before .before .before .before .before .before .before .before .before .before .before .args .vias .now) in
-    let long : length (d .last .1 .1 .1 .0) ≡ n = d .kept .1 .1 .1 .0 ∙ length-take-le n (replicate 1024 0) (vertices-few (c .before .before .before .before .before .before .before .before .before .before .before .before .before .before .before .before .before .before .before .before .before .before .before .before .before .before .before .before .before .before .before .before .before .before .before .before .before .before .pre .lists)) in
+    let d = measured c .distances in
+    let n = length (entry c .args .vias .now) in
+    let long : length (d .last .1 .1 .1 .0) ≡ n = d .kept .1 .1 .1 .0 ∙ length-take-le n (replicate 1024 0) (vertices-few (entry c .pre .lists)) in
     let rest : List ℕ = drop n (replicate 1024 0) in
     let is : take n (d .last .1 .1 .1 .0 ++ rest) ≡ d .last .1 .1 .1 .0 = first-is (d .last .1 .1 .1 .0) rest n long in
-    let m = c .before .before .before .before .before .before .before .before .before .before .before .before .before .before .before .before .before .before .before .before .before .before .mark-loose in
-    let marked : length (m .last .1 .1 .1 .1 .0) ≡ n = m .kept .1 .1 .1 .1 .0 ∙ length-take-le n (replicate 1024 false) (vertices-few (c .before .before .before .before .before .before .before .before .before .before .before .before .before .before .before .before .before .before .before .before .before .before .before .before .before .before .before .before .before .before .before .before .before .before .before .before .before .before .pre .lists)) in
+    let m = marked c .mark-loose in
+    let long′ : length (m .last .1 .1 .1 .1 .0) ≡ n = m .kept .1 .1 .1 .1 .0 ∙ length-take-le n (replicate 1024 false) (vertices-few (entry c .pre .lists)) in
     let others : List Bool = drop n (replicate 1024 false) in
-    let marks-are : take n (m .last .1 .1 .1 .1 .0 ++ others) ≡ m .last .1 .1 .1 .1 .0 = first-is (m .last .1 .1 .1 .1 .0) others n marked in
-    λ p l a. c .before .before .before .before .before .before .before .before .before .before .before .before .run-passes .ensures p (at-start l (λ g h. is ∙ d .ensures p g h) a (marks-are ∙ m .ensures) (c .before .before .before .before .before .before .before .before .before .before .before .before .before .before .before .before .before .before .before .before .before .before .before .before .before .before .before .before .before .before .before .before .before .before .before .before .before .before .pre .unlisted))
+    let marks-are : take n (m .last .1 .1 .1 .1 .0 ++ others) ≡ m .last .1 .1 .1 .1 .0 = first-is (m .last .1 .1 .1 .1 .0) others n long′ in
+    λ p l a. passed c .run-passes .ensures p (at-start l (λ g h. is ∙ d .ensures p g h) a (marks-are ∙ m .ensures) (entry c .pre .unlisted))
 
 pub three-passes-spec : {M : Type 1} → statement M
 three-passes-spec =

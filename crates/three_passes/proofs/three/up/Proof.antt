@@ -1,15 +1,24 @@
 -- `three_passes::three::up` meets its contract: the rows of the segments by their upper ends are the neighbours of the pass.
-use Prim.Native.Nat.{ℕ, _+_, _≤_}
+use Prim.Native.Nat.{ℕ, _+_}
 use mathlib.Core.Path.{_≡_, refl, sym, _∙_}
-use mathlib.Core.List.{List, _++_}
 use native.Mathlib.Omega.{arith}
 use borrow.Author.Needs.{needs}
-use lib.ListN.{length, take, drop, replicate}
+use lib.ListN.{length, drop, replicate}
 use lib.Seq.{length-take-le}
-use Rattle.positions.proofs.CodePositions.{first-fit, first-is, first-count}
+use Rattle.strands.proofs.FrontLaws.{first-fit, first-is, first-count}
 use Rattle.three_passes.proofs.TurnLaws.{vertices-few, segments-few, sort-below, next-up}
 use Rattle.three_passes.proofs.three.up.Statement.{statement}
 use Rattle.three_passes.proofs.three.up.Tie as tie
+
+-- what is known at the entry and after each call, where the function returns
+abbrev entry : tie.After-positions → tie.Start
+entry c = c .before .before .before .before .before .before .before .before .before .before .before .before .before .before .before .before .before .before .before .before .before .before .before .before .before .before .before .before .before .before .before .before .before .before .before .before .before .before .before .before .before .before .before .before .before .before
+
+abbrev sorted : tie.After-positions → tie.After-rows
+sorted c = c .before .before .before .before .before .before .before .before .before .before .before .before .before .before .before .before .before .before .before .before .before .before .before .before .before .before .before .before .before .before .before .before .before
+
+abbrev passed : tie.After-positions → tie.After-pass-up
+passed c = c .before .before .before .before .before .before .before .before .before .before .before .before .before .before .before .before .before
 
 add-m : tie.Need-add-m
 add-m c = search needs
@@ -18,109 +27,124 @@ array-borrow-prefix-first : tie.Need-array-borrow-prefix-first
 array-borrow-prefix-first c = omega (arith, vertices-few (c .before .before .before .before .before .before .before .before .before .before .pre .is))
 
 slice-aggregate-rows : tie.Need-slice-aggregate-rows
-slice-aggregate-rows c = sym (length-take-le (length (c .before .before .before .before .before .before .before .before .before .before .before .args .vias .now) + 1) (replicate 1025 0) (omega (arith, vertices-few (c .before .before .before .before .before .before .before .before .before .before .before .pre .is))))
+slice-aggregate-rows c =
+    let s = c .before .before .before .before .before .before .before .before .before .before .before in
+    sym (length-take-le (length (s .args .vias .now) + 1) (replicate 1025 0) (omega (arith, vertices-few (s .pre .is))))
 
 array-borrow-prefix-ends : tie.Need-array-borrow-prefix-ends
 array-borrow-prefix-ends c = segments-few (c .before .before .before .before .before .before .before .before .before .before .before .pre .is)
 
 slice-aggregate-rows-2 : tie.Need-slice-aggregate-rows-2
-slice-aggregate-rows-2 c = sym (length-take-le (length (c .before .before .before .before .before .before .before .before .before .before .before .before .args .uppers .now)) (replicate 2048 0) (segments-few (c .before .before .before .before .before .before .before .before .before .before .before .before .pre .is)))
+slice-aggregate-rows-2 c =
+    let s = c .before .before .before .before .before .before .before .before .before .before .before .before in
+    sym (length-take-le (length (s .args .uppers .now)) (replicate 2048 0) (segments-few (s .pre .is)))
 
 rows-requires : tie.Need-rows-requires
 rows-requires c κs = sort-below (c .before .before .before .before .before .before .before .before .before .before .before .before .pre .is)
 
 array-share-prefix-first : tie.Need-array-share-prefix-first
 array-share-prefix-first c =
+    let s = c .before .before .before .before .before .before .before .before .before .before .before .before .before .before .before in
     let r = c .before .before .rows in
-    let n = length (c .before .before .before .before .before .before .before .before .before .before .before .before .before .before .before .args .vias .now) + 1 in
-    first-fit (r .last .1 .1 .0) (drop n (replicate 1025 0)) n (r .kept .1 .1 .0 ∙ length-take-le n (replicate 1025 0) (omega (arith, vertices-few (c .before .before .before .before .before .before .before .before .before .before .before .before .before .before .before .pre .is))))
+    let n = length (s .args .vias .now) + 1 in
+    first-fit (r .last .1 .1 .0) (drop n (replicate 1025 0)) n (r .kept .1 .1 .0 ∙ length-take-le n (replicate 1025 0) (omega (arith, vertices-few (s .pre .is))))
 
 slice-aggregate-pass-up : tie.Need-slice-aggregate-pass-up
 slice-aggregate-pass-up c =
+    let s = c .before .before .before .before .before .before .before .before .before .before .before .before .before .before .before .before in
     let r = c .before .before .before .rows in
-    let n = length (c .before .before .before .before .before .before .before .before .before .before .before .before .before .before .before .before .args .vias .now) + 1 in
-    first-count (r .last .1 .1 .0) (drop n (replicate 1025 0)) n (r .kept .1 .1 .0 ∙ length-take-le n (replicate 1025 0) (omega (arith, vertices-few (c .before .before .before .before .before .before .before .before .before .before .before .before .before .before .before .before .pre .is))))
+    let n = length (s .args .vias .now) + 1 in
+    first-count (r .last .1 .1 .0) (drop n (replicate 1025 0)) n (r .kept .1 .1 .0 ∙ length-take-le n (replicate 1025 0) (omega (arith, vertices-few (s .pre .is))))
 
 array-share-prefix-ends : tie.Need-array-share-prefix-ends
 array-share-prefix-ends c =
+    let s = c .before .before .before .before .before .before .before .before .before .before .before .before .before .before .before .before in
     let r = c .before .before .before .rows in
-    let n = length (c .before .before .before .before .before .before .before .before .before .before .before .before .before .before .before .before .args .uppers .now) in
-    first-fit (r .last .1 .1 .1 .0) (drop n (replicate 2048 0)) n (r .kept .1 .1 .1 .0 ∙ length-take-le n (replicate 2048 0) (segments-few (c .before .before .before .before .before .before .before .before .before .before .before .before .before .before .before .before .pre .is)))
+    let n = length (s .args .uppers .now) in
+    first-fit (r .last .1 .1 .1 .0) (drop n (replicate 2048 0)) n (r .kept .1 .1 .1 .0 ∙ length-take-le n (replicate 2048 0) (segments-few (s .pre .is)))
 
 slice-aggregate-pass-up-2 : tie.Need-slice-aggregate-pass-up-2
 slice-aggregate-pass-up-2 c =
+    let s = c .before .before .before .before .before .before .before .before .before .before .before .before .before .before .before .before .before in
     let r = c .before .before .before .before .rows in
-    let n = length (c .before .before .before .before .before .before .before .before .before .before .before .before .before .before .before .before .before .args .uppers .now) in
-    first-count (r .last .1 .1 .1 .0) (drop n (replicate 2048 0)) n (r .kept .1 .1 .1 .0 ∙ length-take-le n (replicate 2048 0) (segments-few (c .before .before .before .before .before .before .before .before .before .before .before .before .before .before .before .before .before .pre .is)))
+    let n = length (s .args .uppers .now) in
+    first-count (r .last .1 .1 .1 .0) (drop n (replicate 2048 0)) n (r .kept .1 .1 .1 .0 ∙ length-take-le n (replicate 2048 0) (segments-few (s .pre .is)))
 
 array-borrow-prefix-before : tie.Need-array-borrow-prefix-before
 array-borrow-prefix-before c = vertices-few (c .before .before .before .before .before .before .before .before .before .before .before .before .before .before .before .before .before .pre .is)
 
 slice-aggregate-pass-up-3 : tie.Need-slice-aggregate-pass-up-3
-slice-aggregate-pass-up-3 c = sym (length-take-le (length (c .before .before .before .before .before .before .before .before .before .before .before .before .before .before .before .before .before .before .args .vias .now)) (replicate 1024 0) (vertices-few (c .before .before .before .before .before .before .before .before .before .before .before .before .before .before .before .before .before .before .pre .is)))
+slice-aggregate-pass-up-3 c =
+    let s = c .before .before .before .before .before .before .before .before .before .before .before .before .before .before .before .before .before .before in
+    sym (length-take-le (length (s .args .vias .now)) (replicate 1024 0) (vertices-few (s .pre .is)))
 
 array-borrow-prefix-after : tie.Need-array-borrow-prefix-after
 array-borrow-prefix-after c = vertices-few (c .before .before .before .before .before .before .before .before .before .before .before .before .before .before .before .before .before .before .pre .is)
 
 slice-aggregate-pass-up-4 : tie.Need-slice-aggregate-pass-up-4
-slice-aggregate-pass-up-4 c = sym (length-take-le (length (c .before .before .before .before .before .before .before .before .before .before .before .before .before .before .before .before .before .before .before .args .vias .now)) (replicate 1024 0) (vertices-few (c .before .before .before .before .before .before .before .before .before .before .before .before .before .before .before .before .before .before .before .pre .is)))
+slice-aggregate-pass-up-4 c =
+    let s = c .before .before .before .before .before .before .before .before .before .before .before .before .before .before .before .before .before .before .before in
+    sym (length-take-le (length (s .args .vias .now)) (replicate 1024 0) (vertices-few (s .pre .is)))
 
 array-borrow-prefix-counts : tie.Need-array-borrow-prefix-counts
 array-borrow-prefix-counts c = vertices-few (c .before .before .before .before .before .before .before .before .before .before .before .before .before .before .before .before .before .before .before .pre .is)
 
 slice-aggregate-pass-up-5 : tie.Need-slice-aggregate-pass-up-5
-slice-aggregate-pass-up-5 c = sym (length-take-le (length (c .before .before .before .before .before .before .before .before .before .before .before .before .before .before .before .before .before .before .before .before .args .vias .now)) (replicate 1024 0) (vertices-few (c .before .before .before .before .before .before .before .before .before .before .before .before .before .before .before .before .before .before .before .before .pre .is)))
+slice-aggregate-pass-up-5 c =
+    let s = c .before .before .before .before .before .before .before .before .before .before .before .before .before .before .before .before .before .before .before .before in
+    sym (length-take-le (length (s .args .vias .now)) (replicate 1024 0) (vertices-few (s .pre .is)))
 
 pass-up-requires : tie.Need-pass-up-requires
 pass-up-requires c κs =
-    let some = c .before .before .before .before .before .before .before .before .before .before .before .before .before .before .before .before .before .before .before .before .before .before .before .before .before .before .before .before .pre in
-    let a = c .before .before .before .before .before .before .before .before .before .before .before .before .before .before .before .before .before .before .before .before .before .before .before .before .before .before .before .before .args in
-    let few = vertices-few (c .before .before .before .before .before .before .before .before .before .before .before .before .before .before .before .before .before .before .before .before .before .before .before .before .before .before .before .before .pre .is) in
+    let s = c .before .before .before .before .before .before .before .before .before .before .before .before .before .before .before .before .before .before .before .before .before .before .before .before .before .before .before .before in
+    let some = s .pre in
+    let a = s .args in
+    let few = vertices-few (s .pre .is) in
     let r = c .before .before .before .before .before .before .before .before .before .before .before .before .before .before .before .rows in
     let n = length (a .vias .now) in
     let m = n + 1 in
     let e = length (a .uppers .now) in
     let long : length (r .last .1 .1 .0) ≡ m = r .kept .1 .1 .0 ∙ length-take-le m (replicate 1025 0) (omega arith) in
-    let all : length (r .last .1 .1 .1 .0) ≡ e = r .kept .1 .1 .1 .0 ∙ length-take-le e (replicate 2048 0) (segments-few (c .before .before .before .before .before .before .before .before .before .before .before .before .before .before .before .before .before .before .before .before .before .before .before .before .before .before .before .before .pre .is)) in
+    let all : length (r .last .1 .1 .1 .0) ≡ e = r .kept .1 .1 .1 .0 ∙ length-take-le e (replicate 2048 0) (segments-few (s .pre .is)) in
     let room = length-take-le {A = ℕ} n (replicate 1024 0) few in
     record { plan = some .plan; past = some .past; coming = some .coming; is = next-up (some .is) {first = r .last .1 .1 .0} {ends = r .last .1 .1 .1 .0} long all (first-is (r .last .1 .1 .0) (drop m (replicate 1025 0)) m long) (first-is (r .last .1 .1 .1 .0) (drop e (replicate 2048 0)) e all) room room room refl (r .ensures); written = some .written }
 
 same-length : tie.Need-same-length
-same-length c = c .before .before .before .before .before .before .before .before .before .before .before .before .before .before .before .before .before .pass-up .kept .1 .1 .1 .1 .1 .1 .1 .0
+same-length c = passed c .pass-up .kept .1 .1 .1 .1 .1 .1 .1 .0
 
 same-length-2 : tie.Need-same-length-2
-same-length-2 c = c .before .before .before .before .before .before .before .before .before .before .before .before .before .before .before .before .before .pass-up .kept .1 .1 .1 .1 .1 .1 .1 .1 .0
+same-length-2 c = passed c .pass-up .kept .1 .1 .1 .1 .1 .1 .1 .1 .0
 
 same-length-3 : tie.Need-same-length-3
-same-length-3 c = c .before .before .before .before .before .before .before .before .before .before .before .before .before .before .before .before .before .pass-up .kept .1 .1 .1 .1 .1 .1 .1 .1 .1 .0
+same-length-3 c = passed c .pass-up .kept .1 .1 .1 .1 .1 .1 .1 .1 .1 .0
 
 same-length-4 : tie.Need-same-length-4
-same-length-4 c = c .before .before .before .before .before .before .before .before .before .before .before .before .before .before .before .before .before .pass-up .kept .1 .1 .1 .1 .1 .1 .1 .1 .1 .1 .1 .0
+same-length-4 c = passed c .pass-up .kept .1 .1 .1 .1 .1 .1 .1 .1 .1 .1 .1 .0
 
 same-length-5 : tie.Need-same-length-5
-same-length-5 c = c .before .before .before .before .before .before .before .before .before .before .before .before .before .before .before .before .before .pass-up .kept .1 .1 .1 .1 .1 .1 .1 .1 .1 .1 .1 .1 .0
+same-length-5 c = passed c .pass-up .kept .1 .1 .1 .1 .1 .1 .1 .1 .1 .1 .1 .1 .0
 
 same-length-6 : tie.Need-same-length-6
-same-length-6 c = c .before .before .before .before .before .before .before .before .before .before .before .before .before .before .before .before .before .pass-up .kept .1 .1 .1 .1 .1 .1 .1 .1 .1 .1 .1 .1 .1 .0
+same-length-6 c = passed c .pass-up .kept .1 .1 .1 .1 .1 .1 .1 .1 .1 .1 .1 .1 .1 .0
 
 same-length-7 : tie.Need-same-length-7
-same-length-7 c = c .before .before .before .before .before .before .before .before .before .before .before .before .before .before .before .before .before .pass-up .kept .1 .1 .1 .1 .1 .1 .1 .1 .1 .1 .1 .1 .1 .1 .0
+same-length-7 c = passed c .pass-up .kept .1 .1 .1 .1 .1 .1 .1 .1 .1 .1 .1 .1 .1 .1 .0
 
 same-length-8 : tie.Need-same-length-8
-same-length-8 c = c .before .before .before .before .before .before .before .before .before .before .before .before .before .before .before .before .before .pass-up .kept .1 .1 .1 .1 .1 .1 .1 .1 .1 .1 .1 .1 .1 .1 .1 .0
+same-length-8 c = passed c .pass-up .kept .1 .1 .1 .1 .1 .1 .1 .1 .1 .1 .1 .1 .1 .1 .1 .0
 
 returns : tie.Need-returns
 returns c =
-    let a = c .before .before .before .before .before .before .before .before .before .before .before .before .before .before .before .before .before .before .before .before .before .before .before .before .before .before .before .before .before .before .before .before .before .before .before .before .before .before .before .before .before .before .before .before .before .before .args in
-    let few = vertices-few (c .before .before .before .before .before .before .before .before .before .before .before .before .before .before .before .before .before .before .before .before .before .before .before .before .before .before .before .before .before .before .before .before .before .before .before .before .before .before .before .before .before .before .before .before .before .before .pre .is) in
-    let r = c .before .before .before .before .before .before .before .before .before .before .before .before .before .before .before .before .before .before .before .before .before .before .before .before .before .before .before .before .before .before .before .before .before .rows in
+    let a = entry c .args in
+    let few = vertices-few (entry c .pre .is) in
+    let r = sorted c .rows in
     let n = length (a .vias .now) in
     let m = n + 1 in
     let e = length (a .uppers .now) in
     let long : length (r .last .1 .1 .0) ≡ m = r .kept .1 .1 .0 ∙ length-take-le m (replicate 1025 0) (omega arith) in
-    let all : length (r .last .1 .1 .1 .0) ≡ e = r .kept .1 .1 .1 .0 ∙ length-take-le e (replicate 2048 0) (segments-few (c .before .before .before .before .before .before .before .before .before .before .before .before .before .before .before .before .before .before .before .before .before .before .before .before .before .before .before .before .before .before .before .before .before .before .before .before .before .before .before .before .before .before .before .before .before .before .pre .is)) in
+    let all : length (r .last .1 .1 .1 .0) ≡ e = r .kept .1 .1 .1 .0 ∙ length-take-le e (replicate 2048 0) (segments-few (entry c .pre .is)) in
     let room = length-take-le {A = ℕ} n (replicate 1024 0) few in
-    λ p past coming k w. c .before .before .before .before .before .before .before .before .before .before .before .before .before .before .before .before .before .pass-up .ensures p past coming (next-up k {first = r .last .1 .1 .0} {ends = r .last .1 .1 .1 .0} long all (first-is (r .last .1 .1 .0) (drop m (replicate 1025 0)) m long) (first-is (r .last .1 .1 .1 .0) (drop e (replicate 2048 0)) e all) room room room refl (r .ensures)) w
+    λ p past coming k w. passed c .pass-up .ensures p past coming (next-up k {first = r .last .1 .1 .0} {ends = r .last .1 .1 .1 .0} long all (first-is (r .last .1 .1 .0) (drop m (replicate 1025 0)) m long) (first-is (r .last .1 .1 .1 .0) (drop e (replicate 2048 0)) e all) room room room refl (r .ensures)) w
 
 pub up-spec : {M : Type 1} → statement M
 up-spec =

@@ -1,3 +1,4 @@
+-- `writing::again::refuse` meets its contract: the line has at most 21 bytes.
 use Rattle.writing.proofs.AgainLaws.{refused-short}
 use Rattle.writing.proofs.Written.{room-after, wrote-long, and-then, and-both, front-of}
 use Rattle.writing.specs.Again.{refusedLine}
@@ -6,14 +7,10 @@ use Rattle.text.specs.Bytes.{bytes}
 use lib.ListN.{length-append}
 use mathlib.Core.List.{_++_}
 use native.Mathlib.Omega.{arith}
-use mathlib.Core.Path.{_≡_, refl, sym, _∙_}
+use mathlib.Core.Path.{refl}
 use borrow.Author.Needs.{needs}
 use Rattle.writing.proofs.again.refuse.Statement.{statement}
 use Rattle.writing.proofs.again.refuse.Tie as tie
-use Rattle.writing.proofs.again.refuse.Reads as reads
-use Rattle.writing.proofs.again.refuse.Lts as lts
-use Rattle.writing.proofs.number.put_then.Reads as put-then-reads
-use Rattle.writing.proofs.number.put_word.Reads as put-word-reads
 
 slice-aggregate-put-word : tie.Need-slice-aggregate-put-word
 slice-aggregate-put-word c = refl

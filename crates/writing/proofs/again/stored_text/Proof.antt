@@ -1,15 +1,12 @@
+-- `writing::again::stored_text` meets its contract: the parts lent are the plan's data.
 use Rattle.writing.proofs.AgainLaws.{StoredPlan, stored-of}
 use lib.Seq.{length-take-le}
 use lib.ListN.{length}
 use borrow.Author.Needs.{needs}
 use native.Mathlib.Omega.{arith}
-use mathlib.Core.Path.{_≡_, refl, sym, _∙_}
+use mathlib.Core.Path.{_≡_, sym}
 use Rattle.writing.proofs.again.stored_text.Statement.{statement}
 use Rattle.writing.proofs.again.stored_text.Tie as tie
-use Rattle.writing.proofs.again.stored_text.Reads as reads
-use Rattle.writing.proofs.again.stored_text.Lts as lts
-use Rattle.writing.proofs.again.level_count.Reads as level-count-reads
-use Rattle.writing.proofs.lines.text.Reads as text-reads
 
 stored : (c : tie.Start) → StoredPlan (c .args .plan) (c .args .vertices) (c .args .segments)
 stored c = stored-of (c .args .plan) (c .args .vertices) (c .args .segments) (c .pre .0)
@@ -63,7 +60,10 @@ slice-aggregate-text-5 : tie.Need-slice-aggregate-text-5
 slice-aggregate-text-5 c = sym (length-take-le _ _ (omega (arith, long-lowers (c .before .before .before .before .before .before .before .before .before .before .before .before), stored (c .before .before .before .before .before .before .before .before .before .before .before .before) .segments)))
 
 text-requires : tie.Need-text-requires
-text-requires c κs = (rw (c .before .before .before .before .before .before .before .before .before .before .before .level-count .ensures) (stored (c .before .before .before .before .before .before .before .before .before .before .before .before .before) .plan), c .before .before .before .before .before .before .before .before .before .before .before .before .before .pre .1)
+text-requires c κs =
+    let k = c .before .before .before .before .before .before .before .before .before .before .before .level-count .ensures in
+    let s = c .before .before .before .before .before .before .before .before .before .before .before .before .before in
+    (rw k (stored s .plan), rw k (s .pre .1))
 
 same-length : tie.Need-same-length
 same-length c = c .before .before .text .kept .1 .1 .1 .1 .1 .1 .1 .1 .0

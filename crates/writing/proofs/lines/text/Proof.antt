@@ -10,12 +10,9 @@ use Rattle.ints.specs.Lists.{concat}
 use lib.ListN.{length, take}
 use Prim.Native.Nat.{_+_, _-_, _≤_}
 use native.Mathlib.Omega.{arith}
-use mathlib.Core.Path.{_≡_, refl, sym, _∙_}
+use mathlib.Core.Path.{_≡_, refl, _∙_}
 use Rattle.writing.proofs.lines.text.Statement.{statement}
 use Rattle.writing.proofs.lines.text.Tie as tie
-use Rattle.writing.proofs.lines.text.Reads as reads
-use Rattle.writing.proofs.lines.text.Lts as lts
-use Rattle.writing.proofs.lines.put_line.Reads as put-line-reads
 
 abbrev Inv-loop : tie.InvT-loop
 Inv-loop levels gap spacing sizes vias halves uppers lowers out₀ lines at₀ n₀ out at n = (n ≤ lines) × (length out ≡ length out₀) × Wrote (concat (take n (linesOf (dataOf levels gap spacing sizes vias halves uppers lowers)))) out₀ 0 at out
@@ -57,7 +54,7 @@ same-length : tie.Need-same-length Inv-loop μ-loop
 same-length c = c .before .loop .inv .1
 
 returns : tie.Need-returns Inv-loop μ-loop
-returns c = text-all (plan (c .before .before .before .before .before .before .before .before)) (c .before .loop .n) (c .before .before .before .before .before .before .before .before .pre .0) (c .before .before .before .before .before .before .before .before .pre .1) (omega (arith, count (c .before .before .before .before .before .before .before .before), c .loop-test .left)) (c .before .loop .inv .2)
+returns c = text-all (plan (c .before .before .before .before .before .before .before .before)) (c .before .loop .n) (c .before .before .before .before .before .before .before .before .pre .1) (omega (arith, count (c .before .before .before .before .before .before .before .before), c .loop-test .left)) (c .before .loop .inv .2)
 
 pub text-spec : {M : Type 1} → statement M
 text-spec =

@@ -1,0 +1,48 @@
+-- `shifting::keys::gap_key` meets its contract: its tests are those of `gapKey`.
+use borrow.Author.Tests.{lt-ltb, le-ltb, eq-eqb, ne-eqb}
+use borrow.Author.Needs.{needs}
+use Rattle.shifting.proofs.keys.gap_key.Statement.{statement}
+use Rattle.shifting.proofs.keys.gap_key.Tie as tie
+use Rattle.shifting.proofs.keys.gap_key.Reads as reads
+use Rattle.shifting.proofs.keys.gap_key.Lts as lts
+
+returns : tie.Need-returns
+returns c = rw (le-ltb _ _ (c .if1 .taken))
+
+mul-if2 : tie.Need-mul-if2
+mul-if2 c = search needs
+
+shared-slice-read-if2 : tie.Need-shared-slice-read-if2
+shared-slice-read-if2 c = search needs
+
+mul-if2-2 : tie.Need-mul-if2-2
+mul-if2-2 c = search needs
+
+shared-slice-read-if2-2 : tie.Need-shared-slice-read-if2-2
+shared-slice-read-if2-2 c = search needs
+
+returns-2 : tie.Need-returns-2
+returns-2 c = rw (lt-ltb _ _ (c .before .before .before .if1 .left), eq-eqb _ _ (c .if2 .taken))
+
+mul-result : tie.Need-mul-result
+mul-result c = search needs
+
+shared-slice-read-result : tie.Need-shared-slice-read-result
+shared-slice-read-result c = search needs
+
+returns-3 : tie.Need-returns-3
+returns-3 c = rw (lt-ltb _ _ (c .before .before .before .before .if1 .left), ne-eqb _ _ (c .before .if2 .left))
+
+pub gap-key-spec : {M : Type 1} → statement M
+gap-key-spec =
+    tie.close
+    (tie.spec
+    returns
+    mul-if2
+    shared-slice-read-if2
+    mul-if2-2
+    shared-slice-read-if2-2
+    returns-2
+    mul-result
+    shared-slice-read-result
+    returns-3)

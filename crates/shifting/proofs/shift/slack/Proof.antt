@@ -1,0 +1,86 @@
+-- `shifting::shift::slack` meets its contract: by the sizes nothing leaves an i64.
+use native.Mathlib.Omega.{arith}
+use lib.ListN.{getD}
+use lib.IntN.{pos, _-ℤ_}
+use Rattle.ints.proofs.Laws.{back′, dif}
+use mathlib.Core.Path.{_≡_, _∙_}
+use borrow.Author.Needs.{needs}
+use Rattle.shifting.proofs.shift.slack.Statement.{statement}
+use Rattle.shifting.proofs.shift.slack.Tie as tie
+use Rattle.shifting.proofs.shift.slack.Reads as reads
+use Rattle.shifting.proofs.shift.slack.Lts as lts
+use Rattle.ints.proofs.difference.Reads as difference-reads
+use Rattle.ints.proofs.minus.Reads as minus-reads
+use Rattle.strands.proofs.links.wide.Reads as wide-reads
+
+mul-wide : tie.Need-mul-wide
+mul-wide c = search needs
+
+shared-slice-read-wide : tie.Need-shared-slice-read-wide
+shared-slice-read-wide c = search needs
+
+wide-requires : tie.Need-wide-requires
+wide-requires c κs = search needs
+
+add-apart : tie.Need-add-apart
+add-apart c = omega (arith, c .before .shared-slice-known2 .given (c .before .before .before .args .v), c .before .before .before .pre .0, c .wide .ensures)
+
+mul-wide-2 : tie.Need-mul-wide-2
+mul-wide-2 c = search needs
+
+shared-slice-read-wide-2 : tie.Need-shared-slice-read-wide-2
+shared-slice-read-wide-2 c = search needs
+
+wide-requires-2 : tie.Need-wide-requires-2
+wide-requires-2 c κs = search needs
+
+add-apart-2 : tie.Need-add-apart-2
+add-apart-2 c = omega (arith, c .before .before .before .shared-slice-known2 .given (c .before .before .before .before .before .args .v), c .before .shared-slice-known3 .given (c .before .before .before .before .before .args .w), c .before .before .before .before .before .pre .0, c .before .before .wide .ensures, c .wide2 .ensures)
+
+mul-difference : tie.Need-mul-difference
+mul-difference c = search needs
+
+shared-slice-copy-out-difference : tie.Need-shared-slice-copy-out-difference
+shared-slice-copy-out-difference c = search needs
+
+mul-difference-2 : tie.Need-mul-difference-2
+mul-difference-2 c = search needs
+
+shared-slice-copy-out-difference-2 : tie.Need-shared-slice-copy-out-difference-2
+shared-slice-copy-out-difference-2 c = search needs
+
+difference-requires : tie.Need-difference-requires
+difference-requires c κs = let a = c .before .before .before .before .before .before .before .args in let p = c .before .before .before .before .before .before .before .pre .4 in simp (back′ (getD (a .xs .now) (a .w) (pos 0)) (c .before .difference-arg .given), back′ (getD (a .xs .now) (a .v) (pos 0)) (c .difference-arg2 .given)) (omega (arith, p .each (a .w), p .each (a .v)))
+
+minus-requires : tie.Need-minus-requires
+minus-requires c κs =
+    let a = c .before .before .before .before .before .before .before .before .args in
+    let p = c .before .before .before .before .before .before .before .before .pre .4 in
+    let q = simp (back′ (getD (a .xs .now) (a .w) (pos 0)) (c .before .before .difference-arg .given), back′ (getD (a .xs .now) (a .v) (pos 0)) (c .before .difference-arg2 .given)) at (c .difference .ensures) in
+    rw (back′ (c .difference .result) (c .difference .ok), q) (omega (arith, dif (getD (a .xs .now) (a .w) (pos 0)) (getD (a .xs .now) (a .v) (pos 0)), p .each (a .w), p .each (a .v), c .before .before .before .before .before .before .shared-slice-known2 .given (a .v), c .before .before .before .before .shared-slice-known3 .given (a .w), c .before .before .before .before .before .before .before .before .pre .0, c .before .before .before .before .before .wide .ensures, c .before .before .before .wide2 .ensures))
+
+returns : tie.Need-returns
+returns c =
+    let a = c .before .before .before .before .before .before .before .before .before .args in
+    let q = simp (back′ (getD (a .xs .now) (a .w) (pos 0)) (c .before .before .before .difference-arg .given), back′ (getD (a .xs .now) (a .v) (pos 0)) (c .before .before .difference-arg2 .given)) at (c .before .difference .ensures) in
+    back′ (c .minus .result) (c .minus .ok) ∙ rw (back′ (c .before .difference .result) (c .before .difference .ok), q, c .before .before .before .before .before .before .wide .ensures, c .before .before .before .before .wide2 .ensures) at (c .minus .ensures)
+
+pub slack-spec : {M : Type 1} → statement M
+slack-spec =
+    tie.close
+    (tie.spec
+    mul-wide
+    shared-slice-read-wide
+    wide-requires
+    add-apart
+    mul-wide-2
+    shared-slice-read-wide-2
+    wide-requires-2
+    add-apart-2
+    mul-difference
+    shared-slice-copy-out-difference
+    mul-difference-2
+    shared-slice-copy-out-difference-2
+    difference-requires
+    minus-requires
+    returns)

@@ -1,0 +1,4 @@
+// Shifting classes of strands.
+mod keys;
+mod middle;
+pub mod shift;

@@ -1,0 +1,67 @@
+// Of a list of offsets: the least, and the ⌈s/2⌉-th smallest.
+use ints::plus;
+ghost use mathlib.Core.Path.{_≡_};
+ghost use Prim.Native.Nat.{ℕ, _+_, _≤_, _<_};
+ghost use lib.ListN.{length, getD};
+ghost use lib.IntN.{ℤ, pos};
+ghost use Rattle.preliminary.specs.Shift as shift;
+ghost use Rattle.shifting.specs.Counts.{countTo, SizedTo};
+
+// The least of a list that has one.
+pub fn least(xs: &[i64]) -> i64
+    requires { ⌜ 0 < length (now xs) ⌝ }
+    ensures { λ r. ⌜ ((other : ℤ) → r ≡ shift.leastOr other (now (xs .entry))) ⌝ }
+{
+    let mut best: usize = 0;
+    let mut i: usize = 1;
+    while i < xs.len() {
+        if xs[i] < xs[best] {
+            best = i;
+        }
+        i += 1;
+    }
+    xs[best]
+}
+
+// How many do not exceed z.
+fn count_to(z: i64, xs: &[i64]) -> usize
+    ensures { λ r. ⌜ r ≡ countTo z (now (xs .entry)) ⌝ }
+{
+    let mut count: usize = 0;
+    let mut i: usize = 0;
+    while i < xs.len() {
+        if xs[i] <= z {
+            count += 1;
+        }
+        i += 1;
+    }
+    count
+}
+
+// No offset is below this.
+const FLOOR: i64 = -268435456;
+
+// How far above it none goes.
+const SPAN: u64 = 536870912;
+
+// The ⌈s/2⌉-th smallest, 0 if there is none: the least number that at least so many do not exceed.
+pub fn middle(xs: &[i64]) -> i64
+    requires { ⌜ SizedTo 268435456 (now xs) ⌝ }
+    ensures { λ r. ⌜ r ≡ shift.middle (now (xs .entry)) ⌝ }
+{
+    if xs.len() == 0 {
+        return 0;
+    }
+    let enough = (xs.len() + 1) / 2;
+    let mut low: u64 = 0;
+    let mut high: u64 = SPAN;
+    while low < high {
+        let mid = (low + high) / 2;
+        if count_to(plus(FLOOR, mid), xs) < enough {
+            low = mid + 1;
+        } else {
+            high = mid;
+        }
+    }
+    plus(FLOOR, low)
+}

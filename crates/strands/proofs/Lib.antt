@@ -1,0 +1,4 @@
+pub mod ChainLaws
+pub mod StrandLaws
+pub mod InnerLaws
+pub mod FrontLaws

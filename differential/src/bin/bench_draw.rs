@@ -1,0 +1,76 @@
+//! How long the proved draw takes from text to final positions, beside the reference, in one process: ratios, with absolute
+//! times beside them.
+
+use differential::proved_draw;
+use reference::{generate, passes, text};
+use std::fs;
+use std::hint::black_box;
+use std::path::Path;
+use std::time::Instant;
+
+const ROUNDS: usize = 21;
+
+/// Seconds that one call takes, over calls enough to be measured.
+fn seconds(calls: usize, mut call: impl FnMut()) -> f64 {
+    let began = Instant::now();
+    for _ in 0..calls {
+        call();
+    }
+    began.elapsed().as_secs_f64() / calls as f64
+}
+
+fn median(mut values: Vec<f64>) -> f64 {
+    values.sort_by(f64::total_cmp);
+    values[values.len() / 2]
+}
+
+/// Both from the same text to final positions.
+fn measure(name: &str, plan_text: &[u8]) {
+    let plan = text::read(plan_text).expect("an acceptable plan");
+    let vertices = plan.vertices();
+    let mut out = vec![0; 2 * vertices];
+    let calls = 20_000 / (vertices + 10) + 1;
+    let (mut proved_times, mut reference_times) = (Vec::new(), Vec::new());
+    for _ in 0..ROUNDS {
+        proved_times.push(seconds(calls, || {
+            black_box(proved_draw::draw(black_box(plan_text), &mut out));
+        }));
+        reference_times.push(seconds(calls, || {
+            let plan = text::read(black_box(plan_text)).expect("an acceptable plan");
+            black_box(passes::draw(&plan));
+        }));
+    }
+    assert_eq!(out[vertices..], passes::draw(&plan).position);
+    let (a, b) = (median(proved_times), median(reference_times));
+    println!(
+        "draw {name:14} V={vertices:4} E={:4}  proved {:9.1} us  reference {:9.1} us  ratio {:.2}",
+        plan.segments().len(),
+        a * 1e6,
+        b * 1e6,
+        a / b
+    );
+}
+
+/// The first random plan of the kind with about that many vertices.
+fn about(kind: &str, vertices: usize) -> Option<Vec<u8>> {
+    let near = |plan_text: &Vec<u8>| text::read(plan_text).is_ok_and(|plan| plan.vertices().abs_diff(vertices) <= vertices / 50);
+    (0..5_000).filter_map(|seed| generate::generate(kind, seed)).find(near)
+}
+
+fn main() {
+    for vertices in [100, 300, 1_000] {
+        for kind in ["medium", "vias", "wide", "deep", "max"] {
+            if let Some(plan_text) = about(kind, vertices) {
+                measure(&format!("{kind} {vertices}"), &plan_text);
+            }
+        }
+    }
+    let folder = Path::new(env!("CARGO_MANIFEST_DIR")).join("../reference/tests/vectors");
+    for name in [
+        "max-1", "max-2", "max-3", "far", "longest", "staircase", "stairs-1", "stairs-2", "stairs-3", "stairs-4", "zigzag",
+        "chains-1", "chains-2", "chains-4", "chains-6", "wide-1", "wide-2", "wide-3", "deep-1", "deep-2", "deep-3", "deep-4",
+    ] {
+        let plan_text = fs::read(folder.join(name).with_extension("plan")).expect("a vector");
+        measure(name, &plan_text);
+    }
+}

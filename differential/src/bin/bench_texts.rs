@@ -1,0 +1,62 @@
+//! How long the proved reader takes on a plan text, beside the reference, in one process: ratios, with absolute times beside them.
+
+use differential::proved;
+use reference::generate::generate;
+use reference::text;
+use std::hint::black_box;
+use std::time::Instant;
+
+const ROUNDS: usize = 41;
+
+/// Seconds that one call takes, over calls enough to be measured.
+fn seconds(calls: usize, mut call: impl FnMut()) -> f64 {
+    let began = Instant::now();
+    for _ in 0..calls {
+        call();
+    }
+    began.elapsed().as_secs_f64() / calls as f64
+}
+
+fn median(mut values: Vec<f64>) -> f64 {
+    values.sort_by(f64::total_cmp);
+    values[values.len() / 2]
+}
+
+/// The proved reader against the reference's, and the same with the text written again.
+fn plan_text(name: &str, bytes: &[u8]) {
+    let mut out = vec![0; bytes.len()];
+    // Rounds so short that other work on the machine falls into few of them.
+    let calls = 200_000 / bytes.len() + 1;
+    let mut times = [Vec::new(), Vec::new(), Vec::new(), Vec::new()];
+    for _ in 0..20 * ROUNDS {
+        times[0].push(seconds(calls, || assert_eq!(black_box(proved::read(black_box(bytes))), 0)));
+        times[1].push(seconds(calls, || assert!(black_box(text::read(black_box(bytes))).is_ok())));
+        times[2].push(seconds(calls, || assert!(black_box(proved::reread(black_box(bytes), &mut out)).is_ok())));
+        times[3].push(seconds(calls, || {
+            black_box(text::read(black_box(bytes)).map(|plan| text::write(&plan)).expect("an acceptable plan"));
+        }));
+    }
+    assert_eq!(out, bytes);
+    let times = times.map(median);
+    for (what, proved, reference) in [("read", times[0], times[1]), ("reread", times[2], times[3])] {
+        let (length, ratio) = (bytes.len(), proved / reference);
+        println!(
+            "{what:6} {name:7} {length:5} bytes  proved {:7.2} us  reference {:7.2} us  ratio {ratio:.2}",
+            proved * 1e6,
+            reference * 1e6
+        );
+    }
+}
+
+fn main() {
+    let large = [
+        ("longest", include_bytes!("../../../reference/tests/vectors/longest.plan").to_vec()),
+        ("max 0", generate("max", 0).expect("a kind")),
+        ("max 1", generate("max", 1).expect("a kind")),
+        ("max 2", generate("max", 2).expect("a kind")),
+    ];
+    for (name, bytes) in large {
+        plan_text(name, &bytes);
+    }
+    plan_text("case 1", include_bytes!("../../../reference/tests/vectors/case-1.plan"));
+}

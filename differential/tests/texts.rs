@@ -1,0 +1,80 @@
+//! The proved reader and writer of plan texts against the reference's, on texts at the edges and on random ones.
+
+use differential::proved;
+use reference::edges::edges;
+use reference::generate::generate;
+use reference::text;
+
+/// What stands in a buffer before it is lent.
+const OLD: u8 = 0xaa;
+
+/// The number of a buffer that is too short.
+const SHORT: u32 = 14;
+
+/// How many bytes the buffer has beyond the text.
+const BEYOND: usize = 24;
+
+/// Compares on one text; the number of its refusal, 0 if it is accepted.
+fn compare(name: &str, bytes: &[u8]) -> usize {
+    let expected = text::read(bytes).map(|plan| text::write(&plan));
+    let number = expected.as_ref().err().copied().unwrap_or(0);
+    assert_eq!(proved::read(bytes), number, "{name}");
+    let mut out = vec![OLD; bytes.len() + BEYOND];
+    let answer = proved::reread(bytes, &mut out);
+    let written = expected.clone().unwrap_or_default();
+    assert_eq!(answer, expected.as_ref().map(Vec::len).map_err(|&number| number), "{name}");
+    assert_eq!(out[..written.len()], written, "{name}");
+    assert!(out[written.len()..].iter().all(|&byte| byte == OLD), "{name}");
+    if expected.is_ok() {
+        let mut short = vec![OLD; written.len() - 1];
+        assert_eq!(proved::reread(bytes, &mut short), Err(SHORT), "{name}");
+        assert!(short.iter().all(|&byte| byte == OLD), "{name}");
+        assert_eq!(proved::reread(bytes, &mut out[..written.len()]), Ok(written.len()), "{name}");
+    }
+    number as usize
+}
+
+/// Compares on as many texts of a kind; how many were accepted, and refused with 1 to 6.
+fn compare_kind(kind: &str, times: u64) -> [u64; 7] {
+    let mut outcomes = [0; 7];
+    for seed in 0..times {
+        outcomes[compare(&format!("{kind} {seed}"), &generate(kind, seed).expect("a kind"))] += 1;
+    }
+    println!("{kind}: {times} texts, accepted and refused with 1 to 6: {outcomes:?}");
+    outcomes
+}
+
+#[test]
+fn at_the_edges() {
+    for edge in edges() {
+        assert_eq!(compare(&edge.name, &edge.text), edge.refusal as usize, "{}", edge.name);
+    }
+}
+
+#[test]
+fn damaged_texts() {
+    let outcomes = compare_kind("damaged", 100_000);
+    assert!(outcomes.iter().all(|&count| count > 1_000));
+}
+
+#[test]
+fn tangled_texts() {
+    let [accepted, .., crossing] = compare_kind("tangled", 20_000);
+    assert!(accepted > 1_000 && crossing > 1_000);
+}
+
+#[test]
+fn accepted_texts() {
+    let kinds =
+        [("small", 20_000), ("medium", 10_000), ("wide", 2_000), ("deep", 2_000), ("vias", 5_000), ("max", 300)];
+    for (kind, times) in kinds {
+        assert_eq!(compare_kind(kind, times)[0], times);
+    }
+}
+
+#[test]
+fn empty_buffer() {
+    let plan = b"(plan 1 1 1)\n(level (box 1))\n(end)\n";
+    assert_eq!(proved::reread(plan, &mut []), Err(SHORT));
+    assert_eq!(proved::reread(b"", &mut []), Err(1));
+}
