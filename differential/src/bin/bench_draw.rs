@@ -51,19 +51,20 @@ fn measure(name: &str, plan_text: &[u8]) {
     );
 }
 
-/// The first random plan of the kind with about that many vertices.
-fn about(kind: &str, vertices: usize) -> Option<Vec<u8>> {
-    let near = |plan_text: &Vec<u8>| text::read(plan_text).is_ok_and(|plan| plan.vertices().abs_diff(vertices) <= vertices / 50);
-    (0..5_000).filter_map(|seed| generate::generate(kind, seed)).find(near)
+/// The first random plan of the kind that has this many vertices, give or take one in twenty.
+fn about(kind: &str, vertices: usize) -> Vec<u8> {
+    let is_near = |plan_text: &Vec<u8>| {
+        text::read(plan_text).is_ok_and(|plan| plan.vertices().abs_diff(vertices) <= vertices / 20)
+    };
+    let mut texts = (0..).map(|seed| generate::generate(kind, seed).expect("a kind"));
+    texts.find(is_near).expect("a plan")
 }
 
 fn main() {
-    for vertices in [100, 300, 1_000] {
-        for kind in ["medium", "vias", "wide", "deep", "max"] {
-            if let Some(plan_text) = about(kind, vertices) {
-                measure(&format!("{kind} {vertices}"), &plan_text);
-            }
-        }
+    for (kind, vertices) in
+        [("medium", 100), ("vias", 100), ("wide", 100), ("deep", 100), ("wide", 300), ("deep", 300), ("max", 1_000)]
+    {
+        measure(&format!("{kind} {vertices}"), &about(kind, vertices));
     }
     let folder = Path::new(env!("CARGO_MANIFEST_DIR")).join("../reference/tests/vectors");
     for name in [

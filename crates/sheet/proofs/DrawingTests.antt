@@ -1,0 +1,73 @@
+-- 13 of the drawing, as the program tests it.
+use mathlib.Core.Path.{_≡_, sym, _∙_}
+use mathlib.Core.Bool.{Bool, true, false, _&&_}
+use Prim.Native.Nat.{ℕ, _≤_, _<_}
+use native.Mathlib.Omega.{arith}
+use borrow.Author.Tests.{le-leb, lt-leb}
+use lib.ListN.{length, take}
+use lib.Seq.{length-take-le}
+use Rattle.ints.specs.Lists.{sum}
+use Rattle.plan.specs.Stored.{planData}
+use Rattle.plan.specs.declared.data.Plan.{Plan}
+use Rattle.passes.specs.Words.{maxListed}
+use Rattle.validity.specs.Stored.{isStoredDrawing, OfPlan, StoredLevels, StoredList}
+use Rattle.validity.proofs.Drawn.{of-plan, levels-of}
+use Rattle.writing.proofs.AgainLaws.{stored-of}
+use Rattle.sheet.specs.declared.types.Drawing.{Drawing as Arrays}
+use Rattle.sheet.specs.declared.types.Counts.{Counts}
+use Rattle.sheet.specs.Results.{firstRefusal}
+use Rattle.sheet.specs.Tests.{isDrawingIn}
+use Rattle.sheet.specs.Parts.{planWith, isPlanWith, isDrawingWith, planRefusal, dataRefusal}
+use Rattle.sheet.proofs.Cuts.{DrawingArrays, DrawingCut}
+
+-- ---- 13, of the plan
+module _ (p : Plan) (c : Counts) where
+  pub refuses-plan : isPlanWith p c ≡ false → 13 ≡ planRefusal p c
+  unfolding planRefusal firstRefusal
+  refuses-plan h = rw h
+
+  pub takes-plan : isPlanWith p c ≡ true → 0 ≡ planRefusal p c
+  unfolding planRefusal firstRefusal
+  takes-plan h = rw h
+
+-- ---- of the drawing
+module _ (p : Plan) (d : Arrays) (c : Counts) where
+  pub many-placings : maxListed < c .placings → isDrawingWith p d c ≡ false
+  unfolding isDrawingIn
+  many-placings h = rw (lt-leb (c .placings) maxListed h)
+
+  pub few-placings : (r : Bool) → c .placings ≤ maxListed
+      → r ≡ isStoredDrawing (planWith p c) (take (c .vertices) (d .preliminary)) (take (c .vertices) (d .finals)) (take (c .placings) (d .passes)) (take (c .placings) (d .levels)) (take (c .placings) (d .counts)) (d .vertices) (d .positions)
+      → r ≡ isDrawingWith p d c
+  unfolding isDrawingIn
+  few-placings r h e = rw (le-leb (c .placings) maxListed h) e
+
+  pub stored-levels : isPlanWith p c ≡ true → StoredLevels (take (p .levels) (p .sizes)) (take (c .vertices) (p .vias))
+  stored-levels h = levels-of (planWith p c) (stored-of p (c .vertices) (c .segments) h .plan)
+
+  pub stored-plan : isPlanWith p c ≡ true → OfPlan (planWith p c) (take (p .levels) (p .sizes)) (take (c .vertices) (p .vias))
+  stored-plan h = of-plan (planWith p c) (stored-of p (c .vertices) (c .segments) h .plan)
+
+  pub stored-list : DrawingArrays d → DrawingCut d c → StoredList (take (c .placings) (d .passes)) (take (c .placings) (d .levels)) (take (c .placings) (d .counts)) (d .vertices) (d .positions)
+  stored-list a t =
+      let q = length-take-le (c .placings) (d .passes) (t .passes) in
+      record {
+        placings = omega (arith, q, t .passes, a .passes);
+        ofLevels = length-take-le (c .placings) (d .levels) (t .levels) ∙ sym q;
+        ofCounts = length-take-le (c .placings) (d .counts) (t .counts) ∙ sym q;
+        ofVertices = a .vertices;
+        ofPositions = a .positions;
+      }
+
+  -- ---- 13, of both
+  pub no-plan : isPlanWith p c ≡ false → 13 ≡ dataRefusal p d c
+  unfolding dataRefusal firstRefusal
+  no-plan h = rw h
+
+  pub no-drawing : isPlanWith p c ≡ true → isDrawingWith p d c ≡ false → 13 ≡ dataRefusal p d c
+  unfolding dataRefusal firstRefusal
+  no-drawing h k = rw (h, k)
+
+  pub both : isPlanWith p c ≡ true → isDrawingWith p d c ≡ true → 0 ≡ dataRefusal p d c
+  unfolding dataRefusal firstRefusal
+  both h k = rw (h, k)

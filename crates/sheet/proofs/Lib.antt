@@ -1,0 +1,9 @@
+pub mod LoadLaws
+pub mod ShowLaws
+pub mod Cuts
+pub mod DrawingTests
+pub mod Rooms
+pub mod WhenRefused
+pub mod Loaded
+pub mod Drawn
+pub mod DrawLaws

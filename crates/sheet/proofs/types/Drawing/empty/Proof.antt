@@ -1,0 +1,13 @@
+-- `sheet::types::Drawing::empty` meets its contract: each array is made as a repeat.
+use mathlib.Core.Path.{refl}
+use Rattle.passes.specs.Words.{boxesListed}
+use Rattle.sheet.specs.Sheet.{arraysOf}
+use Rattle.sheet.proofs.types.Drawing.empty.Statement.{statement}
+use Rattle.sheet.proofs.types.Drawing.empty.Tie as tie
+
+returns : tie.Need-returns
+unfolding arraysOf boxesListed
+returns c = refl
+
+pub empty-spec : {M : Type 1} → statement M
+empty-spec = tie.close (tie.spec returns)

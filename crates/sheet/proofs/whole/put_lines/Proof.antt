@@ -1,0 +1,112 @@
+-- `sheet::whole::put_lines` meets its contract: the arrays are as long as what the counts cut off, and those parts hold the lines.
+use mathlib.Core.Path.{_≡_, sym, _∙_}
+use native.Mathlib.Omega.{arith}
+use borrow.Author.Needs.{needs}
+use lib.Seq.{length-take-le}
+use Rattle.sheet.proofs.Cuts.{PlanArrays, DrawingArrays, PlanCut, DrawingCut}
+use Rattle.sheet.proofs.Rooms.{in-plan, in-drawing, report-asked, report-fronts}
+use Rattle.sheet.proofs.whole.put_lines.Statement.{statement}
+use Rattle.sheet.proofs.whole.put_lines.Tie as tie
+
+plan-arrays : (c : tie.Start) → PlanArrays (c .args .plan)
+plan-arrays c = record { sizes = search needs; vias = search needs; halves = search needs; uppers = search needs; lowers = search needs }
+
+drawing-arrays : (c : tie.Start) → DrawingArrays (c .args .drawing)
+drawing-arrays c = record {
+  preliminary = search needs;
+  finals = search needs;
+  passes = search needs;
+  levels = search needs;
+  counts = search needs;
+  vertices = search needs;
+  positions = search needs;
+}
+
+of-plan : (c : tie.Start) → PlanCut (c .args .plan) (c .args .counts)
+of-plan c = in-plan (c .args .plan) (c .args .drawing) (c .args .counts) (c .pre .0) (plan-arrays c) (drawing-arrays c)
+
+of-drawing : (c : tie.Start) → DrawingCut (c .args .drawing) (c .args .counts)
+of-drawing c = in-drawing (c .args .plan) (c .args .drawing) (c .args .counts) (c .pre .0) (plan-arrays c) (drawing-arrays c)
+
+level-count-requires : tie.Need-level-count-requires
+level-count-requires c κs = search needs
+
+array-share-prefix-sizes : tie.Need-array-share-prefix-sizes
+array-share-prefix-sizes c = omega (arith, of-plan (c .before .before .before .before .before .before .before .before .before .before) .sizes, c .before .before .before .before .before .before .before .before .level-count .ensures)
+
+slice-aggregate-put-report : tie.Need-slice-aggregate-put-report
+slice-aggregate-put-report c = sym (length-take-le _ _ (omega (arith, of-plan (c .before .before .before .before .before .before .before .before .before .before .before) .sizes, c .before .before .before .before .before .before .before .before .before .level-count .ensures)))
+
+array-share-prefix-preliminary : tie.Need-array-share-prefix-preliminary
+array-share-prefix-preliminary c = of-drawing (c .before .before .before .before .before .before .before .before .before .before .before) .preliminary
+
+slice-aggregate-put-report-2 : tie.Need-slice-aggregate-put-report-2
+slice-aggregate-put-report-2 c = sym (length-take-le _ _ (of-drawing (c .before .before .before .before .before .before .before .before .before .before .before .before) .preliminary))
+
+array-share-prefix-finals : tie.Need-array-share-prefix-finals
+array-share-prefix-finals c = of-drawing (c .before .before .before .before .before .before .before .before .before .before .before .before) .finals
+
+slice-aggregate-put-report-3 : tie.Need-slice-aggregate-put-report-3
+slice-aggregate-put-report-3 c = sym (length-take-le _ _ (of-drawing (c .before .before .before .before .before .before .before .before .before .before .before .before .before) .finals))
+
+array-share-prefix-passes : tie.Need-array-share-prefix-passes
+array-share-prefix-passes c = of-drawing (c .before .before .before .before .before .before .before .before .before .before .before .before .before) .passes
+
+slice-aggregate-put-report-4 : tie.Need-slice-aggregate-put-report-4
+slice-aggregate-put-report-4 c = sym (length-take-le _ _ (of-drawing (c .before .before .before .before .before .before .before .before .before .before .before .before .before .before) .passes))
+
+array-share-prefix-levels : tie.Need-array-share-prefix-levels
+array-share-prefix-levels c = of-drawing (c .before .before .before .before .before .before .before .before .before .before .before .before .before .before) .levels
+
+slice-aggregate-put-report-5 : tie.Need-slice-aggregate-put-report-5
+slice-aggregate-put-report-5 c = sym (length-take-le _ _ (of-drawing (c .before .before .before .before .before .before .before .before .before .before .before .before .before .before .before) .levels))
+
+array-share-prefix-boxes : tie.Need-array-share-prefix-boxes
+array-share-prefix-boxes c = of-drawing (c .before .before .before .before .before .before .before .before .before .before .before .before .before .before .before) .counts
+
+slice-aggregate-put-report-6 : tie.Need-slice-aggregate-put-report-6
+slice-aggregate-put-report-6 c = sym (length-take-le _ _ (of-drawing (c .before .before .before .before .before .before .before .before .before .before .before .before .before .before .before .before) .counts))
+
+slice-aggregate-put-report-7 : tie.Need-slice-aggregate-put-report-7
+slice-aggregate-put-report-7 c = sym (drawing-arrays (c .before .before .before .before .before .before .before .before .before .before .before .before .before .before .before .before .before) .vertices)
+
+slice-aggregate-put-report-8 : tie.Need-slice-aggregate-put-report-8
+slice-aggregate-put-report-8 c = sym (drawing-arrays (c .before .before .before .before .before .before .before .before .before .before .before .before .before .before .before .before .before .before) .positions)
+
+put-report-requires : tie.Need-put-report-requires
+put-report-requires c κs =
+    let s = c .before .before .before .before .before .before .before .before .before .before .before .before .before .before .before .before .before .before .before in
+    let a = s .args in
+    rw (c .before .before .before .before .before .before .before .before .before .before .before .before .before .before .before .before .before .level-count .ensures) (report-asked (a .plan) (a .drawing) (a .counts) (s .pre .0) (plan-arrays s) (drawing-arrays s) (s .pre .1))
+
+same-length : tie.Need-same-length
+same-length c = c .before .before .put-report .kept .1 .1 .1 .1 .1 .1 .1 .1 .1 .0
+
+returns : tie.Need-returns
+returns c =
+    let s = c .before .before .before .before .before .before .before .before .before .before .before .before .before .before .before .before .before .before .before .before .before .before in
+    let a = s .args in
+    report-fronts (a .plan) (a .drawing) (a .counts) (s .pre .0) (plan-arrays s) (drawing-arrays s) (rw (c .before .before .before .before .before .before .before .before .before .before .before .before .before .before .before .before .before .before .before .before .level-count .ensures) at (c .before .before .put-report .ensures))
+
+pub put-lines-spec : {M : Type 1} → statement M
+put-lines-spec =
+    tie.close
+    (tie.spec
+    level-count-requires
+    array-share-prefix-sizes
+    slice-aggregate-put-report
+    array-share-prefix-preliminary
+    slice-aggregate-put-report-2
+    array-share-prefix-finals
+    slice-aggregate-put-report-3
+    array-share-prefix-passes
+    slice-aggregate-put-report-4
+    array-share-prefix-levels
+    slice-aggregate-put-report-5
+    array-share-prefix-boxes
+    slice-aggregate-put-report-6
+    slice-aggregate-put-report-7
+    slice-aggregate-put-report-8
+    put-report-requires
+    same-length
+    returns)

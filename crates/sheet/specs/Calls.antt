@@ -1,0 +1,99 @@
+-- The calls of a sheet: what each answers, and what it leaves in the sheet and in the lent buffer. The tests of each call stand
+-- in document 01's order.
+use mathlib.Core.Bool.{cond}
+use mathlib.Core.List.{List, [], _∷_}
+use mathlib.Core.Path.{_≡_}
+use Prim.Native.Nat.{ℕ}
+use lib.Dec.{eqb}
+use lib.ListN.{length}
+use Rattle.ints.specs.Lists.{over}
+use Rattle.text.specs.Reading.{Reading, accepted, refused as unread, reading}
+use Rattle.passes.specs.Drawing.{drawingOf}
+use Rattle.passes.specs.Demand3.{Demand3}
+use Rattle.marks.specs.declared.types.Mark.{Mark}
+use Rattle.marks.specs.Marks.{markOf}
+use Rattle.sheet.specs.declared.types.Sheet.{Sheet}
+use Rattle.sheet.specs.declared.types.Answer.{Answer}
+use Rattle.sheet.specs.declared.types.Answer.the-variants.{Accepted}
+use Rattle.sheet.specs.declared.types.LineAnswer.{LineAnswer}
+use Rattle.sheet.specs.Sheet.{planIn, drawingIn, emptySheet, loadedSheet, drawnSheet}
+use Rattle.sheet.specs.Results.{Result, gives, refuses, resultOf, lineResultOf, Test, firstRefusal, resultAfter}
+use Rattle.sheet.specs.Tests.{test11, test12, test13Plan, test13Drawing, test7Line, test7Mark, test14, lineOf, reportOf}
+
+-- ---- load
+pub record SheetOut : Type 0 where
+  pub result : Result Unit
+  pub sheet : Sheet
+
+abbrev pub sheetOut : Result Unit → Sheet → SheetOut
+sheetOut r s = record { result = r; sheet = s }
+
+-- "Load replaces whatever was there"; "a refusal returns its number and changes nothing".
+abbrev pub loadOf : Sheet → Reading → SheetOut
+loadOf s (accepted p) = sheetOut (gives tt) (loadedSheet p)
+loadOf s (unread n) = sheetOut (refuses n) s
+
+unfoldable pub load : Sheet → List ℕ → SheetOut
+load s text = loadOf s (reading text)
+
+-- ---- draw
+abbrev pub drawTests : Sheet → List Test
+drawTests s = test11 s ∷ test13Plan s ∷ []
+
+unfoldable pub draw : Sheet → SheetOut
+draw s =
+    let n = firstRefusal (drawTests s) in
+    let drawn = drawnSheet s (drawingOf (planIn s)) in
+    sheetOut (resultAfter n tt) (cond (eqb n 0) drawn s)
+
+-- ---- line, and all lines
+pub record TextOut : Type 0 where
+  pub result : Result ℕ
+  pub buffer : List ℕ
+
+-- A text "in a lent buffer, with its length; later bytes stay", unless the tests came out as a refusal.
+abbrev pub textAfter : ℕ → List ℕ → List ℕ → TextOut
+textAfter n text buffer =
+    let written = over text buffer in
+    record { result = resultAfter n (length text); buffer = cond (eqb n 0) written buffer }
+
+abbrev pub lineTests : Sheet → ℕ → List ℕ → List Test
+lineTests s n buffer =
+    test11 s ∷ test12 s ∷ test13Plan s ∷ test13Drawing s ∷ test7Line s n ∷ test14 (lineOf s n) buffer ∷ []
+
+-- "Line n gives the n-th report line, its LF included".
+unfoldable pub line : Sheet → ℕ → List ℕ → TextOut
+line s n buffer = textAfter (firstRefusal (lineTests s n buffer)) (lineOf s n) buffer
+
+abbrev pub reportTests : Sheet → List ℕ → List Test
+reportTests s buffer = test11 s ∷ test12 s ∷ test13Plan s ∷ test13Drawing s ∷ test14 (reportOf s) buffer ∷ []
+
+unfoldable pub report : Sheet → List ℕ → TextOut
+report s buffer = textAfter (firstRefusal (reportTests s buffer)) (reportOf s) buffer
+
+-- ---- mark
+abbrev pub markTests : Sheet → ℕ → List Test
+markTests s n = test11 s ∷ test12 s ∷ test13Plan s ∷ test13Drawing s ∷ test7Mark s n ∷ []
+
+-- "Mark n gives the n-th mark."
+unfoldable pub mark : Sheet → ℕ → Result Mark
+mark s n = resultAfter (firstRefusal (markTests s n)) (markOf (planIn s) (drawingIn s .final) n)
+
+-- ---- clear: "Clear empties."
+unfoldable pub clear : Sheet → SheetOut
+clear s = sheetOut (gives tt) emptySheet
+
+-- ---- the promises
+pub record Leaves (o : SheetOut) (a : Answer) (s : Sheet) : Type 0 where
+  pub answered : resultOf a ≡ o .result
+  pub left : s ≡ o .sheet
+
+-- Draw's promise has demand 3 of the sheet that it leaves: "It speaks of every draw that is not refused, of a sheet just loaded
+-- or of one handed in."
+pub record Draws (s : Sheet) (a : Answer) (t : Sheet) : Type 0 where
+  pub leaves : Leaves (draw s) a t
+  pub demand3 : a ≡ Accepted → Demand3 (planIn t) (drawingIn t)
+
+pub record Writes (o : TextOut) (a : LineAnswer) (buffer : List ℕ) : Type 0 where
+  pub answered : lineResultOf a ≡ o .result
+  pub left : buffer ≡ o .buffer

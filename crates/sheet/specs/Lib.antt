@@ -1,0 +1,5 @@
+pub mod Sheet
+pub mod Results
+pub mod Tests
+pub mod Calls
+pub mod Parts
