@@ -2,3 +2,4 @@
 
 pub mod proved;
 pub mod proved_draw;
+pub mod proved_positions;

@@ -40,6 +40,10 @@ countsOf first v n = along (λ (i : ℕ). getD first (v + i + 1) 0 - getD first 
 abbrev pub nearOf : List ℕ → List ℤ → ℕ → ℕ → List ℤ
 nearOf ends xs k n = along (λ (i : ℕ). positionOf xs (getD ends (k + i) 0)) 0 n
 
+-- How many neighbours the boxes from `from` up to `end` have in all.
+abbrev pub rowsLong : ℕ → ℕ → List ℕ → ℕ
+rowsLong from end first = getD first end 0 - getD first from 0
+
 -- The run of these bounds and distances.
 abbrev pub asked : Bound → Bound → List ℕ → ℕ → ℕ → List ℕ → List ℕ → List ℤ → Request
 asked left right distances from end first ends xs =

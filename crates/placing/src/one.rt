@@ -19,7 +19,10 @@ ghost use Rattle.passes.specs.State.{takeOn};
 ghost use Rattle.demand3.proofs.Schedule.{Visit};
 ghost use Rattle.place_run.specs.Call.{isTaken, placedOf};
 ghost use Rattle.moments.specs.Moments.{stateAfter, Placing, SomePlacing};
-ghost use Rattle.placing.specs.Asked.{lowOf, highOf, leftOf, rightOf, asked, Rowed, Standing};
+ghost use Rattle.placing.specs.Asked.{lowOf, highOf, leftOf, rightOf, asked, rowsLong, Rowed, Standing};
+
+// The most neighbours in all of what is placed with the lesser working space.
+const FEW: usize = 64;
 
 // The first member: the via left of the boxes, if one stands there.
 fn low_end(start: usize, from: usize) -> usize
@@ -65,7 +68,105 @@ fn right_bound(end: usize, to: usize, at: &[i64]) -> Bound
     Bound::Free
 }
 
-// Where the boxes from `from` up to `end` go, with these bounds and distances.
+// Where the boxes from `from` up to `end` go, with these bounds and distances, and working space for their neighbours.
+fn place_near(
+    left: Bound,
+    right: Bound,
+    distances: &[u64],
+    from: usize,
+    end: usize,
+    first: &[u16],
+    ends: &[u32],
+    at: &[i64],
+    near: &mut [i64],
+    answer: &mut [i64],
+)
+    requires { ⌜ Rowed from end (now first) (now ends) (now at) ⌝ }
+    requires { ⌜ isTaken (asked left right (now distances) from end (now first) (now ends) (now at)) (now answer) ≡ true ⌝ }
+    requires { ⌜ rowsLong from end (now first) ≤ length (now near) ⌝ }
+    ensures { λ _. ⌜ now (answer .exit) ≡ placedOf (asked left right (now (distances .entry)) from end (now (first .entry)) (now (ends .entry)) (now (at .entry))) ⌝ }
+{
+    let n = end - from;
+    let row = wide(first[from]);
+    let s = wide(first[end]) - row;
+    let mut counts = [0u64; MAX_BOXES];
+    neighbour_counts(first, from, n, &mut counts);
+    neighbour_positions(ends, at, row, s, near);
+    place(
+        left,
+        right,
+        &at[from..end],
+        distances,
+        &counts[..n],
+        &near[..s],
+        answer,
+    );
+}
+
+// The same of boxes with few neighbours in all, as most runs have: less space to clear.
+fn place_few(
+    left: Bound,
+    right: Bound,
+    distances: &[u64],
+    from: usize,
+    end: usize,
+    first: &[u16],
+    ends: &[u32],
+    at: &[i64],
+    answer: &mut [i64],
+)
+    requires { ⌜ Rowed from end (now first) (now ends) (now at) ⌝ }
+    requires { ⌜ isTaken (asked left right (now distances) from end (now first) (now ends) (now at)) (now answer) ≡ true ⌝ }
+    requires { ⌜ rowsLong from end (now first) ≤ 64 ⌝ }
+    ensures { λ _. ⌜ now (answer .exit) ≡ placedOf (asked left right (now (distances .entry)) from end (now (first .entry)) (now (ends .entry)) (now (at .entry))) ⌝ }
+{
+    let mut near = [0i64; FEW];
+    place_near(
+        left,
+        right,
+        distances,
+        from,
+        end,
+        first,
+        ends,
+        at,
+        &mut near,
+        answer,
+    );
+}
+
+// The same of boxes with any number of neighbours.
+fn place_many(
+    left: Bound,
+    right: Bound,
+    distances: &[u64],
+    from: usize,
+    end: usize,
+    first: &[u16],
+    ends: &[u32],
+    at: &[i64],
+    answer: &mut [i64],
+)
+    requires { ⌜ Rowed from end (now first) (now ends) (now at) ⌝ }
+    requires { ⌜ isTaken (asked left right (now distances) from end (now first) (now ends) (now at)) (now answer) ≡ true ⌝ }
+    ensures { λ _. ⌜ now (answer .exit) ≡ placedOf (asked left right (now (distances .entry)) from end (now (first .entry)) (now (ends .entry)) (now (at .entry))) ⌝ }
+{
+    let mut near = [0i64; MAX_NEIGHBOURS];
+    place_near(
+        left,
+        right,
+        distances,
+        from,
+        end,
+        first,
+        ends,
+        at,
+        &mut near,
+        answer,
+    );
+}
+
+// The same, with as much working space as the neighbours ask for.
 fn place_boxes(
     left: Bound,
     right: Bound,
@@ -81,22 +182,11 @@ fn place_boxes(
     requires { ⌜ isTaken (asked left right (now distances) from end (now first) (now ends) (now at)) (now answer) ≡ true ⌝ }
     ensures { λ _. ⌜ now (answer .exit) ≡ placedOf (asked left right (now (distances .entry)) from end (now (first .entry)) (now (ends .entry)) (now (at .entry))) ⌝ }
 {
-    let n = end - from;
-    let row = wide(first[from]);
-    let s = wide(first[end]) - row;
-    let mut counts = [0u64; MAX_BOXES];
-    let mut near = [0i64; MAX_NEIGHBOURS];
-    neighbour_counts(first, from, n, &mut counts);
-    neighbour_positions(ends, at, row, s, &mut near);
-    place(
-        left,
-        right,
-        &at[from..end],
-        distances,
-        &counts[..n],
-        &near[..s],
-        answer,
-    );
+    if wide(first[end]) - wide(first[from]) <= FEW {
+        place_few(left, right, distances, from, end, first, ends, at, answer);
+        return;
+    }
+    place_many(left, right, distances, from, end, first, ends, at, answer);
 }
 
 // Whether a via stands on both sides.

@@ -50,7 +50,7 @@ fn put_positions(xs: &[i64], out: &mut [u8]) -> usize
 }
 
 // The positions of a plan with these numbers of vertices and segments that is that of a text.
-fn stored_positions(plan: Plan, vertices: usize, segments: usize, xs: &mut [i64])
+pub fn stored_positions(plan: Plan, vertices: usize, segments: usize, xs: &mut [i64])
     requires { ⌜ (isStoredPlan plan vertices segments ≡ true) × (length (now xs) ≡ vertices) ⌝ }
     ensures { λ _. ⌜ now (xs .exit) ≡ preliminary (planData plan vertices segments) ⌝ }
 {

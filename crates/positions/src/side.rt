@@ -97,11 +97,11 @@ pub fn side(
     ensures { λ _. ⌜ SideIs reversed gap (now (sizes .entry)) (now (halves .entry)) (now (next .entry)) (now (top .entry)) (now (uppers .entry)) (now (lowers .entry)) (now (xs .exit)) ⌝ }
 {
     let n = next.len();
-    let mut order = [NONE; 1024];
-    let mut right = [NONE; 1024];
+    let mut order = [0u16; 1024];
+    let mut right = [0u16; 1024];
     let mut left = [NONE; 1024];
     let mut classes = [0u32; 1024];
-    let mut sibling = [NONE; 1024];
+    let mut sibling = [0u16; 1024];
     let mut apart = [0u32; 1024];
     let mut at = [0u32; 1024];
     let mut begun = [false; 1024];

@@ -10,10 +10,11 @@ use lib.ListN.{length, getD, drop, set, length-set, drop-of-length-le}
 use lib.Seq.{drop-cons}
 use lib.IntN.{ℤ, pos, negsuc, _+ℤ_}
 use lib.Signed.{leZ, ltZ}
-use Rattle.ints.specs.Ints.{P, N, minZ}
-use Rattle.ints.proofs.Laws.{ints, casesZ, make-le-true, make-le-false, make-lt-true, make-lt-false, eq-make}
+use Rattle.ints.specs.Ints.{P, N, size, _⊑_, minZ, gap}
+use Rattle.ints.proofs.Laws.{ints, cases, casesZ, if-ind, sum, gap-ge, gap-l, gap-r, least, make-le-true, make-le-false, make-lt-true, make-lt-false, eq-make}
+use Rattle.plan.proofs.CountLaws.{by-same}
 use Rattle.preliminary.specs.Shift.{insert, sort, middle, leastOf, leastOr}
-use Rattle.shifting.specs.Counts.{countTo, SizedTo}
+use Rattle.shifting.specs.Counts.{countTo, SizedTo, NoneAbove}
 
 -- how many are below z
 unfoldable pub countBelow : ℤ → List ℤ → ℕ
@@ -158,13 +159,48 @@ to-le z (x ∷ xs) = casesZ x z (λ h. omega (arith, to-in z x xs h, to-le z xs)
 sized-tail : (m : ℕ) (x : ℤ) (xs : List ℤ) → SizedTo m (x ∷ xs) → SizedTo m xs
 sized-tail m x xs s = record { each = λ i. s .each (suc i) }
 
-pub to-all : (z : ℤ) (m : ℕ) (xs : List ℤ) → SizedTo m xs → N z ≡ 0 → m ≤ P z → countTo z xs ≡ length xs
-to-all z m [] s n h = to-none z
-to-all z m (x ∷ xs) s n h = let b = s .each 0 in to-in z x xs (omega arith) ∙ ap suc (to-all z m xs (sized-tail m x xs s) n h)
+-- at z all are counted, where none is above it
+pub to-each : (z : ℤ) (xs : List ℤ) → ((i : ℕ) → i < length xs → getD xs i (pos 0) ⊑ z) → countTo z xs ≡ length xs
+to-each z [] h = to-none z
+to-each z (x ∷ xs) h = to-in z x xs (h 0 (omega arith)) ∙ ap suc (to-each z xs (λ i k. h (suc i) (omega arith)))
 
-pub below-all : (z : ℤ) (m : ℕ) (xs : List ℤ) → SizedTo m xs → P z ≡ 0 → m ≤ N z → countBelow z xs ≡ 0
-below-all z m [] s n h = below-none z
-below-all z m (x ∷ xs) s n h = let b = s .each 0 in below-out z x xs (omega arith) ∙ below-all z m xs (sized-tail m x xs s) n h
+-- below the least there is none, and it is no further from 0 than all are
+least-at-least : (x : ℤ) (xs : List ℤ) → AtLeast (leastOf x xs) (x ∷ xs)
+unfolding leastOf
+least-at-least x [] = one {x = x} (omega arith) none
+least-at-least x (y ∷ ys) = go (least-at-least (minZ x y) ys)
+  where
+    go : AtLeast (leastOf (minZ x y) ys) (minZ x y ∷ ys) → AtLeast (leastOf (minZ x y) ys) (x ∷ y ∷ ys)
+    go (one h a) = let m = least x y in one {x = x} (omega arith) (one {x = y} (omega arith) a)
+
+pub below-least : (other : ℤ) (xs : List ℤ) → 0 < length xs → countBelow (leastOr other xs) xs ≡ 0
+below-least other [] h = absurd (omega arith)
+below-least other (x ∷ xs) h = least-below (leastOf x xs) (leastOf x xs) (x ∷ xs) (omega arith) (least-at-least x xs)
+
+least-sized : (m : ℕ) (x : ℤ) (xs : List ℤ) → size x ≤ m → SizedTo m xs → size (leastOf x xs) ≤ m
+unfolding leastOf
+least-sized m x [] h s = h
+least-sized m x (y ∷ ys) h s = least-sized m (minZ x y) ys (if-ind (ltZ y x) y x (λ z. size z ≤ m) (λ t. s .each 0) (λ t. h)) (sized-tail m y ys s)
+
+pub least-or-sized : (m : ℕ) (other : ℤ) (xs : List ℤ) → 0 < length xs → SizedTo m xs → size (leastOr other xs) ≤ m
+least-or-sized m other [] h s = absurd (omega arith)
+least-or-sized m other (x ∷ xs) h s = least-sized m x xs (s .each 0) (sized-tail m x xs s)
+
+-- the search begins with none below its lower end and none above its upper end
+module _ (xs : List ℤ) (base top : ℤ) (n : ℕ) (s : SizedTo n xs) (some : 0 < length xs) (low : base ≡ leastOr (pos 0) xs) (high : NoneAbove top xs) where
+  pub base-sized : size base ≤ n
+  base-sized = rw low (least-or-sized n (pos 0) xs some s)
+
+  pub below-base : countBelow (base +ℤ pos 0) xs ≡ 0
+  below-base =
+      let e : base +ℤ pos 0 ≡ base = omega (arith, ints, sum base (pos 0)) in
+      rw (e, low) (below-least (pos 0) xs some)
+
+  pub to-top : countTo (base +ℤ pos (gap base top)) xs ≡ length xs
+  to-top = to-each (base +ℤ pos (gap base top)) xs (λ i h. omega (arith, high .each i h, gap-ge base top, sum base (pos (gap base top))))
+
+  pub reach-small : size top ≤ n → gap base top ≤ n + n
+  reach-small h = let k = base-sized in casesZ base top (λ m. omega (arith, gap-l base top m)) (λ m. omega (arith, gap-r base top (omega arith)))
 
 -- what is below the next number does not exceed this one
 pub below-next : (z y : ℤ) (xs : List ℤ) → P y + N z ≤ P z + N y + 1 → countBelow y xs ≤ countTo z xs
@@ -197,3 +233,16 @@ module _ (xs : List ℤ) (i : ℕ) (x : ℤ) where
 pub least-start : (other : ℤ) (xs : List ℤ) → 0 < length xs → leastOr other xs ≡ leastOf (getD xs 0 (pos 0)) (drop 1 xs)
 least-start other [] h = absurd (omega arith)
 least-start other (x ∷ xs) h = refl
+
+-- ---- the greatest, one by one
+pub record AboveTo (xs : List ℤ) (i : ℕ) (z : ℤ) : Type 0 where
+  pub each : (j : ℕ) → j < i → getD xs j (pos 0) ⊑ z
+
+pub above-start : (xs : List ℤ) → AboveTo xs 1 (getD xs 0 (pos 0))
+above-start xs = record { each = λ j h. let z : j ≡ 0 = omega arith in rw z (omega arith) }
+
+pub above-on : (xs : List ℤ) (i : ℕ) (z y : ℤ) → AboveTo xs i z → z ⊑ y → getD xs i (pos 0) ⊑ y → AboveTo xs (i + 1) y
+above-on xs i z y a h k = record { each = λ j m. by-same j i (λ s. rw s k) (λ s. omega (arith, a .each j (below-other s m))) }
+  where
+    below-other : {j : ℕ} → (j ≡ i → ⊥) → j < i + 1 → j < i
+    below-other {j} s m = cases i j (λ q. absurd (s (omega arith))) (λ q. q)

@@ -6,7 +6,7 @@ use Prim.Native.Nat.{ℕ, zero, suc, _+_, _<_, _≤_}
 use lib.ListN.{length, getD, set}
 use lib.IntN.{ℤ, pos, _+ℤ_}
 use lib.Signed.{leZ, ltZ}
-use Rattle.ints.specs.Ints.{size}
+use Rattle.ints.specs.Ints.{size, _⊑_}
 
 unfoldable pub countTo : ℤ → List ℤ → ℕ
 countTo z [] = 0
@@ -18,6 +18,10 @@ countTo z (x ∷ xs) =
 -- No number is further than m from 0.
 pub record SizedTo (m : ℕ) (xs : List ℤ) : Type 0 where
   pub each : (i : ℕ) → size (getD xs i (pos 0)) ≤ m
+
+-- No number is above z.
+pub record NoneAbove (z : ℤ) (xs : List ℤ) : Type 0 where
+  pub each : (i : ℕ) → i < length xs → getD xs i (pos 0) ⊑ z
 
 -- Each of these vertices goes d to the right.
 unfoldable pub movedAt : ℤ → List ℕ → List ℤ → List ℤ

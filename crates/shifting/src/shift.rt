@@ -248,10 +248,10 @@ pub fn shift(
     let n = classes.len();
     let m = uppers.len();
     let mut pair_head = [NONE; 65];
-    let mut pair_link = [NONE; 1024];
+    let mut pair_link = [0u16; 1024];
     link_pairs(order, right, classes, &mut pair_head, &mut pair_link[..n]);
     let mut segment_head = [NONE; 65];
-    let mut segment_link = [NONE; 2048];
+    let mut segment_link = [0u16; 2048];
     link_segments(
         uppers,
         lowers,
@@ -260,7 +260,7 @@ pub fn shift(
         &mut segment_link[..m],
     );
     let mut member_head = [NONE; 65];
-    let mut member_link = [NONE; 1024];
+    let mut member_link = [0u16; 1024];
     bucket(classes, &mut member_head, &mut member_link[..n]);
     let mut buffer = [0i64; 2048];
     shift_each(

@@ -61,7 +61,8 @@ place-strand-below t =
     (falls 6 place-strand-kinds.ps _<_ μ-place-strand t)
     place-strand.Pre
 
-place-siblings-returns : (t : ℕ) → place-siblings-lts.Need-returns (
+abbrev place-siblings-claims : ℕ → place-siblings-lts.Claims
+place-siblings-claims t = (
   wide-reads.Asked,
   wide-reads.Learnt,
   place-siblings-below t,
@@ -70,7 +71,21 @@ place-siblings-returns : (t : ℕ) → place-siblings-lts.Need-returns (
   place-strand.Post,
   greater-reads.Asked,
   greater-reads.Learnt,
-) (place-siblings-at t) place-siblings.Post
+)
+
+abbrev place-strand-claims : ℕ → place-strand-lts.Claims
+place-strand-claims t = (
+  wide-reads.Asked,
+  wide-reads.Learnt,
+  mark-reads.Asked,
+  mark-reads.Learnt,
+  place-siblings-below t,
+  place-siblings.Post,
+  give-reads.Asked,
+  give-reads.Learnt,
+)
+
+place-siblings-returns : (t : ℕ) → place-siblings-lts.Need-returns (place-siblings-claims t) (place-siblings-at t) place-siblings.Post
 place-siblings-returns t c =
     let a = c .before .before .before .before .before .before .before .args in
     let p = c .before .before .before .before .before .before .before .pre .1 in (
@@ -78,128 +93,37 @@ place-siblings-returns t c =
       siblings-placed-none (a .next .now) (a .top .now) (a .sibling .now) (a .apart .now) (a .at .now) (a .begun .now) p (a .w) (a .most) (c .if1 .taken),
     )
 
-place-siblings-mul-wide : (t : ℕ) → place-siblings-lts.Need-mul-wide (
-  wide-reads.Asked,
-  wide-reads.Learnt,
-  place-siblings-below t,
-  place-siblings.Post,
-  place-strand-below t,
-  place-strand.Post,
-  greater-reads.Asked,
-  greater-reads.Learnt,
-) (place-siblings-at t) place-siblings.Post
+place-siblings-mul-wide : (t : ℕ) → place-siblings-lts.Need-mul-wide (place-siblings-claims t) (place-siblings-at t) place-siblings.Post
 place-siblings-mul-wide t c = search needs
 
-place-siblings-shared-slice-read-wide : (t : ℕ) → place-siblings-lts.Need-shared-slice-read-wide (
-  wide-reads.Asked,
-  wide-reads.Learnt,
-  place-siblings-below t,
-  place-siblings.Post,
-  place-strand-below t,
-  place-strand.Post,
-  greater-reads.Asked,
-  greater-reads.Learnt,
-) (place-siblings-at t) place-siblings.Post
+place-siblings-shared-slice-read-wide : (t : ℕ) → place-siblings-lts.Need-shared-slice-read-wide (place-siblings-claims t) (place-siblings-at t) place-siblings.Post
 place-siblings-shared-slice-read-wide t c = search needs
 
-place-siblings-wide-requires : (t : ℕ) → place-siblings-lts.Need-wide-requires (
-  wide-reads.Asked,
-  wide-reads.Learnt,
-  place-siblings-below t,
-  place-siblings.Post,
-  place-strand-below t,
-  place-strand.Post,
-  greater-reads.Asked,
-  greater-reads.Learnt,
-) (place-siblings-at t) place-siblings.Post
+place-siblings-wide-requires : (t : ℕ) → place-siblings-lts.Need-wide-requires (place-siblings-claims t) (place-siblings-at t) place-siblings.Post
 place-siblings-wide-requires t c κs = search needs
 
-place-siblings-mul-wide-2 : (t : ℕ) → place-siblings-lts.Need-mul-wide-2 (
-  wide-reads.Asked,
-  wide-reads.Learnt,
-  place-siblings-below t,
-  place-siblings.Post,
-  place-strand-below t,
-  place-strand.Post,
-  greater-reads.Asked,
-  greater-reads.Learnt,
-) (place-siblings-at t) place-siblings.Post
+place-siblings-mul-wide-2 : (t : ℕ) → place-siblings-lts.Need-mul-wide-2 (place-siblings-claims t) (place-siblings-at t) place-siblings.Post
 place-siblings-mul-wide-2 t c = search needs
 
-place-siblings-shared-slice-read-wide-2 :
-    (t : ℕ) → place-siblings-lts.Need-shared-slice-read-wide-2 (
-      wide-reads.Asked,
-      wide-reads.Learnt,
-      place-siblings-below t,
-      place-siblings.Post,
-      place-strand-below t,
-      place-strand.Post,
-      greater-reads.Asked,
-      greater-reads.Learnt,
-    ) (place-siblings-at t) place-siblings.Post
+place-siblings-shared-slice-read-wide-2 : (t : ℕ) → place-siblings-lts.Need-shared-slice-read-wide-2 (place-siblings-claims t) (place-siblings-at t) place-siblings.Post
 place-siblings-shared-slice-read-wide-2 t c = search needs
 
-place-siblings-wide-requires-2 : (t : ℕ) → place-siblings-lts.Need-wide-requires-2 (
-  wide-reads.Asked,
-  wide-reads.Learnt,
-  place-siblings-below t,
-  place-siblings.Post,
-  place-strand-below t,
-  place-strand.Post,
-  greater-reads.Asked,
-  greater-reads.Learnt,
-) (place-siblings-at t) place-siblings.Post
+place-siblings-wide-requires-2 : (t : ℕ) → place-siblings-lts.Need-wide-requires-2 (place-siblings-claims t) (place-siblings-at t) place-siblings.Post
 place-siblings-wide-requires-2 t c κs = search needs
 
-place-siblings-place-siblings-requires : (t : ℕ) → place-siblings-lts.Need-place-siblings-requires (
-  wide-reads.Asked,
-  wide-reads.Learnt,
-  place-siblings-below t,
-  place-siblings.Post,
-  place-strand-below t,
-  place-strand.Post,
-  greater-reads.Asked,
-  greater-reads.Learnt,
-) (place-siblings-at t) place-siblings.Post
+place-siblings-place-siblings-requires : (t : ℕ) → place-siblings-lts.Need-place-siblings-requires (place-siblings-claims t) (place-siblings-at t) place-siblings.Post
 place-siblings-place-siblings-requires t c κs =
     let a = c .before .before .before .before .before .before .before .before .before .before .before .before .before .before .args in
     let p = c .before .before .before .before .before .before .before .before .before .before .before .before .before .before .pre .1 in
     (omega (arith, c .before .before .before .before .before .before .before .before .before .before .before .before .before .before .pre .0, member-long (a .next .now) (a .top .now) (a .sibling .now) (a .apart .now) (a .at .now) (a .begun .now) p (a .w) (c .before .before .before .before .before .before .before .if1 .left), ap (λ (x : ℕ). length (chain (a .next .now) x)) (c .before .before .before .wide2 .ensures)), p)
 
-place-siblings-same-length : (t : ℕ) → place-siblings-lts.Need-same-length (
-  wide-reads.Asked,
-  wide-reads.Learnt,
-  place-siblings-below t,
-  place-siblings.Post,
-  place-strand-below t,
-  place-strand.Post,
-  greater-reads.Asked,
-  greater-reads.Learnt,
-) (place-siblings-at t) place-siblings.Post
+place-siblings-same-length : (t : ℕ) → place-siblings-lts.Need-same-length (place-siblings-claims t) (place-siblings-at t) place-siblings.Post
 place-siblings-same-length t c = search needs
 
-place-siblings-same-length-2 : (t : ℕ) → place-siblings-lts.Need-same-length-2 (
-  wide-reads.Asked,
-  wide-reads.Learnt,
-  place-siblings-below t,
-  place-siblings.Post,
-  place-strand-below t,
-  place-strand.Post,
-  greater-reads.Asked,
-  greater-reads.Learnt,
-) (place-siblings-at t) place-siblings.Post
+place-siblings-same-length-2 : (t : ℕ) → place-siblings-lts.Need-same-length-2 (place-siblings-claims t) (place-siblings-at t) place-siblings.Post
 place-siblings-same-length-2 t c = search needs
 
-place-siblings-returns-2 : (t : ℕ) → place-siblings-lts.Need-returns-2 (
-  wide-reads.Asked,
-  wide-reads.Learnt,
-  place-siblings-below t,
-  place-siblings.Post,
-  place-strand-below t,
-  place-strand.Post,
-  greater-reads.Asked,
-  greater-reads.Learnt,
-) (place-siblings-at t) place-siblings.Post
+place-siblings-returns-2 : (t : ℕ) → place-siblings-lts.Need-returns-2 (place-siblings-claims t) (place-siblings-at t) place-siblings.Post
 place-siblings-returns-2 t c =
     let a = c .before .before .before .before .before .before .before .before .before .before .before .before .before .before .before .before .before .before .before .args in
     let p = c .before .before .before .before .before .before .before .before .before .before .before .before .before .before .before .before .before .before .before .pre .1 in (
@@ -207,109 +131,35 @@ place-siblings-returns-2 t c =
       siblings-placed-without (a .next .now) (a .top .now) (a .sibling .now) (a .apart .now) (a .at .now) (a .begun .now) p (a .w) (c .before .before .before .before .before .before .before .before .before .before .before .before .if1 .left) (a .most) _ _ (rw (c .before .before .before .before .before .before .before .before .before .before .wide .ensures) at (c .before .before .before .before .before .before .before .if2 .taken)) (rw (c .before .before .before .before .before .before .before .before .wide2 .ensures) at (c .before .before .before .before .place-siblings .ensures .1)),
     )
 
-place-siblings-place-strand-requires : (t : ℕ) → place-siblings-lts.Need-place-strand-requires (
-  wide-reads.Asked,
-  wide-reads.Learnt,
-  place-siblings-below t,
-  place-siblings.Post,
-  place-strand-below t,
-  place-strand.Post,
-  greater-reads.Asked,
-  greater-reads.Learnt,
-) (place-siblings-at t) place-siblings.Post
+place-siblings-place-strand-requires : (t : ℕ) → place-siblings-lts.Need-place-strand-requires (place-siblings-claims t) (place-siblings-at t) place-siblings.Post
 place-siblings-place-strand-requires t c κs =
     let a = c .before .before .before .before .before .before .before .before .before .before .before .before .before .before .args in
     let p = c .before .before .before .before .before .before .before .before .before .before .before .before .before .before .pre .1 in
     (omega (arith, c .before .before .before .before .before .before .before .before .before .before .before .before .before .before .pre .0, member-long (a .next .now) (a .top .now) (a .sibling .now) (a .apart .now) (a .at .now) (a .begun .now) p (a .w) (c .before .before .before .before .before .before .before .if1 .left)), (p, c .before .before .if2 .left))
 
-place-siblings-mul-greater : (t : ℕ) → place-siblings-lts.Need-mul-greater (
-  wide-reads.Asked,
-  wide-reads.Learnt,
-  place-siblings-below t,
-  place-siblings.Post,
-  place-strand-below t,
-  place-strand.Post,
-  greater-reads.Asked,
-  greater-reads.Learnt,
-) (place-siblings-at t) place-siblings.Post
+place-siblings-mul-greater : (t : ℕ) → place-siblings-lts.Need-mul-greater (place-siblings-claims t) (place-siblings-at t) place-siblings.Post
 place-siblings-mul-greater t c = search needs
 
-place-siblings-slice-read-greater : (t : ℕ) → place-siblings-lts.Need-slice-read-greater (
-  wide-reads.Asked,
-  wide-reads.Learnt,
-  place-siblings-below t,
-  place-siblings.Post,
-  place-strand-below t,
-  place-strand.Post,
-  greater-reads.Asked,
-  greater-reads.Learnt,
-) (place-siblings-at t) place-siblings.Post
+place-siblings-slice-read-greater : (t : ℕ) → place-siblings-lts.Need-slice-read-greater (place-siblings-claims t) (place-siblings-at t) place-siblings.Post
 place-siblings-slice-read-greater t c = search needs
 
-place-siblings-mul-greater-2 : (t : ℕ) → place-siblings-lts.Need-mul-greater-2 (
-  wide-reads.Asked,
-  wide-reads.Learnt,
-  place-siblings-below t,
-  place-siblings.Post,
-  place-strand-below t,
-  place-strand.Post,
-  greater-reads.Asked,
-  greater-reads.Learnt,
-) (place-siblings-at t) place-siblings.Post
+place-siblings-mul-greater-2 : (t : ℕ) → place-siblings-lts.Need-mul-greater-2 (place-siblings-claims t) (place-siblings-at t) place-siblings.Post
 place-siblings-mul-greater-2 t c = search needs
 
-place-siblings-shared-slice-read-greater :
-    (t : ℕ) → place-siblings-lts.Need-shared-slice-read-greater (
-      wide-reads.Asked,
-      wide-reads.Learnt,
-      place-siblings-below t,
-      place-siblings.Post,
-      place-strand-below t,
-      place-strand.Post,
-      greater-reads.Asked,
-      greater-reads.Learnt,
-    ) (place-siblings-at t) place-siblings.Post
+place-siblings-shared-slice-read-greater : (t : ℕ) → place-siblings-lts.Need-shared-slice-read-greater (place-siblings-claims t) (place-siblings-at t) place-siblings.Post
 place-siblings-shared-slice-read-greater t c = search needs
 
-place-siblings-add-greater : (t : ℕ) → place-siblings-lts.Need-add-greater (
-  wide-reads.Asked,
-  wide-reads.Learnt,
-  place-siblings-below t,
-  place-siblings.Post,
-  place-strand-below t,
-  place-strand.Post,
-  greater-reads.Asked,
-  greater-reads.Learnt,
-) (place-siblings-at t) place-siblings.Post
+place-siblings-add-greater : (t : ℕ) → place-siblings-lts.Need-add-greater (place-siblings-claims t) (place-siblings-at t) place-siblings.Post
 place-siblings-add-greater t c =
     let a = c .before .before .before .before .before .before .before .before .before .before .before .before .before .before .before .before .before .before .before .before .before .args in
     let p = c .before .before .before .before .before .before .before .before .before .before .before .before .before .before .before .before .before .before .before .before .before .pre .1 in
     let l = c .before .before .before .before .before .before .place-strand .ensures .0 .low 512000 (p .low) in
     omega (arith, l .each (c .before .before .before .before .before .before .before .before .before .before .before .before .wide .result), p .near (a .w) (c .before .before .before .before .before .before .before .before .before .before .before .before .before .before .if1 .left))
 
-place-siblings-greater-requires : (t : ℕ) → place-siblings-lts.Need-greater-requires (
-  wide-reads.Asked,
-  wide-reads.Learnt,
-  place-siblings-below t,
-  place-siblings.Post,
-  place-strand-below t,
-  place-strand.Post,
-  greater-reads.Asked,
-  greater-reads.Learnt,
-) (place-siblings-at t) place-siblings.Post
+place-siblings-greater-requires : (t : ℕ) → place-siblings-lts.Need-greater-requires (place-siblings-claims t) (place-siblings-at t) place-siblings.Post
 place-siblings-greater-requires t c κs = search needs
 
-place-siblings-place-siblings-requires-2 :
-    (t : ℕ) → place-siblings-lts.Need-place-siblings-requires-2 (
-      wide-reads.Asked,
-      wide-reads.Learnt,
-      place-siblings-below t,
-      place-siblings.Post,
-      place-strand-below t,
-      place-strand.Post,
-      greater-reads.Asked,
-      greater-reads.Learnt,
-    ) (place-siblings-at t) place-siblings.Post
+place-siblings-place-siblings-requires-2 : (t : ℕ) → place-siblings-lts.Need-place-siblings-requires-2 (place-siblings-claims t) (place-siblings-at t) place-siblings.Post
 place-siblings-place-siblings-requires-2 t c κs =
     let a = c .before .before .before .before .before .before .before .before .before .before .before .before .before .before .before .before .before .before .before .before .before .before .before .before .args in
     let p = c .before .before .before .before .before .before .before .before .before .before .before .before .before .before .before .before .before .before .before .before .before .before .before .before .pre .1 in
@@ -318,40 +168,13 @@ place-siblings-place-siblings-requires-2 t c κs =
       still (a .next .now) (a .top .now) (a .sibling .now) (a .apart .now) (a .at .now) (a .begun .now) p _ _ (c .before .before .before .before .before .before .before .before .before .place-strand .kept .1 .1 .1 .1 .1 .0) (c .before .before .before .before .before .before .before .before .before .place-strand .kept .1 .1 .1 .1 .1 .1 .0) (k .uniform) (k .low 512000 (p .low)),
     )
 
-place-siblings-same-length-3 : (t : ℕ) → place-siblings-lts.Need-same-length-3 (
-  wide-reads.Asked,
-  wide-reads.Learnt,
-  place-siblings-below t,
-  place-siblings.Post,
-  place-strand-below t,
-  place-strand.Post,
-  greater-reads.Asked,
-  greater-reads.Learnt,
-) (place-siblings-at t) place-siblings.Post
+place-siblings-same-length-3 : (t : ℕ) → place-siblings-lts.Need-same-length-3 (place-siblings-claims t) (place-siblings-at t) place-siblings.Post
 place-siblings-same-length-3 t c = search needs
 
-place-siblings-same-length-4 : (t : ℕ) → place-siblings-lts.Need-same-length-4 (
-  wide-reads.Asked,
-  wide-reads.Learnt,
-  place-siblings-below t,
-  place-siblings.Post,
-  place-strand-below t,
-  place-strand.Post,
-  greater-reads.Asked,
-  greater-reads.Learnt,
-) (place-siblings-at t) place-siblings.Post
+place-siblings-same-length-4 : (t : ℕ) → place-siblings-lts.Need-same-length-4 (place-siblings-claims t) (place-siblings-at t) place-siblings.Post
 place-siblings-same-length-4 t c = search needs
 
-place-siblings-returns-3 : (t : ℕ) → place-siblings-lts.Need-returns-3 (
-  wide-reads.Asked,
-  wide-reads.Learnt,
-  place-siblings-below t,
-  place-siblings.Post,
-  place-strand-below t,
-  place-strand.Post,
-  greater-reads.Asked,
-  greater-reads.Learnt,
-) (place-siblings-at t) place-siblings.Post
+place-siblings-returns-3 : (t : ℕ) → place-siblings-lts.Need-returns-3 (place-siblings-claims t) (place-siblings-at t) place-siblings.Post
 place-siblings-returns-3 t c =
     let a = c .before .before .before .before .before .before .before .before .before .before .before .before .before .before .before .before .before .before .before .before .before .before .before .before .before .before .before .before .before .args in
     let p = c .before .before .before .before .before .before .before .before .before .before .before .before .before .before .before .before .before .before .before .before .before .before .before .before .before .before .before .before .before .pre .1 in
@@ -365,91 +188,28 @@ place-siblings-returns-3 t c =
       siblings-placed-with (a .next .now) (a .top .now) (a .sibling .now) (a .apart .now) (a .at .now) (a .begun .now) p (a .w) (c .before .before .before .before .before .before .before .before .before .before .before .before .before .before .before .before .before .before .before .before .before .before .if1 .left) (a .most) _ at1 begun1 _ (rw (c .before .before .before .before .before .before .before .before .before .before .before .before .before .before .before .before .before .before .before .before .wide .ensures) at (c .before .before .before .before .before .before .before .before .before .before .before .before .before .before .before .before .before .if2 .left)) (k .fewer) (rw (c .before .before .before .before .before .before .before .before .before .before .before .before .before .before .before .before .before .before .before .before .wide .ensures) at (c .before .before .before .before .before .before .before .before .before .before .before .before .before .before .place-strand .ensures .1)) placed,
     )
 
-place-strand-slice-read-if1 : (t : ℕ) → place-strand-lts.Need-slice-read-if1 (
-  wide-reads.Asked,
-  wide-reads.Learnt,
-  mark-reads.Asked,
-  mark-reads.Learnt,
-  place-siblings-below t,
-  place-siblings.Post,
-  give-reads.Asked,
-  give-reads.Learnt,
-) (place-strand-at t) place-strand.Post
+place-strand-slice-read-if1 : (t : ℕ) → place-strand-lts.Need-slice-read-if1 (place-strand-claims t) (place-strand-at t) place-strand.Post
 place-strand-slice-read-if1 t c = search needs
 
-place-strand-returns : (t : ℕ) → place-strand-lts.Need-returns (
-  wide-reads.Asked,
-  wide-reads.Learnt,
-  mark-reads.Asked,
-  mark-reads.Learnt,
-  place-siblings-below t,
-  place-siblings.Post,
-  give-reads.Asked,
-  give-reads.Learnt,
-) (place-strand-at t) place-strand.Post
+place-strand-returns : (t : ℕ) → place-strand-lts.Need-returns (place-strand-claims t) (place-strand-at t) place-strand.Post
 place-strand-returns t c =
     let a = c .before .before .before .before .before .before .before .before .args in
     let p = c .before .before .before .before .before .before .before .before .pre .1 .0 in
     (strand-kept-already (a .next .now) (a .top .now) (a .sibling .now) (a .apart .now) (a .at .now) (a .begun .now) p, strand-placed-already (a .next .now) (a .top .now) (a .sibling .now) (a .apart .now) (a .at .now) (a .begun .now) p (a .v) (c .if1 .taken))
 
-place-strand-mul-wide : (t : ℕ) → place-strand-lts.Need-mul-wide (
-  wide-reads.Asked,
-  wide-reads.Learnt,
-  mark-reads.Asked,
-  mark-reads.Learnt,
-  place-siblings-below t,
-  place-siblings.Post,
-  give-reads.Asked,
-  give-reads.Learnt,
-) (place-strand-at t) place-strand.Post
+place-strand-mul-wide : (t : ℕ) → place-strand-lts.Need-mul-wide (place-strand-claims t) (place-strand-at t) place-strand.Post
 place-strand-mul-wide t c = search needs
 
-place-strand-shared-slice-read-wide : (t : ℕ) → place-strand-lts.Need-shared-slice-read-wide (
-  wide-reads.Asked,
-  wide-reads.Learnt,
-  mark-reads.Asked,
-  mark-reads.Learnt,
-  place-siblings-below t,
-  place-siblings.Post,
-  give-reads.Asked,
-  give-reads.Learnt,
-) (place-strand-at t) place-strand.Post
+place-strand-shared-slice-read-wide : (t : ℕ) → place-strand-lts.Need-shared-slice-read-wide (place-strand-claims t) (place-strand-at t) place-strand.Post
 place-strand-shared-slice-read-wide t c = search needs
 
-place-strand-wide-requires : (t : ℕ) → place-strand-lts.Need-wide-requires (
-  wide-reads.Asked,
-  wide-reads.Learnt,
-  mark-reads.Asked,
-  mark-reads.Learnt,
-  place-siblings-below t,
-  place-siblings.Post,
-  give-reads.Asked,
-  give-reads.Learnt,
-) (place-strand-at t) place-strand.Post
+place-strand-wide-requires : (t : ℕ) → place-strand-lts.Need-wide-requires (place-strand-claims t) (place-strand-at t) place-strand.Post
 place-strand-wide-requires t c κs = search needs
 
-place-strand-mark-requires : (t : ℕ) → place-strand-lts.Need-mark-requires (
-  wide-reads.Asked,
-  wide-reads.Learnt,
-  mark-reads.Asked,
-  mark-reads.Learnt,
-  place-siblings-below t,
-  place-siblings.Post,
-  give-reads.Asked,
-  give-reads.Learnt,
-) (place-strand-at t) place-strand.Post
+place-strand-mark-requires : (t : ℕ) → place-strand-lts.Need-mark-requires (place-strand-claims t) (place-strand-at t) place-strand.Post
 place-strand-mark-requires t c κs = (c .before .before .before .before .before .before .before .before .before .before .before .pre .1 .0 .strung .rising, c .before .before .before .before .before .before .before .before .before .before .before .pre .1 .0 .marks)
 
-place-strand-place-siblings-requires : (t : ℕ) → place-strand-lts.Need-place-siblings-requires (
-  wide-reads.Asked,
-  wide-reads.Learnt,
-  mark-reads.Asked,
-  mark-reads.Learnt,
-  place-siblings-below t,
-  place-siblings.Post,
-  give-reads.Asked,
-  give-reads.Learnt,
-) (place-strand-at t) place-strand.Post
+place-strand-place-siblings-requires : (t : ℕ) → place-strand-lts.Need-place-siblings-requires (place-strand-claims t) (place-strand-at t) place-strand.Post
 place-strand-place-siblings-requires t c κs =
     let a = c .before .before .before .before .before .before .before .before .before .before .before .before .before .before .before .before .args in
     let p = c .before .before .before .before .before .before .before .before .before .before .before .before .before .before .before .before .pre .1 .0 in
@@ -461,52 +221,16 @@ place-strand-place-siblings-requires t c κs =
           (begun-placeable (a .next .now) (a .top .now) (a .sibling .now) (a .apart .now) (a .at .now) (a .begun .now) p (a .v) (c .before .before .before .before .before .before .before .before .before .before .before .before .before .before .before .before .pre .1 .1) (c .before .before .before .before .before .before .before .before .if1 .left)),
     )
 
-place-strand-give-requires : (t : ℕ) → place-strand-lts.Need-give-requires (
-  wide-reads.Asked,
-  wide-reads.Learnt,
-  mark-reads.Asked,
-  mark-reads.Learnt,
-  place-siblings-below t,
-  place-siblings.Post,
-  give-reads.Asked,
-  give-reads.Learnt,
-) (place-strand-at t) place-strand.Post
+place-strand-give-requires : (t : ℕ) → place-strand-lts.Need-give-requires (place-strand-claims t) (place-strand-at t) place-strand.Post
 place-strand-give-requires t c κs = (c .before .before .before .before .before .before .before .before .before .before .before .before .before .before .before .before .before .before .before .before .before .before .pre .1 .0 .strung .rising, c .before .before .before .before .before .place-siblings .kept .1 .1 .1 .1 .1 .1 .0 ∙ c .before .before .before .before .before .before .before .before .before .before .before .before .before .before .before .before .before .before .before .before .before .before .pre .1 .0 .places)
 
-place-strand-same-length : (t : ℕ) → place-strand-lts.Need-same-length (
-  wide-reads.Asked,
-  wide-reads.Learnt,
-  mark-reads.Asked,
-  mark-reads.Learnt,
-  place-siblings-below t,
-  place-siblings.Post,
-  give-reads.Asked,
-  give-reads.Learnt,
-) (place-strand-at t) place-strand.Post
+place-strand-same-length : (t : ℕ) → place-strand-lts.Need-same-length (place-strand-claims t) (place-strand-at t) place-strand.Post
 place-strand-same-length t c = search needs
 
-place-strand-same-length-2 : (t : ℕ) → place-strand-lts.Need-same-length-2 (
-  wide-reads.Asked,
-  wide-reads.Learnt,
-  mark-reads.Asked,
-  mark-reads.Learnt,
-  place-siblings-below t,
-  place-siblings.Post,
-  give-reads.Asked,
-  give-reads.Learnt,
-) (place-strand-at t) place-strand.Post
+place-strand-same-length-2 : (t : ℕ) → place-strand-lts.Need-same-length-2 (place-strand-claims t) (place-strand-at t) place-strand.Post
 place-strand-same-length-2 t c = search needs
 
-place-strand-returns-2 : (t : ℕ) → place-strand-lts.Need-returns-2 (
-  wide-reads.Asked,
-  wide-reads.Learnt,
-  mark-reads.Asked,
-  mark-reads.Learnt,
-  place-siblings-below t,
-  place-siblings.Post,
-  give-reads.Asked,
-  give-reads.Learnt,
-) (place-strand-at t) place-strand.Post
+place-strand-returns-2 : (t : ℕ) → place-strand-lts.Need-returns-2 (place-strand-claims t) (place-strand-at t) place-strand.Post
 place-strand-returns-2 t c =
     let a = c .before .before .before .before .before .before .before .before .before .before .before .before .before .before .before .before .before .before .before .before .before .before .before .before .before .args in
     let p = c .before .before .before .before .before .before .before .before .before .before .before .before .before .before .before .before .before .before .before .before .before .before .before .before .before .pre .1 .0 in

@@ -17,13 +17,13 @@ array-borrow-prefix-order : tie.Need-array-borrow-prefix-order
 array-borrow-prefix-order c = search needs
 
 slice-aggregate-side-in : tie.Need-slice-aggregate-side-in
-slice-aggregate-side-in c = sym (length-take-le (length (c .before .before .before .before .before .before .before .args .next .now)) (replicate 1024 2048) (c .before .before .before .before .before .before .before .pre .0 .few))
+slice-aggregate-side-in c = sym (length-take-le (length (c .before .before .before .before .before .before .before .args .next .now)) (replicate 1024 0) (c .before .before .before .before .before .before .before .pre .0 .few))
 
 array-borrow-prefix-right : tie.Need-array-borrow-prefix-right
 array-borrow-prefix-right c = search needs
 
 slice-aggregate-side-in-2 : tie.Need-slice-aggregate-side-in-2
-slice-aggregate-side-in-2 c = sym (length-take-le (length (c .before .before .before .before .before .before .before .before .args .next .now)) (replicate 1024 2048) (c .before .before .before .before .before .before .before .before .pre .0 .few))
+slice-aggregate-side-in-2 c = sym (length-take-le (length (c .before .before .before .before .before .before .before .before .args .next .now)) (replicate 1024 0) (c .before .before .before .before .before .before .before .before .pre .0 .few))
 
 array-borrow-prefix-left : tie.Need-array-borrow-prefix-left
 array-borrow-prefix-left c = search needs
@@ -41,7 +41,7 @@ array-borrow-prefix-sibling : tie.Need-array-borrow-prefix-sibling
 array-borrow-prefix-sibling c = search needs
 
 slice-aggregate-side-in-5 : tie.Need-slice-aggregate-side-in-5
-slice-aggregate-side-in-5 c = sym (length-take-le (length (c .before .before .before .before .before .before .before .before .before .before .before .args .next .now)) (replicate 1024 2048) (c .before .before .before .before .before .before .before .before .before .before .before .pre .0 .few))
+slice-aggregate-side-in-5 c = sym (length-take-le (length (c .before .before .before .before .before .before .before .before .before .before .before .args .next .now)) (replicate 1024 0) (c .before .before .before .before .before .before .before .before .before .before .before .pre .0 .few))
 
 array-borrow-prefix-apart : tie.Need-array-borrow-prefix-apart
 array-borrow-prefix-apart c = search needs
@@ -68,11 +68,11 @@ side-in-requires c κs =
       c .before .before .before .before .before .before .before .before .before .before .before .before .before .before .before .pre .0,
       (
         record {
-          orders = length-take-le n (replicate 1024 2048) k;
-          rights = length-take-le n (replicate 1024 2048) k;
+          orders = length-take-le n (replicate 1024 0) k;
+          rights = length-take-le n (replicate 1024 0) k;
           lefts = take-replicate n 1024 2048 k;
           unclassed = take-replicate n 1024 0 k;
-          siblings = length-take-le n (replicate 1024 2048) k;
+          siblings = length-take-le n (replicate 1024 0) k;
           aparts = length-take-le n (replicate 1024 0) k;
           places = take-replicate n 1024 0 k;
           marks = take-replicate n 1024 false k;
