@@ -1,8 +1,6 @@
 pub mod LoadLaws
 pub mod ShowLaws
-pub mod Cuts
-pub mod DrawingTests
-pub mod Rooms
+pub mod DataLaws
 pub mod WhenRefused
 pub mod Loaded
 pub mod Drawn

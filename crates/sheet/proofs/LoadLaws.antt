@@ -13,7 +13,8 @@ use Rattle.plan.specs.declared.data.Plan.{Plan}
 use Rattle.sheet.specs.declared.types.Sheet.{Sheet}
 use Rattle.sheet.specs.declared.types.Answer.{Answer}
 use Rattle.sheet.specs.declared.types.Stage.the-variants.{Loaded}
-use Rattle.sheet.specs.Sheet.{arraysOf, noDrawing, loadedSheet}
+use Rattle.stored.specs.Arrays.{arraysOf, noDrawing}
+use Rattle.sheet.specs.Sheet.{loadedSheet}
 use Rattle.sheet.specs.Results.{gives, refuses, resultOf}
 use Rattle.sheet.specs.Calls.{SheetOut, sheetOut, loadOf, load, Leaves}
 

@@ -11,16 +11,17 @@ use lib.Seq.{take-at}
 use Rattle.ints.specs.Lists.{over}
 use Rattle.plan.specs.declared.data.Plan.{Plan}
 use Rattle.writing.specs.Written.{Fronts}
-use Rattle.sheet.specs.declared.types.Drawing.{Drawing as Arrays}
+use Rattle.stored.specs.declared.types.Drawing.{Drawing as Arrays}
+use Rattle.stored.specs.declared.types.Counts.{Counts}
+use Rattle.stored.specs.Parts.{isPlanWith, isDrawingWith, Holds, linesOf, lineWith, reportWith, marksOf, markWith}
 use Rattle.sheet.specs.declared.types.Sheet.{Sheet}
-use Rattle.sheet.specs.declared.types.Counts.{Counts}
 use Rattle.sheet.specs.declared.types.LineAnswer.{LineAnswer}
 use Rattle.sheet.specs.declared.types.LineAnswer.the-variants.{Written}
 use Rattle.sheet.specs.Sheet.{isEmpty, isDrawn}
 use Rattle.sheet.specs.Results.{gives, refuses, Test, firstRefusal}
 use Rattle.sheet.specs.Tests.{test11, test12, holdsPlan, test13Plan, holdsDrawing, test13Drawing, test7Line, test7Mark, test14, lineOf, reportOf}
 use Rattle.sheet.specs.Calls.{TextOut, textAfter, line, report, mark, Writes}
-use Rattle.sheet.specs.Parts.{countsIn, isPlanWith, isDrawingWith, Holds, showRefusal, fitted, linesOf, lineWith, lineFrom, reportWith, marksOf, markWith, markFrom}
+use Rattle.sheet.specs.Inner.{countsIn, showRefusal, fitted, lineFrom, markFrom}
 
 -- The tests that line, report and mark begin with.
 abbrev begun : Sheet → List Test → List Test

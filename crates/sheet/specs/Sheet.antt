@@ -1,19 +1,14 @@
 -- What a sheet holds: its stage's counts, its plan's data, its drawing.
 use mathlib.Core.Bool.{Bool, true, false}
-use mathlib.Core.List.{List, [], map}
 use Prim.Native.Nat.{ℕ}
-use lib.ListN.{length, take, replicate}
-use lib.IntN.{ℤ, pos}
-use Rattle.plan.specs.Limits.{maxVertices}
+use lib.ListN.{length}
 use Rattle.plan.specs.Plan.{PlanData, vertexCount}
 use Rattle.plan.specs.Stored.{planData, emptyPlan}
 use Rattle.reading.specs.Answer.{planOf}
-use Rattle.passes.specs.Drawing.{BoxAt, Placing, Drawing}
-use Rattle.passes.specs.Words.{boxesListed, maxListed}
-use Rattle.passes.specs.Stored.{padded, placingsFrom}
+use Rattle.passes.specs.Drawing.{Drawing}
+use Rattle.stored.specs.Arrays.{drawingFrom, arraysOf, noDrawing}
 use Rattle.sheet.specs.declared.types.Stage.{Stage}
 use Rattle.sheet.specs.declared.types.Stage.the-variants.{Empty, Loaded, Drawn}
-use Rattle.sheet.specs.declared.types.Drawing.{Drawing as Arrays}
 use Rattle.sheet.specs.declared.types.Sheet.{Sheet}
 
 -- "its stage: empty, loaded (with its vertex and segment counts), or drawn (with these and the count of placings)"
@@ -46,31 +41,9 @@ placingsIn (Drawn v e k) = k
 abbrev pub planIn : Sheet → PlanData
 planIn s = planData (s .plan) (verticesIn (s .header .stage)) (segmentsIn (s .header .stage))
 
--- The drawing: positions of as many vertices and as many placings as the stage says.
-abbrev pub drawingFrom : Arrays → ℕ → ℕ → Drawing
-drawingFrom d v k = record {
-  preliminary = take v (d .preliminary);
-  final = take v (d .finals);
-  placings = placingsFrom (take k (d .passes)) (take k (d .levels)) (take k (d .counts)) (d .vertices) (d .positions);
-}
-
+-- The drawing.
 abbrev pub drawingIn : Sheet → Drawing
 drawingIn s = drawingFrom (s .drawing) (verticesIn (s .header .stage)) (placingsIn (s .header .stage))
-
--- A drawing in arrays, 0 beyond it.
-unfoldable pub arraysOf : Drawing → Arrays
-arraysOf d = record {
-  preliminary = padded maxVertices (pos 0) (d .preliminary);
-  finals = padded maxVertices (pos 0) (d .final);
-  passes = padded maxListed 0 (map (λ (q : Placing). q .pass) (d .placings));
-  levels = padded maxListed 0 (map (λ (q : Placing). q .level) (d .placings));
-  counts = padded maxListed 0 (map (λ (q : Placing). length (q .boxes)) (d .placings));
-  vertices = padded maxListed 0 (map (λ (b : BoxAt). b .vertex) (boxesListed (d .placings)));
-  positions = padded maxListed (pos 0) (map (λ (b : BoxAt). b .position) (boxesListed (d .placings)));
-}
-
-abbrev pub noDrawing : Drawing
-noDrawing = record { preliminary = []; final = []; placings = [] }
 
 -- The one empty sheet.
 unfoldable pub emptySheet : Sheet

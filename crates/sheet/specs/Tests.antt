@@ -1,19 +1,15 @@
 -- The refusals of a sheet's calls, "from the state".
-use mathlib.Core.Bool.{Bool, not, _&&_}
+use mathlib.Core.Bool.{Bool, not}
 use mathlib.Core.List.{List, [], _∷_}
 use Prim.Native.Nat.{ℕ, _+_}
-use lib.Dec.{ltb, leb}
-use lib.ListN.{length, getD, take}
-use Rattle.ints.specs.Lists.{sum, concat}
-use Rattle.plan.specs.Stored.{planData}
-use Rattle.plan.specs.declared.data.Plan.{Plan}
+use lib.Dec.{ltb}
+use lib.ListN.{length, getD}
+use Rattle.ints.specs.Lists.{concat}
 use Rattle.writing.specs.Data.{isStoredPlan}
-use Rattle.passes.specs.Words.{maxListed}
 use Rattle.report.specs.Lines.{reportLines}
-use Rattle.report.specs.Valid.{isDrawing}
-use Rattle.sheet.specs.declared.types.Drawing.{Drawing as Arrays}
+use Rattle.stored.specs.Parts.{isDrawingIn}
 use Rattle.sheet.specs.declared.types.Sheet.{Sheet}
-use Rattle.sheet.specs.Sheet.{isEmpty, isDrawn, verticesIn, segmentsIn, placingsIn, planIn, drawingFrom, drawingIn}
+use Rattle.sheet.specs.Sheet.{isEmpty, isDrawn, verticesIn, segmentsIn, placingsIn, planIn, drawingIn}
 use Rattle.sheet.specs.Results.{Test, test}
 
 -- 11: "Draw, line or mark on an empty sheet."
@@ -31,11 +27,7 @@ holdsPlan s = isStoredPlan (s .plan) (verticesIn (s .header .stage)) (segmentsIn
 abbrev pub test13Plan : Sheet → Test
 test13Plan s = test 13 (not (holdsPlan s))
 
--- "for line and mark also a position outside ±2^40, a listed pass other than 1 to 3, a placing whose level and boxes are no
--- nonempty run of the plan, or more than 2,048 placings or boxes in the placings": of v vertices, e segments and k placings.
-unfoldable pub isDrawingIn : Plan → Arrays → ℕ → ℕ → ℕ → Bool
-isDrawingIn p d v e k = leb k maxListed && leb (sum (take k (d .counts))) maxListed && isDrawing (planData p v e) (drawingFrom d v k)
-
+-- "for line and mark also" what the drawing holds.
 abbrev pub holdsDrawing : Sheet → Bool
 holdsDrawing s =
     isDrawingIn (s .plan) (s .drawing) (verticesIn (s .header .stage)) (segmentsIn (s .header .stage)) (placingsIn (s .header .stage))

@@ -1,12 +1,12 @@
 // Load.
 use crate::types::Answer;
 use crate::types::Changed;
-use crate::types::Drawing;
 use crate::types::Header;
 use crate::types::Sheet;
 use crate::types::Stage;
 use reading::Answer as TextAnswer;
 use reading::read;
+use stored::types::Drawing;
 ghost use Rattle.sheet.specs.Calls as spec;
 ghost use Rattle.sheet.specs.Calls.{Leaves};
 

@@ -1,20 +1,14 @@
 // The refusals from the state, 11 to 13.
-use crate::types::Counts;
-use crate::types::Drawing;
 use crate::types::Stage;
 use plan::data::Plan;
-use validity::drawing::is_drawing;
+use stored::types::Counts;
+use stored::types::Drawing;
+use stored::valid::is_drawing_of;
 use writing::decision::is_plan_of_text;
 ghost use mathlib.Core.Path.{_≡_};
-ghost use mathlib.Core.Bool.{true};
-ghost use Rattle.sheet.specs.Parts.{countsIn, isPlanWith, isDrawingWith, planRefusal, drawRefusal, dataRefusal, showRefusal};
+ghost use Rattle.sheet.specs.Inner.{countsIn, planRefusal, drawRefusal, dataRefusal, showRefusal};
 
-pub fn level_count(k: u32) -> usize
-    ensures { λ r. ⌜ r ≡ k ⌝ }
-{
-    k as usize
-}
-
+// The counts of a stage; 0 where it has none.
 pub fn counts_in(stage: Stage) -> Counts
     ensures { λ r. ⌜ r ≡ countsIn stage ⌝ }
 {
@@ -56,39 +50,6 @@ pub fn draw_refusal(stage: Stage, plan: Plan) -> u32
         Stage::Loaded(_, _) => plan_refusal(plan, counts_in(stage)),
         Stage::Drawn(_, _, _) => plan_refusal(plan, counts_in(stage)),
     }
-}
-
-// 13, of the drawing of a plan that is not refused.
-fn is_drawing_of(plan: Plan, drawing: Drawing, counts: Counts) -> bool
-    requires { ⌜ isPlanWith plan counts ≡ true ⌝ }
-    ensures { λ r. ⌜ r ≡ isDrawingWith plan drawing counts ⌝ }
-{
-    let v = counts.vertices;
-    let p = counts.placings;
-    if Drawing::MAX_LISTED < p {
-        return false;
-    }
-    let k = level_count(plan.levels);
-    let sizes = plan.sizes;
-    let vias = plan.vias;
-    let preliminary = drawing.preliminary;
-    let finals = drawing.finals;
-    let passes = drawing.passes;
-    let levels = drawing.levels;
-    let boxes = drawing.counts;
-    let vertices = drawing.vertices;
-    let positions = drawing.positions;
-    is_drawing(
-        &sizes[..k],
-        &vias[..v],
-        &preliminary[..v],
-        &finals[..v],
-        &passes[..p],
-        &levels[..p],
-        &boxes[..p],
-        &vertices,
-        &positions,
-    )
 }
 
 // 13, of the plan and of the drawing: its number, or 0.

@@ -1,6 +1,6 @@
 -- `sheet::draw::draw` meets its contract: refused or not by 11 and 13.
 use borrow.Author.Needs.{needs}
-use Rattle.sheet.proofs.Cuts.{PlanArrays}
+use Rattle.stored.proofs.Cuts.{PlanArrays}
 use Rattle.sheet.proofs.DrawLaws.{draws-not, draws, plan-holds}
 use Rattle.sheet.proofs.draw.draw.Statement.{statement}
 use Rattle.sheet.proofs.draw.draw.Tie as tie

@@ -5,7 +5,7 @@ use native.Mathlib.Omega.{arith}
 use borrow.Author.Needs.{needs}
 use lib.Seq.{length-take-le}
 use Rattle.sheet.proofs.ShowLaws.{no-line, a-line, writes, front-long, front-is}
-use Rattle.sheet.proofs.Rooms.{Few, few}
+use Rattle.stored.proofs.Rooms.{Few, few}
 use Rattle.sheet.proofs.line.line_of.Statement.{statement}
 use Rattle.sheet.proofs.line.line_of.Tie as tie
 

@@ -4,7 +4,7 @@ use native.Mathlib.Omega.{arith}
 use borrow.Author.Needs.{needs}
 use Rattle.sheet.specs.Results.{gives}
 use Rattle.sheet.proofs.ShowLaws.{no-mark, a-mark}
-use Rattle.sheet.proofs.Rooms.{few}
+use Rattle.stored.proofs.Rooms.{few}
 use Rattle.sheet.proofs.mark.mark_of.Statement.{statement}
 use Rattle.sheet.proofs.mark.mark_of.Tie as tie
 

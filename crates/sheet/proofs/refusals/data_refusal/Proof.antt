@@ -2,7 +2,7 @@
 use mathlib.Core.Path.{_≡_, sym, _∙_}
 use borrow.Author.Needs.{needs}
 use borrow.Author.Tests.{not-true, not-false}
-use Rattle.sheet.proofs.DrawingTests.{no-plan, no-drawing, both}
+use Rattle.sheet.proofs.DataLaws.{no-plan, no-drawing, both}
 use Rattle.sheet.proofs.refusals.data_refusal.Statement.{statement}
 use Rattle.sheet.proofs.refusals.data_refusal.Tie as tie
 

@@ -2,7 +2,7 @@
 use mathlib.Core.Path.{_≡_, sym, _∙_}
 use borrow.Author.Needs.{needs}
 use Rattle.sheet.specs.Results.{firstRefusal}
-use Rattle.sheet.specs.Parts.{planRefusal, drawRefusal}
+use Rattle.sheet.specs.Inner.{planRefusal, drawRefusal}
 use Rattle.sheet.proofs.refusals.draw_refusal.Statement.{statement}
 use Rattle.sheet.proofs.refusals.draw_refusal.Tie as tie
 

@@ -1,7 +1,7 @@
 -- `sheet::refusals::plan_refusal` meets its contract: by the test.
 use mathlib.Core.Path.{_≡_, sym, _∙_}
 use borrow.Author.Needs.{needs}
-use Rattle.sheet.proofs.DrawingTests.{refuses-plan, takes-plan}
+use Rattle.sheet.proofs.DataLaws.{refuses-plan, takes-plan}
 use Rattle.sheet.proofs.refusals.plan_refusal.Statement.{statement}
 use Rattle.sheet.proofs.refusals.plan_refusal.Tie as tie
 

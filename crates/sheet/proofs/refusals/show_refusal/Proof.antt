@@ -1,7 +1,7 @@
 -- `sheet::refusals::show_refusal` meets its contract: by the stage.
 use borrow.Author.Needs.{needs}
 use Rattle.sheet.specs.Results.{firstRefusal}
-use Rattle.sheet.specs.Parts.{dataRefusal, showRefusal}
+use Rattle.sheet.specs.Inner.{dataRefusal, showRefusal}
 use Rattle.sheet.proofs.refusals.show_refusal.Statement.{statement}
 use Rattle.sheet.proofs.refusals.show_refusal.Tie as tie
 

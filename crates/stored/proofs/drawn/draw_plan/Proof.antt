@@ -1,4 +1,4 @@
--- `sheet::draw::draw_plan` meets its contract: the arrays are as long as what the counts cut off, and the drawing of those lists lies
+-- `stored::drawn::draw_plan` meets its contract: the arrays are as long as what the counts cut off, and the drawing of those lists lies
 -- in new arrays, 0 beyond it.
 use mathlib.Core.Path.{_≡_, refl, sym, _∙_}
 use native.Mathlib.Omega.{arith}
@@ -6,13 +6,12 @@ use borrow.Author.Needs.{needs}
 use lib.ListN.{length, take, replicate}
 use lib.Seq.{length-take-le}
 use lib.IntN.{ℤ, pos}
-use Rattle.writing.proofs.AgainLaws.{stored-of}
-use Rattle.sheet.specs.Parts.{planWith}
-use Rattle.sheet.proofs.Cuts.{PlanArrays, PlanCut, plan-cut}
-use Rattle.sheet.proofs.Drawn.{preliminary-long, final-long}
-use Rattle.sheet.proofs.DrawLaws.{plan-lists, new-is}
-use Rattle.sheet.proofs.draw.draw_plan.Statement.{statement}
-use Rattle.sheet.proofs.draw.draw_plan.Tie as tie
+use Rattle.stored.specs.Parts.{planWith}
+use Rattle.stored.proofs.Cuts.{PlanArrays, PlanCut, plan-cut}
+use Rattle.stored.proofs.ReadBack.{preliminary-of, final-of}
+use Rattle.stored.proofs.NewLaws.{plan-lists, new-is}
+use Rattle.stored.proofs.drawn.draw_plan.Statement.{statement}
+use Rattle.stored.proofs.drawn.draw_plan.Tie as tie
 
 plan-arrays : (c : tie.Start) → PlanArrays (c .args .plan)
 plan-arrays c = record { sizes = search needs; vias = search needs; halves = search needs; uppers = search needs; lowers = search needs }
@@ -27,14 +26,14 @@ zeros c = length-take-le (c .args .counts .vertices) (replicate 1024 (pos 0)) (o
 vertices : (c : tie.Start) → length (take (c .args .counts .vertices) (c .args .plan .vias)) ≡ c .args .counts .vertices
 vertices c = length-take-le (c .args .counts .vertices) (c .args .plan .vias) (of-plan c .vias)
 
-level-count-requires : tie.Need-level-count-requires
-level-count-requires c κs = search needs
+wide-requires : tie.Need-wide-requires
+wide-requires c κs = search needs
 
 array-share-prefix-sizes : tie.Need-array-share-prefix-sizes
-array-share-prefix-sizes c = omega (arith, of-plan (c .before .before .before .before .before .before) .sizes, c .before .before .before .before .before .level-count .ensures)
+array-share-prefix-sizes c = omega (arith, of-plan (c .before .before .before .before .before .before) .sizes, c .before .before .before .before .before .wide .ensures)
 
 slice-aggregate-draw : tie.Need-slice-aggregate-draw
-slice-aggregate-draw c = sym (length-take-le _ _ (omega (arith, of-plan (c .before .before .before .before .before .before .before) .sizes, c .before .before .before .before .before .before .level-count .ensures)))
+slice-aggregate-draw c = sym (length-take-le _ _ (omega (arith, of-plan (c .before .before .before .before .before .before .before) .sizes, c .before .before .before .before .before .before .wide .ensures)))
 
 array-share-prefix-vias : tie.Need-array-share-prefix-vias
 array-share-prefix-vias c = of-plan (c .before .before .before .before .before .before .before) .vias
@@ -92,7 +91,7 @@ draw-requires c κs =
     let s = c .before .before .before .before .before .before .before .before .before .before .before .before .before .before .before .before .before .before in
     let a = s .args in
     record {
-      some = record { plan = planWith (a .plan) (a .counts); lists = rw (c .before .before .before .before .before .before .before .before .before .before .before .before .before .before .before .before .before .level-count .ensures) (plan-lists (a .plan) (a .counts) (s .pre)) };
+      some = record { plan = planWith (a .plan) (a .counts); lists = rw (c .before .before .before .before .before .before .before .before .before .before .before .before .before .before .before .before .before .wide .ensures) (plan-lists (a .plan) (a .counts) (s .pre)) };
       preliminaryRoom = zeros s ∙ sym (vertices s);
       finalRoom = zeros s ∙ sym (vertices s);
       noPasses = refl;
@@ -107,15 +106,15 @@ returns c =
     let s = c .before .before .before .before .before .before .before .before .before .before .before .before .before .before .before .before .before .before .before .before .before .before .before .before .before .before in
     let a = s .args in
     let p = planWith (a .plan) (a .counts) in
-    let ok = stored-of (a .plan) (a .counts .vertices) (a .counts .segments) (s .pre) .plan in
-    new-is p (a .counts .vertices) _ _ _ _ _ _ _ _ (of-plan s .few) (preliminary-long p ok ∙ vertices s) (final-long p ok ∙ vertices s)
-    (c .before .before .before .before .before .before .before .draw .ensures p (rw (c .before .before .before .before .before .before .before .before .before .before .before .before .before .before .before .before .before .before .before .before .before .before .before .before .before .level-count .ensures) (plan-lists (a .plan) (a .counts) (s .pre))))
+    let m = c .before .before .before .before .before .before .before .draw in
+    new-is p (a .counts .vertices) _ _ _ _ _ _ _ _ (of-plan s .few) (preliminary-of (a .plan) (plan-arrays s) (a .counts .vertices) (a .counts .segments) (s .pre)) (final-of (a .plan) (plan-arrays s) (a .counts .vertices) (a .counts .segments) (s .pre))
+    (m .ensures p (rw (c .before .before .before .before .before .before .before .before .before .before .before .before .before .before .before .before .before .before .before .before .before .before .before .before .before .wide .ensures) (plan-lists (a .plan) (a .counts) (s .pre))))
 
 pub draw-plan-spec : {M : Type 1} → statement M
 draw-plan-spec =
     tie.close
     (tie.spec
-    level-count-requires
+    wide-requires
     array-share-prefix-sizes
     slice-aggregate-draw
     array-share-prefix-vias

@@ -1,4 +1,4 @@
--- `sheet::refusals::is_drawing_of` meets its contract: the arrays are as long as what the counts cut off, and of those parts
+-- `stored::valid::is_drawing_of` meets its contract: the arrays are as long as what the counts cut off, and of those parts
 -- `is_drawing` decides.
 use mathlib.Core.Path.{_≡_, sym, _∙_}
 use Prim.Native.Nat.{_≤_}
@@ -6,11 +6,11 @@ use native.Mathlib.Omega.{arith}
 use borrow.Author.Needs.{needs}
 use lib.Seq.{length-take-le}
 use Rattle.passes.specs.Words.{maxListed}
-use Rattle.sheet.specs.Parts.{planWith}
-use Rattle.sheet.proofs.Cuts.{PlanArrays, DrawingArrays, PlanCut, DrawingCut, plan-cut, drawing-cut}
-use Rattle.sheet.proofs.DrawingTests.{many-placings, few-placings, stored-levels, stored-plan, stored-list}
-use Rattle.sheet.proofs.refusals.is_drawing_of.Statement.{statement}
-use Rattle.sheet.proofs.refusals.is_drawing_of.Tie as tie
+use Rattle.stored.specs.Parts.{planWith}
+use Rattle.stored.proofs.Cuts.{PlanArrays, DrawingArrays, PlanCut, DrawingCut, plan-cut, drawing-cut}
+use Rattle.stored.proofs.ValidLaws.{many-placings, few-placings, stored-levels, stored-plan, stored-list}
+use Rattle.stored.proofs.valid.is_drawing_of.Statement.{statement}
+use Rattle.stored.proofs.valid.is_drawing_of.Tie as tie
 
 plan-arrays : (c : tie.Start) → PlanArrays (c .args .plan)
 plan-arrays c = record { sizes = search needs; vias = search needs; halves = search needs; uppers = search needs; lowers = search needs }
@@ -35,14 +35,14 @@ in-drawing c h = drawing-cut (drawing-arrays c) (c .args .counts) (in-plan c .fe
 returns : tie.Need-returns
 returns c = let a = c .before .args in sym (many-placings (a .plan) (a .drawing) (a .counts) (c .if1 .taken))
 
-level-count-requires : tie.Need-level-count-requires
-level-count-requires c κs = search needs
+wide-requires : tie.Need-wide-requires
+wide-requires c κs = search needs
 
 array-share-prefix-sizes : tie.Need-array-share-prefix-sizes
-array-share-prefix-sizes c = omega (arith, in-plan (c .before .before .before .before .before .before .before .before .before .before .before) .sizes, c .before .before .before .before .before .before .before .before .before .level-count .ensures)
+array-share-prefix-sizes c = omega (arith, in-plan (c .before .before .before .before .before .before .before .before .before .before .before) .sizes, c .before .before .before .before .before .before .before .before .before .wide .ensures)
 
 slice-aggregate-is-drawing : tie.Need-slice-aggregate-is-drawing
-slice-aggregate-is-drawing c = sym (length-take-le _ _ (omega (arith, in-plan (c .before .before .before .before .before .before .before .before .before .before .before .before) .sizes, c .before .before .before .before .before .before .before .before .before .before .level-count .ensures)))
+slice-aggregate-is-drawing c = sym (length-take-le _ _ (omega (arith, in-plan (c .before .before .before .before .before .before .before .before .before .before .before .before) .sizes, c .before .before .before .before .before .before .before .before .before .before .wide .ensures)))
 
 array-share-prefix-vias : tie.Need-array-share-prefix-vias
 array-share-prefix-vias c = omega (arith, in-plan (c .before .before .before .before .before .before .before .before .before .before .before .before) .vias)
@@ -90,20 +90,20 @@ is-drawing-requires : tie.Need-is-drawing-requires
 is-drawing-requires c κs =
     let s = c .before .before .before .before .before .before .before .before .before .before .before .before .before .before .before .before .before .before .before .before in
     let a = s .args in
-    (rw (c .before .before .before .before .before .before .before .before .before .before .before .before .before .before .before .before .before .before .level-count .ensures) (stored-levels (a .plan) (a .drawing) (a .counts) (s .pre)), stored-list (a .plan) (a .drawing) (a .counts) (drawing-arrays s) (in-drawing s (c .before .before .before .before .before .before .before .before .before .before .before .before .before .before .before .before .before .before .before .if1 .left)))
+    (rw (c .before .before .before .before .before .before .before .before .before .before .before .before .before .before .before .before .before .before .wide .ensures) (stored-levels (a .plan) (a .drawing) (a .counts) (s .pre)), stored-list (a .plan) (a .drawing) (a .counts) (drawing-arrays s) (in-drawing s (c .before .before .before .before .before .before .before .before .before .before .before .before .before .before .before .before .before .before .before .if1 .left)))
 
 returns-2 : tie.Need-returns-2
 returns-2 c =
     let s = c .before .before .before .before .before .before .before .before .before .before .before .before .before .before .before .before .before .before .before .before .before in
     let a = s .args in
-    few-placings (a .plan) (a .drawing) (a .counts) _ (c .before .before .before .before .before .before .before .before .before .before .before .before .before .before .before .before .before .before .before .before .if1 .left) (c .is-drawing .ensures (planWith (a .plan) (a .counts)) (rw (c .before .before .before .before .before .before .before .before .before .before .before .before .before .before .before .before .before .before .before .level-count .ensures) (stored-plan (a .plan) (a .drawing) (a .counts) (s .pre))))
+    few-placings (a .plan) (a .drawing) (a .counts) _ (c .before .before .before .before .before .before .before .before .before .before .before .before .before .before .before .before .before .before .before .before .if1 .left) (c .is-drawing .ensures (planWith (a .plan) (a .counts)) (rw (c .before .before .before .before .before .before .before .before .before .before .before .before .before .before .before .before .before .before .before .wide .ensures) (stored-plan (a .plan) (a .drawing) (a .counts) (s .pre))))
 
 pub is-drawing-of-spec : {M : Type 1} → statement M
 is-drawing-of-spec =
     tie.close
     (tie.spec
     returns
-    level-count-requires
+    wide-requires
     array-share-prefix-sizes
     slice-aggregate-is-drawing
     array-share-prefix-vias

@@ -1,4 +1,4 @@
--- A sheet's arrays, and the parts of them that its counts cut off.
+-- The arrays of a plan and of its drawing, and the parts of them that the counts cut off.
 use mathlib.Core.Path.{_≡_, sym, _∙_}
 use mathlib.Core.Bool.{true}
 use Prim.Native.Nat.{ℕ, _≤_}
@@ -8,9 +8,9 @@ use Rattle.plan.specs.Limits.{maxLevels, maxVertices, maxSegments}
 use Rattle.plan.specs.declared.data.Plan.{Plan}
 use Rattle.passes.specs.Words.{maxListed}
 use Rattle.writing.proofs.AgainLaws.{StoredPlan, stored-of}
-use Rattle.sheet.specs.declared.types.Drawing.{Drawing as Arrays}
-use Rattle.sheet.specs.declared.types.Counts.{Counts}
-use Rattle.sheet.specs.Parts.{isPlanWith}
+use Rattle.stored.specs.declared.types.Drawing.{Drawing as Arrays}
+use Rattle.stored.specs.declared.types.Counts.{Counts}
+use Rattle.stored.specs.Parts.{isPlanWith}
 
 -- How long the arrays of a plan and of a drawing are.
 pub record PlanArrays (p : Plan) : Type 0 where

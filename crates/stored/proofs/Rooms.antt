@@ -1,4 +1,4 @@
--- What the lines and the marks of a sheet that is not refused ask for is there: of its arrays, the parts that its counts cut off.
+-- What the lines and the marks of a drawing that is not refused ask for is there: the parts of its arrays that the counts cut off.
 use mathlib.Core.Path.{_≡_, refl, sym, _∙_, ap}
 use mathlib.Core.Bool.{true, _&&_}
 use mathlib.Core.List.{List, [], _∷_}
@@ -24,11 +24,10 @@ use Rattle.lines.proofs.Listed.{final-within}
 use Rattle.lines.proofs.Rooms.{line-room, report-room, drawing-within}
 use Rattle.marks.specs.Asked.{Asked, DataOf}
 use Rattle.marks.proofs.Acceptable.{asked}
-use Rattle.sheet.specs.declared.types.Drawing.{Drawing as Arrays}
-use Rattle.sheet.specs.declared.types.Counts.{Counts}
-use Rattle.sheet.specs.Tests.{isDrawingIn}
-use Rattle.sheet.specs.Parts.{planWith, drawingWith, Holds, linesOf, lineWith, reportWith, marksOf}
-use Rattle.sheet.proofs.Cuts.{PlanArrays, DrawingArrays, PlanCut, DrawingCut, plan-cut, drawing-cut}
+use Rattle.stored.specs.declared.types.Drawing.{Drawing as Arrays}
+use Rattle.stored.specs.declared.types.Counts.{Counts}
+use Rattle.stored.specs.Parts.{isDrawingIn, planWith, drawingWith, Holds, linesOf, lineWith, reportWith, marksOf}
+use Rattle.stored.proofs.Cuts.{PlanArrays, DrawingArrays, PlanCut, DrawingCut, plan-cut, drawing-cut}
 
 module _ (p : Plan) (d : Arrays) (c : Counts) (h : Holds p d c) where
   plan-ok : acceptable (planWith p c) ≡ true

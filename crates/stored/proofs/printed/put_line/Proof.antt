@@ -1,12 +1,12 @@
--- `sheet::line::put_line` meets its contract: the arrays are as long as what the counts cut off, and those parts hold the line.
+-- `stored::printed::put_line` meets its contract: the arrays are as long as what the counts cut off, and those parts hold the line.
 use mathlib.Core.Path.{_≡_, sym, _∙_}
 use native.Mathlib.Omega.{arith}
 use borrow.Author.Needs.{needs}
 use lib.Seq.{length-take-le}
-use Rattle.sheet.proofs.Cuts.{PlanArrays, DrawingArrays, PlanCut, DrawingCut}
-use Rattle.sheet.proofs.Rooms.{in-plan, in-drawing, line-asked, line-fronts}
-use Rattle.sheet.proofs.line.put_line.Statement.{statement}
-use Rattle.sheet.proofs.line.put_line.Tie as tie
+use Rattle.stored.proofs.Cuts.{PlanArrays, DrawingArrays, PlanCut, DrawingCut}
+use Rattle.stored.proofs.Rooms.{in-plan, in-drawing, line-asked, line-fronts}
+use Rattle.stored.proofs.printed.put_line.Statement.{statement}
+use Rattle.stored.proofs.printed.put_line.Tie as tie
 
 plan-arrays : (c : tie.Start) → PlanArrays (c .args .plan)
 plan-arrays c = record { sizes = search needs; vias = search needs; halves = search needs; uppers = search needs; lowers = search needs }
@@ -28,14 +28,14 @@ of-plan c = in-plan (c .args .plan) (c .args .drawing) (c .args .counts) (c .pre
 of-drawing : (c : tie.Start) → DrawingCut (c .args .drawing) (c .args .counts)
 of-drawing c = in-drawing (c .args .plan) (c .args .drawing) (c .args .counts) (c .pre .0) (plan-arrays c) (drawing-arrays c)
 
-level-count-requires : tie.Need-level-count-requires
-level-count-requires c κs = search needs
+wide-requires : tie.Need-wide-requires
+wide-requires c κs = search needs
 
 array-share-prefix-sizes : tie.Need-array-share-prefix-sizes
-array-share-prefix-sizes c = omega (arith, of-plan (c .before .before .before .before .before .before .before .before .before .before) .sizes, c .before .before .before .before .before .before .before .before .level-count .ensures)
+array-share-prefix-sizes c = omega (arith, of-plan (c .before .before .before .before .before .before .before .before .before .before) .sizes, c .before .before .before .before .before .before .before .before .wide .ensures)
 
 slice-aggregate-put-report-line : tie.Need-slice-aggregate-put-report-line
-slice-aggregate-put-report-line c = sym (length-take-le _ _ (omega (arith, of-plan (c .before .before .before .before .before .before .before .before .before .before .before) .sizes, c .before .before .before .before .before .before .before .before .before .level-count .ensures)))
+slice-aggregate-put-report-line c = sym (length-take-le _ _ (omega (arith, of-plan (c .before .before .before .before .before .before .before .before .before .before .before) .sizes, c .before .before .before .before .before .before .before .before .before .wide .ensures)))
 
 array-share-prefix-preliminary : tie.Need-array-share-prefix-preliminary
 array-share-prefix-preliminary c = of-drawing (c .before .before .before .before .before .before .before .before .before .before .before) .preliminary
@@ -77,7 +77,7 @@ put-report-line-requires : tie.Need-put-report-line-requires
 put-report-line-requires c κs =
     let s = c .before .before .before .before .before .before .before .before .before .before .before .before .before .before .before .before .before .before .before in
     let a = s .args in
-    rw (c .before .before .before .before .before .before .before .before .before .before .before .before .before .before .before .before .before .level-count .ensures) (line-asked (a .plan) (a .drawing) (a .counts) (s .pre .0) (plan-arrays s) (drawing-arrays s) (a .n) (s .pre .1) (s .pre .2))
+    rw (c .before .before .before .before .before .before .before .before .before .before .before .before .before .before .before .before .before .wide .ensures) (line-asked (a .plan) (a .drawing) (a .counts) (s .pre .0) (plan-arrays s) (drawing-arrays s) (a .n) (s .pre .1) (s .pre .2))
 
 same-length : tie.Need-same-length
 same-length c = c .before .before .put-report-line .kept .1 .1 .1 .1 .1 .1 .1 .1 .1 .1 .0
@@ -86,13 +86,13 @@ returns : tie.Need-returns
 returns c =
     let s = c .before .before .before .before .before .before .before .before .before .before .before .before .before .before .before .before .before .before .before .before .before .before in
     let a = s .args in
-    line-fronts (a .plan) (a .drawing) (a .counts) (s .pre .0) (plan-arrays s) (drawing-arrays s) (a .n) (rw (c .before .before .before .before .before .before .before .before .before .before .before .before .before .before .before .before .before .before .before .before .level-count .ensures) at (c .before .before .put-report-line .ensures))
+    line-fronts (a .plan) (a .drawing) (a .counts) (s .pre .0) (plan-arrays s) (drawing-arrays s) (a .n) (rw (c .before .before .before .before .before .before .before .before .before .before .before .before .before .before .before .before .before .before .before .before .wide .ensures) at (c .before .before .put-report-line .ensures))
 
 pub put-line-spec : {M : Type 1} → statement M
 put-line-spec =
     tie.close
     (tie.spec
-    level-count-requires
+    wide-requires
     array-share-prefix-sizes
     slice-aggregate-put-report-line
     array-share-prefix-preliminary

@@ -13,24 +13,11 @@ use Rattle.passes.specs.Words.{maxListed}
 use Rattle.validity.specs.Stored.{isStoredDrawing, OfPlan, StoredLevels, StoredList}
 use Rattle.validity.proofs.Drawn.{of-plan, levels-of}
 use Rattle.writing.proofs.AgainLaws.{stored-of}
-use Rattle.sheet.specs.declared.types.Drawing.{Drawing as Arrays}
-use Rattle.sheet.specs.declared.types.Counts.{Counts}
-use Rattle.sheet.specs.Results.{firstRefusal}
-use Rattle.sheet.specs.Tests.{isDrawingIn}
-use Rattle.sheet.specs.Parts.{planWith, isPlanWith, isDrawingWith, planRefusal, dataRefusal}
-use Rattle.sheet.proofs.Cuts.{DrawingArrays, DrawingCut}
+use Rattle.stored.specs.declared.types.Drawing.{Drawing as Arrays}
+use Rattle.stored.specs.declared.types.Counts.{Counts}
+use Rattle.stored.specs.Parts.{isDrawingIn, planWith, isPlanWith, isDrawingWith}
+use Rattle.stored.proofs.Cuts.{DrawingArrays, DrawingCut}
 
--- ---- 13, of the plan
-module _ (p : Plan) (c : Counts) where
-  pub refuses-plan : isPlanWith p c ≡ false → 13 ≡ planRefusal p c
-  unfolding planRefusal firstRefusal
-  refuses-plan h = rw h
-
-  pub takes-plan : isPlanWith p c ≡ true → 0 ≡ planRefusal p c
-  unfolding planRefusal firstRefusal
-  takes-plan h = rw h
-
--- ---- of the drawing
 module _ (p : Plan) (d : Arrays) (c : Counts) where
   pub many-placings : maxListed < c .placings → isDrawingWith p d c ≡ false
   unfolding isDrawingIn
@@ -58,16 +45,3 @@ module _ (p : Plan) (d : Arrays) (c : Counts) where
         ofVertices = a .vertices;
         ofPositions = a .positions;
       }
-
-  -- ---- 13, of both
-  pub no-plan : isPlanWith p c ≡ false → 13 ≡ dataRefusal p d c
-  unfolding dataRefusal firstRefusal
-  no-plan h = rw h
-
-  pub no-drawing : isPlanWith p c ≡ true → isDrawingWith p d c ≡ false → 13 ≡ dataRefusal p d c
-  unfolding dataRefusal firstRefusal
-  no-drawing h k = rw (h, k)
-
-  pub both : isPlanWith p c ≡ true → isDrawingWith p d c ≡ true → 0 ≡ dataRefusal p d c
-  unfolding dataRefusal firstRefusal
-  both h k = rw (h, k)

@@ -1,13 +1,13 @@
--- `sheet::mark::mark_with` meets its contract: the arrays are as long as what the counts cut off, and those parts hold the mark.
+-- `stored::marked::mark_with` meets its contract: the arrays are as long as what the counts cut off, and those parts hold the mark.
 use mathlib.Core.Path.{_≡_, sym, _∙_}
 use native.Mathlib.Omega.{arith}
 use borrow.Author.Needs.{needs}
 use lib.Seq.{length-take-le}
-use Rattle.sheet.specs.Parts.{planWith}
-use Rattle.sheet.proofs.Cuts.{PlanArrays, DrawingArrays, PlanCut, DrawingCut}
-use Rattle.sheet.proofs.Rooms.{in-plan, in-drawing, mark-asked, mark-data}
-use Rattle.sheet.proofs.mark.mark_with.Statement.{statement}
-use Rattle.sheet.proofs.mark.mark_with.Tie as tie
+use Rattle.stored.specs.Parts.{planWith}
+use Rattle.stored.proofs.Cuts.{PlanArrays, DrawingArrays, PlanCut, DrawingCut}
+use Rattle.stored.proofs.Rooms.{in-plan, in-drawing, mark-asked, mark-data}
+use Rattle.stored.proofs.marked.mark_with.Statement.{statement}
+use Rattle.stored.proofs.marked.mark_with.Tie as tie
 
 plan-arrays : (c : tie.Start) → PlanArrays (c .args .plan)
 plan-arrays c = record { sizes = search needs; vias = search needs; halves = search needs; uppers = search needs; lowers = search needs }
@@ -29,14 +29,14 @@ of-plan c = in-plan (c .args .plan) (c .args .drawing) (c .args .counts) (c .pre
 of-drawing : (c : tie.Start) → DrawingCut (c .args .drawing) (c .args .counts)
 of-drawing c = in-drawing (c .args .plan) (c .args .drawing) (c .args .counts) (c .pre .0) (plan-arrays c) (drawing-arrays c)
 
-level-count-requires : tie.Need-level-count-requires
-level-count-requires c κs = search needs
+wide-requires : tie.Need-wide-requires
+wide-requires c κs = search needs
 
 array-share-prefix-sizes : tie.Need-array-share-prefix-sizes
-array-share-prefix-sizes c = omega (arith, of-plan (c .before .before .before .before .before .before .before) .sizes, c .before .before .before .before .before .before .level-count .ensures)
+array-share-prefix-sizes c = omega (arith, of-plan (c .before .before .before .before .before .before .before) .sizes, c .before .before .before .before .before .before .wide .ensures)
 
 slice-aggregate-mark : tie.Need-slice-aggregate-mark
-slice-aggregate-mark c = sym (length-take-le _ _ (omega (arith, of-plan (c .before .before .before .before .before .before .before .before) .sizes, c .before .before .before .before .before .before .before .level-count .ensures)))
+slice-aggregate-mark c = sym (length-take-le _ _ (omega (arith, of-plan (c .before .before .before .before .before .before .before .before) .sizes, c .before .before .before .before .before .before .before .wide .ensures)))
 
 array-share-prefix-vias : tie.Need-array-share-prefix-vias
 array-share-prefix-vias c = of-plan (c .before .before .before .before .before .before .before .before) .vias
@@ -72,19 +72,19 @@ mark-requires : tie.Need-mark-requires
 mark-requires c κs =
     let s = c .before .before .before .before .before .before .before .before .before .before .before .before .before in
     let a = s .args in
-    rw (c .before .before .before .before .before .before .before .before .before .before .before .before .level-count .ensures) (mark-asked (a .plan) (a .drawing) (a .counts) (s .pre .0) (plan-arrays s) (drawing-arrays s) (a .n) (s .pre .1))
+    rw (c .before .before .before .before .before .before .before .before .before .before .before .before .wide .ensures) (mark-asked (a .plan) (a .drawing) (a .counts) (s .pre .0) (plan-arrays s) (drawing-arrays s) (a .n) (s .pre .1))
 
 returns : tie.Need-returns
 returns c =
     let s = c .before .before .before .before .before .before .before .before .before .before .before .before .before .before in
     let a = s .args in
-    c .mark .ensures (planWith (a .plan) (a .counts)) (rw (c .before .before .before .before .before .before .before .before .before .before .before .before .before .level-count .ensures) (mark-data (a .plan) (a .drawing) (a .counts) (s .pre .0)))
+    c .mark .ensures (planWith (a .plan) (a .counts)) (rw (c .before .before .before .before .before .before .before .before .before .before .before .before .before .wide .ensures) (mark-data (a .plan) (a .drawing) (a .counts) (s .pre .0)))
 
 pub mark-with-spec : {M : Type 1} → statement M
 mark-with-spec =
     tie.close
     (tie.spec
-    level-count-requires
+    wide-requires
     array-share-prefix-sizes
     slice-aggregate-mark
     array-share-prefix-vias

@@ -1,0 +1,5 @@
+pub mod Cuts
+pub mod ValidLaws
+pub mod Rooms
+pub mod ReadBack
+pub mod NewLaws

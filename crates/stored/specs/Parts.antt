@@ -1,0 +1,65 @@
+-- A plan and its drawing in arrays, with their counts: what is in them, and whether it is refused.
+use mathlib.Core.Bool.{Bool, true, _&&_}
+use mathlib.Core.List.{List, []}
+use mathlib.Core.Path.{_≡_}
+use Prim.Native.Nat.{ℕ, _+_}
+use lib.Dec.{leb}
+use lib.ListN.{length, getD, take}
+use Rattle.ints.specs.Lists.{sum, concat}
+use Rattle.plan.specs.Plan.{PlanData}
+use Rattle.plan.specs.Stored.{planData}
+use Rattle.plan.specs.declared.data.Plan.{Plan}
+use Rattle.writing.specs.Data.{isStoredPlan}
+use Rattle.passes.specs.Drawing.{Drawing}
+use Rattle.passes.specs.Words.{maxListed}
+use Rattle.report.specs.Lines.{reportLines}
+use Rattle.report.specs.Valid.{isDrawing}
+use Rattle.marks.specs.declared.types.Mark.{Mark}
+use Rattle.marks.specs.Marks.{markOf}
+use Rattle.stored.specs.declared.types.Drawing.{Drawing as Arrays}
+use Rattle.stored.specs.declared.types.NewDrawing.{NewDrawing}
+use Rattle.stored.specs.declared.types.Counts.{Counts}
+use Rattle.stored.specs.Arrays.{drawingFrom, arraysOf}
+
+-- 13, "for line and mark also a position outside ±2^40, a listed pass other than 1 to 3, a placing whose level and boxes are no
+-- nonempty run of the plan, or more than 2,048 placings or boxes in the placings": of v vertices, e segments and k placings.
+unfoldable pub isDrawingIn : Plan → Arrays → ℕ → ℕ → ℕ → Bool
+isDrawingIn p d v e k = leb k maxListed && leb (sum (take k (d .counts))) maxListed && isDrawing (planData p v e) (drawingFrom d v k)
+
+-- The plan and the drawing that lie in the arrays, and 13 of each.
+abbrev pub planWith : Plan → Counts → PlanData
+planWith p c = planData p (c .vertices) (c .segments)
+
+abbrev pub drawingWith : Arrays → Counts → Drawing
+drawingWith d c = drawingFrom d (c .vertices) (c .placings)
+
+abbrev pub isPlanWith : Plan → Counts → Bool
+isPlanWith p c = isStoredPlan p (c .vertices) (c .segments)
+
+abbrev pub isDrawingWith : Plan → Arrays → Counts → Bool
+isDrawingWith p d c = isDrawingIn p d (c .vertices) (c .segments) (c .placings)
+
+-- Neither is refused.
+pub record Holds (p : Plan) (d : Arrays) (c : Counts) : Type 0 where
+  pub plan : isPlanWith p c ≡ true
+  pub drawing : isDrawingWith p d c ≡ true
+
+-- How many lines and marks there are, and which.
+abbrev pub linesOf : Counts → ℕ
+linesOf c = c .vertices + c .placings + 2
+
+abbrev pub lineWith : Plan → Arrays → Counts → ℕ → List ℕ
+lineWith p d c n = getD (reportLines (planWith p c) (drawingWith d c)) n []
+
+abbrev pub reportWith : Plan → Arrays → Counts → List ℕ
+reportWith p d c = concat (reportLines (planWith p c) (drawingWith d c))
+
+abbrev pub marksOf : Counts → ℕ
+marksOf c = c .vertices + c .segments
+
+abbrev pub markWith : Plan → Arrays → Counts → ℕ → Mark
+markWith p d c n = markOf (planWith p c) (drawingWith d c .final) n
+
+-- A drawing's arrays, and how many placings it lists.
+abbrev pub newDrawing : Drawing → NewDrawing
+newDrawing d = record { drawing = arraysOf d; placings = length (d .placings) }
