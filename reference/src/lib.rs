@@ -5,7 +5,7 @@
 //! - [`preliminary`] gives every vertex its preliminary position;
 //! - [`place_run`] places one run: [`half_steps`] is the definition, [`jumps`] the fast way to the same outcome;
 //! - [`passes`] goes over the levels three times, places their runs and lists the placings;
-//! - [`report`] prints the drawing, and reads a printed one.
+//! - [`report`] prints the drawing, and reads a printed one; [`marks`] gives it as points for a screen.
 //!
 //! Beside them: [`generate`] makes random plan texts, [`edges`] those at the edge of each check, [`readings`] lists texts with
 //! what reading them gives, [`requests`] makes requests for place-run, and [`check`] judges a finished drawing by what was promised of it, without following the method.
@@ -23,6 +23,7 @@ pub mod edges;
 pub mod generate;
 pub mod half_steps;
 pub mod jumps;
+pub mod marks;
 pub mod passes;
 pub mod place_run;
 pub mod plan;

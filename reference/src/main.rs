@@ -24,6 +24,9 @@ reference outcomes COUNT         what place-run answers to them, a line each
 reference texts DIR COUNT        plan texts, each after a line with its length: those at the edges of the checks, the
                                  short plans in the folder, COUNT random damaged ones
 reference readings DIR COUNT     what reading them gives, a line each: (accepted LENGTH) or (refused N)
+reference inputs DIR COUNT       plan texts, each after a line with its length: those at the edges of the checks, all plans
+                                 in the folder, COUNT random ones of each kind
+reference reports DIR COUNT      their reports, one after another
 KIND: small medium wide deep vias max tangled damaged
 ";
 
@@ -62,6 +65,8 @@ fn run(words: &[&str]) -> io::Result<bool> {
         ["outcomes", count] => print(lines(number(count)?, Request::outcome_line).as_bytes()),
         ["texts", folder, count] => print(&listed(folder, count, readings::with_length)?),
         ["readings", folder, count] => print(&listed(folder, count, readings::outcome)?),
+        ["inputs", folder, count] => print(&of_every_kind(folder, count, readings::with_length)?),
+        ["reports", folder, count] => print(&of_every_kind(folder, count, report::answer)?),
         _ => Err(wrong(USAGE)),
     }
 }
@@ -141,10 +146,21 @@ fn lines(count: u64, say: impl Fn(&Request) -> String) -> String {
 
 /// What is to be said of plan texts: those at the edges of the checks, the short ones in a folder, and random ones.
 fn listed(folder: &str, count: &str, say: impl Fn(&[u8]) -> Vec<u8>) -> io::Result<Vec<u8>> {
-    let mut given: Vec<Vec<u8>> = plans(Path::new(folder))?.iter().map(fs::read).collect::<io::Result<_>>()?;
+    let mut given = texts_in(folder)?;
     given.retain(|text| text.len() <= MOST_IN_PLAN);
     let texts = readings::texts(given, usize::try_from(number(count)?).unwrap_or(0));
     Ok(texts.iter().flat_map(|text| say(text)).collect())
+}
+
+/// The same of those at the edges, all in a folder, and random ones of each kind.
+fn of_every_kind(folder: &str, count: &str, say: impl Fn(&[u8]) -> Vec<u8>) -> io::Result<Vec<u8>> {
+    let texts = readings::of_every_kind(texts_in(folder)?, number(count)?);
+    Ok(texts.iter().flat_map(|text| say(text)).collect())
+}
+
+/// The plan texts in a folder, by name.
+fn texts_in(folder: &str) -> io::Result<Vec<Vec<u8>>> {
+    plans(Path::new(folder))?.iter().map(fs::read).collect()
 }
 
 /// The files NAME.plan in a folder, by name.

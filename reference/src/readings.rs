@@ -1,7 +1,7 @@
 //! Plan texts as one input, each after a line with its length in bytes, and a line for each that says what reading gives.
 
 use crate::edges::edges;
-use crate::generate::generate;
+use crate::generate::{generate, KINDS};
 use crate::{report, text};
 
 /// Most bytes of a random text that is listed.
@@ -11,6 +11,12 @@ const MOST_RANDOM: usize = 400;
 pub fn texts(given: Vec<Vec<u8>>, count: usize) -> Vec<Vec<u8>> {
     let random = (0..).filter_map(|seed| generate("damaged", seed)).filter(|text| text.len() <= MOST_RANDOM);
     edges().into_iter().map(|edge| edge.text).chain(given).chain(random.take(count)).collect()
+}
+
+/// Those at the edges of the checks, the given ones, and `count` random ones of each kind.
+pub fn of_every_kind(given: Vec<Vec<u8>>, count: u64) -> Vec<Vec<u8>> {
+    let random = KINDS.iter().flat_map(|kind| (0..count).filter_map(|seed| generate(kind, seed)));
+    edges().into_iter().map(|edge| edge.text).chain(given).chain(random).collect()
 }
 
 /// The text after the line with its length.
@@ -49,5 +55,11 @@ mod tests {
         assert_eq!(all.len(), edges.len() + 1 + 9);
         assert_eq!(all[edges.len()], b"given");
         assert!(all[edges.len() + 1..].iter().all(|text| text.len() <= MOST_RANDOM));
+    }
+    #[test]
+    fn every_kind() {
+        let all = of_every_kind(vec![b"given".to_vec()], 2);
+        assert_eq!(all.len(), edges().len() + 1 + 2 * KINDS.len());
+        assert_eq!(all.last(), generate("damaged", 1).as_ref());
     }
 }

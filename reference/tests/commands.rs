@@ -119,12 +119,16 @@ fn texts_and_their_readings() {
     assert_eq!((code, readings.ends_with(b"(accepted 122)\n")), (WELL, true));
     let lines = |count| run(&["readings", name, count], b"").1.iter().filter(|&&byte| byte == b'\n').count();
     assert_eq!(lines("5"), lines("0") + 5);
+    let (code, inputs) = run(&["inputs", name, "0"], b"");
+    assert_eq!((code, inputs.ends_with(&[b"122\n", CASE_1, b"3000\n", &[b' '; 3_000]].concat())), (WELL, true));
+    let (code, reports) = run(&["reports", name, "0"], b"");
+    assert_eq!((code, reports.ends_with(&[CASE_1_REPORT, b"(refused 1)\n"].concat())), (WELL, true));
     fs::remove_dir_all(&folder).expect("the folder");
 }
 
 #[test]
 fn wrong_requests() {
-    let wrong: [&[&str]; 18] = [
+    let wrong: [&[&str]; 20] = [
         &[],
         &[""],
         &["draw"],
@@ -142,6 +146,8 @@ fn wrong_requests() {
         &["vectors", "no such folder"],
         &["texts", "no such folder", "1"],
         &["readings", ".", "x"],
+        &["inputs", "."],
+        &["reports", "no such folder", "1"],
         &["check", "no such file"],
     ];
     for words in wrong {

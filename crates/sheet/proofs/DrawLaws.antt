@@ -1,26 +1,23 @@
 -- What draw gives, as the program meets it: by the number of its refusal.
-use mathlib.Core.Path.{_≡_, refl, sym, _∙_, subst}
+use mathlib.Core.Path.{_≡_, refl, sym, _∙_}
 use mathlib.Core.Bool.{Bool, true, false, cond, not}
 use Prim.Native.Nat.{ℕ}
 use native.Mathlib.Omega.{arith}
 use borrow.Author.Tests.{ne-eqb}
 use Rattle.text.proofs.Words.{never}
 use Rattle.passes.specs.Drawing.{drawingOf}
-use Rattle.passes.specs.Demand3.{Demand3}
 use Rattle.stored.specs.declared.types.Counts.{Counts}
 use Rattle.stored.specs.declared.types.NewDrawing.{NewDrawing}
-use Rattle.stored.specs.Parts.{planWith, isPlanWith, newDrawing}
-use Rattle.stored.proofs.Cuts.{PlanArrays}
+use Rattle.stored.specs.Parts.{isPlanWith, Draws as Made}
 use Rattle.sheet.specs.declared.types.Stage.the-variants.{Drawn}
 use Rattle.sheet.specs.declared.types.Sheet.{Sheet}
 use Rattle.sheet.specs.declared.types.Answer.the-variants.{Accepted, Refused}
-use Rattle.sheet.specs.Sheet.{isEmpty, planIn, drawingIn, drawnSheet}
+use Rattle.sheet.specs.Sheet.{isEmpty, planIn, drawnSheet}
 use Rattle.sheet.specs.Results.{gives, firstRefusal}
 use Rattle.sheet.specs.Tests.{holdsPlan}
 use Rattle.sheet.specs.Calls.{sheetOut, draw, Draws}
 use Rattle.sheet.specs.Inner.{countsIn, drawRefusal}
 use Rattle.sheet.proofs.LoadLaws.{leaves}
-use Rattle.sheet.proofs.Drawn.{drawn-demand3}
 
 module _ (s : Sheet) (m : ℕ) (e : m ≡ drawRefusal (s .header .stage) (s .plan)) where
   pub draws-not : (m ≡ 0 → ⊥) → Draws s (Refused m) s
@@ -40,15 +37,7 @@ module _ (s : Sheet) (m : ℕ) (e : m ≡ drawRefusal (s .header .stage) (s .pla
       by false true e = refl
       by false false e = absurd (omega arith)
 
-  pub draws : m ≡ 0 → PlanArrays (s .plan) → (c : Counts) → c ≡ countsIn (s .header .stage) → (n : NewDrawing) → n ≡ newDrawing (drawingOf (planWith (s .plan) c))
+  pub draws : m ≡ 0 → (c : Counts) → c ≡ countsIn (s .header .stage) → (n : NewDrawing) → Made (s .plan) c n
       → Draws s Accepted (record { header = record { stage = Drawn (c .vertices) (c .segments) (n .placings) }; plan = s .plan; drawing = n .drawing })
   unfolding drawnSheet
-  draws z a c f n g =
-      let t : Sheet = record { header = record { stage = Drawn (c .vertices) (c .segments) (n .placings) }; plan = s .plan; drawing = n .drawing } in
-      let same : t ≡ drawnSheet s (drawingOf (planIn s)) = rw (g, f) in
-      let left : draw s .sheet ≡ t = rw (drawn z) (sym same) in
-      let given : draw s .result ≡ gives tt = rw (drawn z) in
-      record {
-        leaves = leaves (drawnSheet s (drawingOf (planIn s))) (drawn z) same;
-        demand3 = λ h. subst (λ (x : Sheet). Demand3 (planIn x) (drawingIn x)) left (drawn-demand3 s a given);
-      }
+  draws z c f n g = record { leaves = leaves (drawnSheet s (drawingOf (planIn s))) (drawn z) (rw (g .is, f)); demand3 = λ h. g .demand3 }

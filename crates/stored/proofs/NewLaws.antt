@@ -20,7 +20,9 @@ use Rattle.drawing.specs.Made.{Made}
 use Rattle.stored.specs.declared.types.Counts.{Counts}
 use Rattle.stored.specs.declared.types.NewDrawing.{NewDrawing}
 use Rattle.stored.specs.Arrays.{arraysOf}
-use Rattle.stored.specs.Parts.{planWith, isPlanWith, newDrawing}
+use Rattle.stored.specs.Parts.{planWith, isPlanWith, newDrawing, Draws}
+use Rattle.stored.proofs.Cuts.{PlanArrays}
+use Rattle.stored.proofs.ReadBack.{demand3-of}
 
 -- ---- the plan's lists
 pub plan-lists : (p : Plan) (c : Counts) → isPlanWith p c ≡ true
@@ -73,3 +75,6 @@ new-is p v n preliminary finals passes levels counts vertices positions h a b m 
       l .ofPositions,
       m .placings,
     )
+
+pub draws : (p : Plan) → PlanArrays p → (c : Counts) → isPlanWith p c ≡ true → (r : NewDrawing) → r ≡ newDrawing (drawingOf (planWith p c)) → Draws p c r
+draws p a c h r e = record { is = e; demand3 = rw e (demand3-of p a (c .vertices) (c .segments) h) }

@@ -10,8 +10,9 @@ use Rattle.plan.specs.Plan.{PlanData}
 use Rattle.plan.specs.Stored.{planData}
 use Rattle.plan.specs.declared.data.Plan.{Plan}
 use Rattle.writing.specs.Data.{isStoredPlan}
-use Rattle.passes.specs.Drawing.{Drawing}
+use Rattle.passes.specs.Drawing.{Drawing, drawingOf}
 use Rattle.passes.specs.Words.{maxListed}
+use Rattle.passes.specs.Demand3.{Demand3}
 use Rattle.report.specs.Lines.{reportLines}
 use Rattle.report.specs.Valid.{isDrawing}
 use Rattle.marks.specs.declared.types.Mark.{Mark}
@@ -63,3 +64,8 @@ markWith p d c n = markOf (planWith p c) (drawingWith d c .final) n
 -- A drawing's arrays, and how many placings it lists.
 abbrev pub newDrawing : Drawing → NewDrawing
 newDrawing d = record { drawing = arraysOf d; placings = length (d .placings) }
+
+-- What a draw makes of a plan: that, and demand 3 holds of what lies in the arrays.
+pub record Draws (p : Plan) (c : Counts) (r : NewDrawing) : Type 0 where
+  pub is : r ≡ newDrawing (drawingOf (planWith p c))
+  pub demand3 : Demand3 (planWith p c) (drawingFrom (r .drawing) (c .vertices) (r .placings))

@@ -7,13 +7,12 @@ use plan::data::Plan;
 use text::form::wide;
 ghost use mathlib.Core.Path.{_≡_};
 ghost use mathlib.Core.Bool.{true};
-ghost use Rattle.passes.specs.Drawing.{drawingOf};
-ghost use Rattle.stored.specs.Parts.{planWith, isPlanWith, newDrawing};
+ghost use Rattle.stored.specs.Parts.{isPlanWith, Draws};
 
 // The drawing of a plan that is not refused.
 pub fn draw_plan(plan: Plan, counts: Counts) -> NewDrawing
     requires { ⌜ isPlanWith plan counts ≡ true ⌝ }
-    ensures { λ r. ⌜ r ≡ newDrawing (drawingOf (planWith plan counts)) ⌝ }
+    ensures { λ r. ⌜ Draws plan counts r ⌝ }
 {
     let v = counts.vertices;
     let e = counts.segments;

@@ -1,5 +1,7 @@
 // Reads texts from standard input, each after a line with its length in bytes, and prints a line for each: `(refused N)`, or
 // `(accepted L)` if reading it and writing it again gives its L bytes.
+use inputs::MOST_BYTES;
+use inputs::next_length;
 use libc::STDIN_FILENO;
 use libc::STDOUT_FILENO;
 use writing::again::Rewritten;
@@ -9,48 +11,12 @@ use writing::number::put_word;
 ghost use Prim.Native.Nat.{_+_, _<_, _≤_};
 ghost use lib.ListN.{length};
 
-// Most bytes of a text that is tried, of a plan's text, of a printed line, and of all lines.
-const MAX_TEXT: usize = 65537;
-
+// Most bytes of a plan's text, of a printed line, and of all lines.
 const MAX_PLAN: usize = 43546;
 
 const MAX_LINE: usize = 32;
 
 const MAX_LINES: usize = 16384;
-
-// The next byte, 0 past the end.
-fn next_byte() -> u8 {
-    let mut space = [0u8; 1];
-    let n = io::read_full(STDIN_FILENO, &mut space);
-    if n == 0 {
-        return 0;
-    }
-    space[0]
-}
-
-fn wide(b: u8) -> usize
-    ensures { λ r. ⌜ r ≤ 255 ⌝ }
-{
-    b as usize
-}
-
-// The length on the next line. Where there is none, more than a text has.
-fn next_length() -> usize {
-    let mut n: usize = 0;
-    let mut digits: usize = 0;
-    while digits < 6 {
-        if MAX_TEXT < n {
-            return n;
-        }
-        let b = next_byte();
-        if b < 48 || 57 < b {
-            return if digits == 0 { MAX_TEXT + 1 } else { n };
-        }
-        n = n * 10 + wide(b - 48);
-        digits += 1;
-    }
-    n
-}
 
 // Whether a text has n bytes and a buffer begins with them.
 fn begins_with(buffer: &[u8], n: usize, text: &[u8]) -> bool {
@@ -124,7 +90,7 @@ fn put_outcomes(text: &mut [u8], again: &mut [u8], out: &mut [u8]) -> usize
 }
 
 fn main() {
-    let mut text = [0u8; MAX_TEXT];
+    let mut text = [0u8; MOST_BYTES];
     let mut again = [0u8; MAX_PLAN];
     let mut out = [0u8; MAX_LINES];
     let n = put_outcomes(&mut text, &mut again, &mut out);

@@ -14,7 +14,6 @@ use Rattle.position_vectors.proofs.answered.Lts as lts
 use Rattle.io.proofs.read_full.Reads as read-full-reads
 use Rattle.io.proofs.write_all.Reads as write-all-reads
 use Rattle.position_lines.proofs.lines.position_lines.Reads as position-lines-reads
-use Rattle.position_vectors.proofs.next_length.Reads as next-length-reads
 
 fits : {w o out : List ℕ} {n : ℕ} → Fronts w o n out → n ≤ length out
 fits {w} {o} {out} {n} f = rw (f .bytes) (omega (arith, f .count, length-append w (drop (length w) o)))

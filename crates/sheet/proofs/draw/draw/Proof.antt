@@ -1,12 +1,8 @@
 -- `sheet::draw::draw` meets its contract: refused or not by 11 and 13.
 use borrow.Author.Needs.{needs}
-use Rattle.stored.proofs.Cuts.{PlanArrays}
 use Rattle.sheet.proofs.DrawLaws.{draws-not, draws, plan-holds}
 use Rattle.sheet.proofs.draw.draw.Statement.{statement}
 use Rattle.sheet.proofs.draw.draw.Tie as tie
-
-plan-arrays : (c : tie.Start) → PlanArrays (c .args .sheet .plan)
-plan-arrays c = record { sizes = search needs; vias = search needs; halves = search needs; uppers = search needs; lowers = search needs }
 
 draw-refusal-requires : tie.Need-draw-refusal-requires
 draw-refusal-requires c κs = search needs
@@ -23,7 +19,7 @@ draw-plan-requires c κs =
 
 returns-2 : tie.Need-returns-2
 returns-2 c =
-    draws (c .before .before .before .before .before .before .before .args .sheet) (c .before .before .before .before .draw-refusal .result) (c .before .before .before .before .draw-refusal .ensures) (c .before .before .before .if1 .left) (plan-arrays (c .before .before .before .before .before .before .before))
+    draws (c .before .before .before .before .before .before .before .args .sheet) (c .before .before .before .before .draw-refusal .result) (c .before .before .before .before .draw-refusal .ensures) (c .before .before .before .if1 .left)
     (c .before .before .counts-in .result) (c .before .before .counts-in .ensures) (c .before .draw-plan .result) (c .before .draw-plan .ensures)
 
 pub draw-spec : {M : Type 1} → statement M

@@ -9,7 +9,7 @@ use lib.IntN.{ℤ, pos}
 use Rattle.stored.specs.Parts.{planWith}
 use Rattle.stored.proofs.Cuts.{PlanArrays, PlanCut, plan-cut}
 use Rattle.stored.proofs.ReadBack.{preliminary-of, final-of}
-use Rattle.stored.proofs.NewLaws.{plan-lists, new-is}
+use Rattle.stored.proofs.NewLaws.{plan-lists, new-is, draws}
 use Rattle.stored.proofs.drawn.draw_plan.Statement.{statement}
 use Rattle.stored.proofs.drawn.draw_plan.Tie as tie
 
@@ -107,8 +107,9 @@ returns c =
     let a = s .args in
     let p = planWith (a .plan) (a .counts) in
     let m = c .before .before .before .before .before .before .before .draw in
-    new-is p (a .counts .vertices) _ _ _ _ _ _ _ _ (of-plan s .few) (preliminary-of (a .plan) (plan-arrays s) (a .counts .vertices) (a .counts .segments) (s .pre)) (final-of (a .plan) (plan-arrays s) (a .counts .vertices) (a .counts .segments) (s .pre))
-    (m .ensures p (rw (c .before .before .before .before .before .before .before .before .before .before .before .before .before .before .before .before .before .before .before .before .before .before .before .before .before .wide .ensures) (plan-lists (a .plan) (a .counts) (s .pre))))
+    draws (a .plan) (plan-arrays s) (a .counts) (s .pre) _
+    (new-is p (a .counts .vertices) _ _ _ _ _ _ _ _ (of-plan s .few) (preliminary-of (a .plan) (plan-arrays s) (a .counts .vertices) (a .counts .segments) (s .pre)) (final-of (a .plan) (plan-arrays s) (a .counts .vertices) (a .counts .segments) (s .pre))
+    (m .ensures p (rw (c .before .before .before .before .before .before .before .before .before .before .before .before .before .before .before .before .before .before .before .before .before .before .before .before .before .wide .ensures) (plan-lists (a .plan) (a .counts) (s .pre)))))
 
 pub draw-plan-spec : {M : Type 1} → statement M
 draw-plan-spec =

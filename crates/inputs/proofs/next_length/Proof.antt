@@ -1,14 +1,10 @@
--- `position_vectors::next_length` is safe and ends: it reads at most six bytes.
+-- `inputs::next_length` is safe and ends: it reads at most six bytes.
 use mathlib.Core.Path.{_≡_}
 use Prim.Native.Nat.{_-_, _≤_}
 use lib.ListN.{length}
 use borrow.Author.Needs.{needs}
-use Rattle.position_vectors.proofs.next_length.Statement.{statement}
-use Rattle.position_vectors.proofs.next_length.Tie as tie
-use Rattle.position_vectors.proofs.next_length.Reads as reads
-use Rattle.position_vectors.proofs.next_length.Lts as lts
-use Rattle.io.proofs.read_full.Reads as read-full-reads
-use Rattle.position_vectors.proofs.with_digit.Reads as with-digit-reads
+use Rattle.inputs.proofs.next_length.Statement.{statement}
+use Rattle.inputs.proofs.next_length.Tie as tie
 
 abbrev Inv-loop : tie.InvT-loop
 Inv-loop byte₀ n₀ i₀ byte n i = (length byte ≡ 1) × (n ≤ 65537)

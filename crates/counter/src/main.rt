@@ -1,0 +1,13 @@
+// Reads a plan text from standard input and prints all report lines, or the one line `(refused N)`.
+use from_text::print::print;
+use libc::STDIN_FILENO;
+use libc::STDOUT_FILENO;
+use stored::printed::MAX_REPORT;
+
+fn main() {
+    let mut text = [0u8; 65537];
+    let mut out = [0u8; MAX_REPORT];
+    let n = io::read_full(STDIN_FILENO, &mut text);
+    let m = print(&text[..n], &mut out);
+    io::write_all(STDOUT_FILENO, &out[..m]);
+}

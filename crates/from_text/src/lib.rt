@@ -1,0 +1,3 @@
+// From a plan's text to its report and its marks, by way of a sheet of its own.
+pub mod print;
+pub mod whole;
