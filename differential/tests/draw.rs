@@ -1,9 +1,10 @@
 //! The proved draw against the reference: on random plans of every kind, on all vectors, and on a thread's stack.
 
 use differential::proved_draw;
+use differential::vectors::plans;
 use reference::{generate, passes, text};
 use std::fs;
-use std::path::{Path, PathBuf};
+use std::path::PathBuf;
 
 /// Room for the positions of the largest plan, and some beyond.
 const ROOM: usize = 2 * 1_024 + 8;
@@ -43,12 +44,6 @@ fn random_plans(kind: &str, seeds: u64) -> u64 {
     let drawn = (0..seeds).filter(|&seed| compare(&text_of(seed), ROOM, &format!("{kind} {seed}"))).count() as u64;
     println!("{kind}: {drawn} drawn, {} refused", seeds - drawn);
     drawn
-}
-
-fn plans() -> Vec<PathBuf> {
-    let folder = Path::new(env!("CARGO_MANIFEST_DIR")).join("../reference/tests/vectors");
-    let files = fs::read_dir(folder).expect("the vectors").map(|entry| entry.expect("a file").path());
-    files.filter(|file| file.extension().is_some_and(|extension| extension == "plan")).collect()
 }
 
 #[test]

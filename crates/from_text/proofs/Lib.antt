@@ -1,2 +1,3 @@
 pub mod Loaded
 pub mod Texts
+pub mod Marks

@@ -47,7 +47,7 @@ arrays p l = record {
 }
 
 -- ---- a sheet whose lines are shown
-after-13 : (t : Stage) (c d : Bool) (x : ℕ) → (isDrawn t && c && d) ≡ true → cond (isEmpty t) 11 (cond (not (isDrawn t)) 12 (cond (not c) 13 (cond (not d) 13 x))) ≡ x
+pub after-13 : (t : Stage) (c d : Bool) (x : ℕ) → (isDrawn t && c && d) ≡ true → cond (isEmpty t) 11 (cond (not (isDrawn t)) 12 (cond (not c) 13 (cond (not d) 13 x))) ≡ x
 after-13 Empty c d x h = never h
 after-13 (Loaded v e) c d x h = never h
 after-13 (Drawn v e k) false d x h = never h
@@ -64,21 +64,21 @@ shown s h b = rw (only-14 s h b)
 
 -- ---- a text that is accepted
 module _ (s : Sheet) (text : List ℕ) (p : PlanData) (e : reading text ≡ accepted p) where
-  loads : load s text ≡ sheetOut (gives tt) (loadedSheet p)
+  pub loads : load s text ≡ sheetOut (gives tt) (loadedSheet p)
   unfolding load
   loads = rw e
 
-  draws : draw (loadedSheet p) .result ≡ gives tt
+  pub draws : draw (loadedSheet p) .result ≡ gives tt
   draws = rw loads at (loaded-draws s text (rw loads))
 
-  plan-loaded : planIn (loadedSheet p) ≡ p
+  pub plan-loaded : planIn (loadedSheet p) ≡ p
   unfolding loadedSheet answerOf
   plan-loaded =
       let a = read-accepted text (answerOf (accepted p)) (vertexCount p) (length (p .uppers)) (ap answerOf (sym e)) refl in
       let same : accepted (planIn (loadedSheet p)) ≡ accepted p = sym (a .read) ∙ e in
       cc same
 
-  holds-arrays : PlanArrays (loadedSheet p .plan)
+  pub holds-arrays : PlanArrays (loadedSheet p .plan)
   unfolding loadedSheet
   holds-arrays = arrays p (acceptable-of p (read-acceptable text p e) .limits)
 

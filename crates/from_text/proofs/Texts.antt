@@ -41,17 +41,18 @@ module _ (s : Sheet) (text b : List ℕ) where
   unfolding reportOf
   text-refused n h = rw (load-refused s text n .0 h)
 
+-- ---- what a call gives
+pub given : (k n c : ℕ) → resultAfter k c ≡ gives n → n ≡ c
+given k n c = by (eqb k 0)
+  where
+    by : (t : Bool) → cond t (gives c) (refuses k) ≡ gives n → n ≡ c
+    by true e = cc
+    by false e = never (cc)
+
 -- ---- the length of its report
 module _ (text : List ℕ) where
   short : (p : PlanData) → reading text ≡ accepted p → length (concat (reportLines p (drawingOf p))) ≤ maxReport
   short p e = let a = read-acceptable text p e in report-short (small p (drawingOf p) a (drawn-valid p a))
-
-  given : (k n : ℕ) (w : List ℕ) → resultAfter k (length w) ≡ gives n → n ≡ length w
-  given k n w = by (eqb k 0)
-    where
-      by : (t : Bool) → cond t (gives (length w)) (refuses k) ≡ gives n → n ≡ length w
-      by true e = cc
-      by false e = never (cc)
 
   pub report-few : (b : List ℕ) (n : ℕ) → reportOf (reading text) b .result ≡ gives n → n ≤ maxReport
   unfolding reportOf
@@ -60,7 +61,7 @@ module _ (text : List ℕ) where
       go : (g : Reading) → reading text ≡ g → reportOf g b .result ≡ gives n → n ≤ maxReport
       go (accepted p) e h =
           let w = concat (reportLines p (drawingOf p)) in
-          omega (arith, short p e, given (firstRefusal (test14 w b ∷ [])) n w h)
+          omega (arith, short p e, given (firstRefusal (test14 w b ∷ [])) n (length w) h)
       go (refused k) e h = never (cc)
 
 -- ---- what is printed, by what the report answers in a buffer that has room for every report

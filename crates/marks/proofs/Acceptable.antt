@@ -20,7 +20,7 @@ use Rattle.plan.proofs.Sound.{sound}
 use Rattle.passes.specs.Words.{allWithin}
 use Rattle.marks.specs.Marks.{markCount}
 use Rattle.marks.specs.Exact.{Exact}
-use Rattle.marks.specs.Asked.{InReach, Asked}
+use Rattle.marks.specs.Asked.{InReach, AskedAll, Asked}
 use Rattle.marks.proofs.Exact.{mark-exact}
 
 halves-long : (vs : List Bool) (hs : List ℕ) → halvesHold vs hs ≡ true → length hs ≡ length vs
@@ -69,13 +69,16 @@ module _ (p : PlanData) (xs : List ℤ) (ok : acceptable p ≡ true) (near : all
       let l = sound p ok .limits in
       record { spaced = counts p (limits-of p ok .0) .spaced; levels = omega (arith, l .sizes-long, l .levels-high); within = near }
 
-  pub asked : (n : ℕ) → length xs ≡ vertexCount p → n < markCount p → Asked (p .spacing) (p .sizes) (p .vias) (p .halves) (p .uppers) (p .lowers) xs n
-  asked n e h =
+  pub asked-all : length xs ≡ vertexCount p → AskedAll (p .spacing) (p .sizes) (p .vias) (p .halves) (p .uppers) (p .lowers) xs
+  asked-all e =
       let c = counts p (limits-of p ok .0) in
       let i : InLimits (p .sizes) (p .vias) (p .uppers) (p .lowers) =
       record { levels = in-reach .levels; vertices = sound p ok .limits .vertices; segments = c .segments; ends = sym (c .ends) } in
       let w = within-of (p .sizes) (p .vias) (p .uppers) (p .lowers) i (sym (same-3 p) ∙ limits-of p ok .1) in
-      record { near = in-reach; widths = c .halves; positions = e; ends = c .ends; upper = w .upper; lower = w .lower; number = h }
+      record { near = in-reach; widths = c .halves; positions = e; ends = c .ends; upper = w .upper; lower = w .lower }
+
+  pub asked : (n : ℕ) → length xs ≡ vertexCount p → n < markCount p → Asked (p .spacing) (p .sizes) (p .vias) (p .halves) (p .uppers) (p .lowers) xs n
+  asked n e h = record { lists = asked-all e; number = h }
 
   pub marks-exact : (n : ℕ) → Exact p xs n
   marks-exact n = mark-exact p xs n in-reach (omega (arith, sound p ok .limits .halves-high n))

@@ -3,3 +3,4 @@ pub mod Stores
 pub mod Exact
 pub mod Acceptable
 pub mod Cases
+pub mod All

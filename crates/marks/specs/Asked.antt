@@ -1,4 +1,4 @@
--- What the program that makes a mark asks of its lists, and of which plan it speaks.
+-- What the programs that make one mark and all marks ask of their lists, and of which plan they speak.
 use mathlib.Core.Bool.{Bool, true}
 use mathlib.Core.List.{List, []}
 use mathlib.Core.Path.{_≡_}
@@ -18,14 +18,18 @@ pub record InReach (spacing : ℕ) (sizes : List ℕ) (xs : List ℤ) : Type 0 w
   pub levels : length sizes ≤ maxLevels
   pub within : allWithin xs ≡ true
 
--- So much, lists that agree in their lengths, segment ends that are vertices, and n the number of a mark.
-pub record Asked (spacing : ℕ) (sizes : List ℕ) (vias : List Bool) (halves uppers lowers : List ℕ) (xs : List ℤ) (n : ℕ) : Type 0 where
+-- So much, lists that agree in their lengths, and segment ends that are vertices.
+pub record AskedAll (spacing : ℕ) (sizes : List ℕ) (vias : List Bool) (halves uppers lowers : List ℕ) (xs : List ℤ) : Type 0 where
   pub near : InReach spacing sizes xs
   pub widths : length halves ≡ length vias
   pub positions : length xs ≡ length vias
   pub ends : length lowers ≡ length uppers
   pub upper : Below (length vias) uppers
   pub lower : Below (length vias) lowers
+
+-- And n the number of a mark.
+pub record Asked (spacing : ℕ) (sizes : List ℕ) (vias : List Bool) (halves uppers lowers : List ℕ) (xs : List ℤ) (n : ℕ) : Type 0 where
+  pub lists : AskedAll spacing sizes vias halves uppers lowers xs
   pub number : n < length vias + length uppers
 
 -- A plan with this spacing and these levels and nothing else: so much says where a vertex stands.

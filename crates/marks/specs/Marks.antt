@@ -1,12 +1,13 @@
 -- The marks of a plan's drawing whose final positions are xs. "Vertices come first, then segments."
 use mathlib.Core.Bool.{cond}
-use mathlib.Core.List.{List, [], _∷_}
+use mathlib.Core.List.{List, [], _∷_, map}
 use Prim.Native.Nat.{ℕ, _+_, _-_}
 use lib.Dec.{ltb}
 use lib.ListN.{length, getD}
 use lib.IntN.{ℤ}
 use lib.Ieee.{Float}
-use Rattle.plan.specs.Plan.{PlanData, vertexCount, isVia, halfWidth, levelOf, heightOf}
+use Rattle.ints.specs.Lists.{concat}
+use Rattle.plan.specs.Plan.{PlanData, numbers, vertexCount, isVia, halfWidth, levelOf, heightOf}
 use Rattle.passes.specs.State.{positionOf}
 use Rattle.marks.specs.declared.types.Point.{Point}
 use Rattle.marks.specs.declared.types.Mark.{Mark}
@@ -53,3 +54,7 @@ unfoldable pub fiveOf : Mark → List Float
 fiveOf (Box c w) = wholeOf 0 ∷ c .x ∷ c .y ∷ w ∷ wholeOf 0 ∷ []
 fiveOf (Bend c) = wholeOf 1 ∷ c .x ∷ c .y ∷ wholeOf 0 ∷ wholeOf 0 ∷ []
 fiveOf (Line a b) = wholeOf 2 ∷ a .x ∷ a .y ∷ b .x ∷ b .y ∷ []
+
+-- The numbers of all marks, one after another.
+unfoldable pub allNumbers : PlanData → List ℤ → List Float
+allNumbers p xs = concat (map (λ n. fiveOf (markOf p xs n)) (numbers 0 (markCount p)))

@@ -1,12 +1,16 @@
-// A mark as numbers in a lent slice.
+// Marks as numbers in a lent slice.
+use crate::marks::mark;
 use crate::types::Mark;
 use crate::types::Point;
 ghost use mathlib.Core.Path.{_≡_};
 ghost use mathlib.Core.List.{[], _∷_};
-ghost use Prim.Native.Nat.{_+_, _≤_};
+ghost use Prim.Native.Nat.{_+_, _*_, _≤_};
 ghost use lib.ListN.{length};
 ghost use lib.Seq.{sets};
-ghost use Rattle.marks.specs.Marks.{fiveOf};
+ghost use Rattle.ints.specs.Lists.{over};
+ghost use Rattle.plan.specs.Plan.{PlanData};
+ghost use Rattle.marks.specs.Marks.{fiveOf, allNumbers};
+ghost use Rattle.marks.specs.Asked.{AskedAll, DataOf};
 
 // Writes five numbers: a kind, a point, and two more.
 fn put_five(kind: f64, c: Point, d: f64, e: f64, at: usize, out: &mut [f64])
@@ -29,5 +33,27 @@ pub fn put_mark(m: Mark, at: usize, out: &mut [f64])
         Mark::Box(c, w) => put_five(0.0, c, w, 0.0, at, out),
         Mark::Bend(c) => put_five(1.0, c, 0.0, 0.0, at, out),
         Mark::Line(a, b) => put_five(2.0, a, b.x, b.y, at, out),
+    }
+}
+
+// Writes all marks one after another, five numbers each.
+pub fn put_marks(
+    spacing: u32,
+    sizes: &[u16],
+    vias: &[bool],
+    halves: &[u16],
+    uppers: &[u32],
+    lowers: &[u32],
+    finals: &[i64],
+    out: &mut [f64],
+)
+    requires { ⌜ AskedAll spacing (now sizes) (now vias) (now halves) (now uppers) (now lowers) (now finals) × (5 * (length (now vias) + length (now uppers)) ≤ length (now out)) ⌝ }
+    ensures { λ _. ⌜ ((p : PlanData) → DataOf p spacing (now (sizes .entry)) (now (vias .entry)) (now (halves .entry)) (now (uppers .entry)) (now (lowers .entry)) → now (out .exit) ≡ over (allNumbers p (now (finals .entry))) (now (out .entry))) ⌝ }
+{
+    let mut n: usize = 0;
+    while n < vias.len() + uppers.len() {
+        let m = mark(spacing, sizes, vias, halves, uppers, lowers, finals, n);
+        put_mark(m, 5 * n, out);
+        n += 1;
     }
 }

@@ -1,25 +1,30 @@
--- What draw leaves: the drawing of the definitions, with every promised property; every line and every mark; and drawn again it
+-- What draw leaves: the drawing of the definitions, with every promised property; every line and every mark, and all; drawn again it
 -- stays as it is. `PlanArrays` says that the plan's arrays are as long as a stored plan's are.
 use mathlib.Core.Path.{_≡_, refl, sym, _∙_, ap}
 use mathlib.Core.Bool.{Bool, true, false, cond, not, _&&_}
 use mathlib.Core.List.{List, [], _∷_}
-use Prim.Native.Nat.{ℕ, _≤_, _<_}
+use Prim.Native.Nat.{ℕ, _*_, _≤_, _<_}
+use native.Mathlib.Omega.{arith}
 use borrow.Author.Tests.{lt-ltb, le-ltb}
 use lib.Dec.{eqb}
 use lib.ListN.{length}
+use lib.Ieee.{Float}
 use Rattle.text.proofs.Words.{never}
 use Rattle.text.proofs.TestLaws.{_and_, conj-at}
 use Rattle.passes.specs.Drawing.{drawingOf}
 use Rattle.passes.specs.Demand3.{Demand3}
 use Rattle.marks.specs.Marks.{markOf}
+use Rattle.stored.specs.Arrays.{arraysOf}
 use Rattle.stored.proofs.Cuts.{PlanArrays}
+use Rattle.stored.proofs.Rooms.{numbers-long}
 use Rattle.stored.proofs.ReadBack.{read-back, demand3-of, drawing-holds}
 use Rattle.sheet.specs.declared.types.Sheet.{Sheet}
 use Rattle.sheet.specs.Sheet.{isEmpty, verticesIn, segmentsIn, planIn, drawingIn, drawnSheet}
 use Rattle.sheet.specs.Results.{Result, gives, refuses, firstRefusal}
-use Rattle.sheet.specs.Tests.{holdsPlan, linesIn, marksIn, lineOf, reportOf}
-use Rattle.sheet.specs.Calls.{drawTests, draw, line, report, mark}
-use Rattle.sheet.proofs.WhenRefused.{canShow, draw-given, line-given, report-given, mark-given}
+use Rattle.sheet.specs.Tests.{holdsPlan, linesIn, marksIn, lineOf, reportOf, numbersOf}
+use Rattle.sheet.specs.Calls.{drawTests, draw, line, report, mark, marks}
+use Rattle.sheet.specs.Inner.{countsIn}
+use Rattle.sheet.proofs.WhenRefused.{canShow, draw-given, line-given, report-given, mark-given, marks-given}
 
 drawn : (s : Sheet) → draw s .result ≡ gives tt → draw s .sheet ≡ drawnSheet s (drawingOf (planIn s))
 unfolding draw
@@ -61,6 +66,18 @@ module _ (s : Sheet) (a : PlanArrays (s .plan)) (h : draw s .result ≡ gives tt
 
   pub drawn-mark : (n : ℕ) → n < marksIn (draw s .sheet) → mark (draw s .sheet) n ≡ gives (markOf (planIn (draw s .sheet)) (drawingIn (draw s .sheet) .final) n)
   drawn-mark n l = let t = draw s .sheet in mark-given t n .1 (drawn-shows and lt-ltb n (marksIn t) l)
+
+  pub drawn-count : marksIn (draw s .sheet) ≡ marksIn s
+  unfolding drawnSheet
+  drawn-count = rw (drawn s h)
+
+  -- Five numbers a mark, and all marks where the buffer is as long.
+  pub drawn-numbers : length (numbersOf (draw s .sheet)) ≡ 5 * marksIn (draw s .sheet)
+  unfolding drawnSheet numbersOf
+  drawn-numbers = rw (drawn s h) (numbers-long (s .plan) (countsIn (drawnSheet s (drawingOf (planIn s)) .header .stage)) holds a (arraysOf (drawingOf (planIn s))))
+
+  pub drawn-marks : (b : List Float) → 5 * marksIn (draw s .sheet) ≤ length b → marks (draw s .sheet) b .result ≡ gives (marksIn (draw s .sheet))
+  drawn-marks b m = let t = draw s .sheet in marks-given t b .1 (drawn-shows and ap not (le-ltb (length b) (length (numbersOf t)) (omega (arith, drawn-numbers))))
 
 -- Drawing twice is drawing once.
 pub draw-again : (s : Sheet) → draw (draw s .sheet) ≡ draw s

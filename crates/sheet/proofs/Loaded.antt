@@ -4,6 +4,7 @@ use mathlib.Core.Bool.{true}
 use mathlib.Core.List.{List}
 use Prim.Native.Nat.{ℕ}
 use lib.ListN.{length}
+use lib.Ieee.{Float}
 use Rattle.plan.specs.Plan.{PlanData, vertexCount}
 use Rattle.text.specs.Reading.{Reading, accepted, refused, reading}
 use Rattle.reading.specs.Answer.{answerOf}
@@ -12,8 +13,8 @@ use Rattle.sheet.specs.declared.types.Sheet.{Sheet}
 use Rattle.sheet.specs.Sheet.{loadedSheet}
 use Rattle.sheet.specs.Results.{gives, refuses}
 use Rattle.sheet.specs.Tests.{holdsPlan}
-use Rattle.sheet.specs.Calls.{load, draw, line, report, mark}
-use Rattle.sheet.proofs.WhenRefused.{load-given, draw-given, line-12, report-12, mark-12}
+use Rattle.sheet.specs.Calls.{load, draw, line, report, mark, marks}
+use Rattle.sheet.proofs.WhenRefused.{load-given, draw-given, line-12, report-12, mark-12, marks-12}
 
 module _ (text : List ℕ) (p : PlanData) (e : reading text ≡ accepted p) where
   loaded-holds : holdsPlan (loadedSheet p) ≡ true
@@ -40,3 +41,7 @@ module _ (s : Sheet) (text : List ℕ) (h : load s text .result ≡ gives tt) wh
   pub loaded-mark : (n : ℕ) → mark (load s text .sheet) n ≡ refuses 12
   unfolding loadedSheet
   loaded-mark n = rw leaves-loaded (mark-12 (loadedSheet (load-given s text .0 h .0)) n .1 refl)
+
+  pub loaded-marks : (b : List Float) → marks (load s text .sheet) b .result ≡ refuses 12
+  unfolding loadedSheet
+  loaded-marks b = rw leaves-loaded (marks-12 (loadedSheet (load-given s text .0 h .0)) b .1 refl)

@@ -1,29 +1,30 @@
--- What line, report and mark give, as the program meets it: after the tests 11, 12 and 13, which are the same for all three, and
+-- What line, report, mark and marks give, as the program meets it: after the tests 11, 12 and 13, which are the same for all, and
 -- after 7 and 14.
 use mathlib.Core.Path.{_≡_, refl, sym, _∙_, ap}
 use mathlib.Core.Bool.{Bool, true, false, cond, not}
 use mathlib.Core.List.{List, [], _∷_}
-use Prim.Native.Nat.{ℕ, _≤_, _<_}
+use Prim.Native.Nat.{ℕ, _*_, _≤_, _<_}
 use native.Mathlib.Omega.{arith}
 use borrow.Author.Tests.{lt-ltb, le-ltb, ne-eqb}
 use lib.ListN.{length, take, drop, replicate, length-append, length-replicate}
 use lib.Seq.{take-at}
+use lib.Ieee.{Float}
 use Rattle.ints.specs.Lists.{over}
 use Rattle.plan.specs.declared.data.Plan.{Plan}
 use Rattle.writing.specs.Written.{Fronts}
 use Rattle.stored.specs.declared.types.Drawing.{Drawing as Arrays}
 use Rattle.stored.specs.declared.types.Counts.{Counts}
-use Rattle.stored.specs.Parts.{isPlanWith, isDrawingWith, Holds, linesOf, lineWith, reportWith, marksOf, markWith}
+use Rattle.stored.specs.Parts.{isPlanWith, isDrawingWith, Holds, linesOf, lineWith, reportWith, marksOf, markWith, numbersWith}
 use Rattle.sheet.specs.declared.types.Sheet.{Sheet}
 use Rattle.sheet.specs.declared.types.LineAnswer.{LineAnswer}
 use Rattle.sheet.specs.declared.types.LineAnswer.the-variants.{Written}
 use Rattle.sheet.specs.Sheet.{isEmpty, isDrawn}
 use Rattle.sheet.specs.Results.{gives, refuses, Test, firstRefusal}
-use Rattle.sheet.specs.Tests.{test11, test12, holdsPlan, test13Plan, holdsDrawing, test13Drawing, test7Line, test7Mark, test14, lineOf, reportOf}
-use Rattle.sheet.specs.Calls.{TextOut, textAfter, line, report, mark, Writes}
-use Rattle.sheet.specs.Inner.{countsIn, showRefusal, fitted, lineFrom, markFrom}
+use Rattle.sheet.specs.Tests.{test11, test12, holdsPlan, test13Plan, holdsDrawing, test13Drawing, test7Line, marksIn, test7Mark, test14, lineOf, reportOf, numbersOf}
+use Rattle.sheet.specs.Calls.{BufferOut, bufferAfter, line, report, mark, marks, Writes}
+use Rattle.sheet.specs.Inner.{countsIn, showRefusal, fitted, lineFrom, markFrom, marksFrom}
 
--- The tests that line, report and mark begin with.
+-- The tests that line, report, mark and marks begin with.
 abbrev begun : Sheet → List Test → List Test
 begun s more = test11 s ∷ test12 s ∷ test13Plan s ∷ test13Drawing s ∷ more
 
@@ -43,20 +44,24 @@ module _ (s : Sheet) (m : ℕ) (e : m ≡ showRefusal (s .header .stage) (s .pla
   unfolding showRefusal firstRefusal
   refusal more = one-refuses (isEmpty (s .header .stage)) (not (isDrawn (s .header .stage))) (holdsPlan s) (holdsDrawing s) (firstRefusal more) m e z
 
-  text-refused : (more : List Test) (w b : List ℕ) → textAfter (firstRefusal (begun s more)) w b ≡ record { result = refuses m; buffer = b }
-  text-refused more w b = rw (refusal more, ne-eqb m 0 z)
+  buffer-refused : {A : Type 0} (more : List Test) (n : ℕ) (w b : List A) → bufferAfter (firstRefusal (begun s more)) n w b ≡ record { result = refuses m; buffer = b }
+  buffer-refused more n w b = rw (refusal more, ne-eqb m 0 z)
 
   pub line-refused : (n : ℕ) (b : List ℕ) → line s n b ≡ record { result = refuses m; buffer = b }
   unfolding line
-  line-refused n b = text-refused (test7Line s n ∷ test14 (lineOf s n) b ∷ []) (lineOf s n) b
+  line-refused n b = buffer-refused (test7Line s n ∷ test14 (lineOf s n) b ∷ []) (length (lineOf s n)) (lineOf s n) b
 
   pub report-refused : (b : List ℕ) → report s b ≡ record { result = refuses m; buffer = b }
   unfolding report
-  report-refused b = text-refused (test14 (reportOf s) b ∷ []) (reportOf s) b
+  report-refused b = buffer-refused (test14 (reportOf s) b ∷ []) (length (reportOf s)) (reportOf s) b
 
   pub mark-refused : (n : ℕ) → mark s n ≡ refuses m
   unfolding mark
   mark-refused n = rw (refusal (test7Mark s n ∷ []), ne-eqb m 0 z)
+
+  pub marks-refused : (b : List Float) → marks s b ≡ record { result = refuses m; buffer = b }
+  unfolding marks
+  marks-refused b = buffer-refused (test14 (numbersOf s) b ∷ []) (marksIn s) (numbersOf s) b
 
 -- ---- a sheet that they do not refuse
 none-refuses : (a b c d : Bool) (x : ℕ) → 0 ≡ chain a b c d 0 → chain a b c d x ≡ x
@@ -94,6 +99,10 @@ module _ (s : Sheet) (m : ℕ) (e : m ≡ showRefusal (s .header .stage) (s .pla
   unfolding mark markFrom
   mark-shown n = rw (left (test7Mark s n ∷ []))
 
+  pub marks-shown : (b : List Float) → marks s b ≡ marksFrom (s .plan) (s .drawing) (countsIn (s .header .stage)) b
+  unfolding marks numbersOf
+  marks-shown b = rw (left (test14 (numbersOf s) b ∷ []))
+
 -- ---- 7 and 14
 module _ (w b : List ℕ) where
   pub fitted-short : length b < length w → fitted w b ≡ record { result = refuses 14; buffer = b }
@@ -121,8 +130,17 @@ module _ (p : Plan) (d : Arrays) (c : Counts) (n : ℕ) where
   unfolding markFrom firstRefusal
   a-mark h = rw (lt-ltb n (marksOf c) h)
 
--- ---- a text in a lent buffer
-pub writes : {o q : TextOut} {a : LineAnswer} {b : List ℕ} → o ≡ q → Writes q a b → Writes o a b
+module _ (p : Plan) (d : Arrays) (c : Counts) (b : List Float) (long : length (numbersWith p d c) ≡ 5 * marksOf c) where
+  pub marks-short : length b < 5 * marksOf c → marksFrom p d c b ≡ record { result = refuses 14; buffer = b }
+  unfolding firstRefusal
+  marks-short h = rw (lt-ltb (length b) (length (numbersWith p d c)) (omega (arith, long)))
+
+  pub marks-long : 5 * marksOf c ≤ length b → marksFrom p d c b ≡ record { result = gives (marksOf c); buffer = over (numbersWith p d c) b }
+  unfolding firstRefusal
+  marks-long h = rw (le-ltb (length b) (length (numbersWith p d c)) (omega (arith, long)))
+
+-- ---- what is written into a lent buffer
+pub writes : {A : Type 0} {o q : BufferOut A} {a : LineAnswer} {b : List A} → o ≡ q → Writes q a b → Writes o a b
 writes e h = rw e h
 
 pub wrote : {w o out : List ℕ} {n : ℕ} → Fronts w o n out → Writes (record { result = gives (length w); buffer = over w o }) (Written n) out

@@ -7,6 +7,7 @@ use Prim.Native.Nat.{ℕ}
 use borrow.Author.Tests.{eqb-true, eq-eqb}
 use lib.Dec.{eqb, ltb}
 use lib.ListN.{length}
+use lib.Ieee.{Float}
 use Rattle.ints.specs.Lists.{over}
 use Rattle.plan.specs.Plan.{PlanData}
 use Rattle.text.specs.Reading.{Reading, accepted, refused, reading}
@@ -18,8 +19,8 @@ use Rattle.sheet.specs.declared.types.Stage.the-variants.{Empty, Loaded,
 use Rattle.sheet.specs.declared.types.Sheet.{Sheet}
 use Rattle.sheet.specs.Sheet.{isEmpty, isDrawn, planIn, drawingIn, drawnSheet}
 use Rattle.sheet.specs.Results.{Result, gives, refuses, firstRefusal, resultAfter}
-use Rattle.sheet.specs.Tests.{holdsPlan, holdsDrawing, linesIn, marksIn, lineOf, reportOf}
-use Rattle.sheet.specs.Calls.{TextOut, loadOf, load, drawTests, draw, textAfter, lineTests, line, reportTests, report, markTests, mark}
+use Rattle.sheet.specs.Tests.{holdsPlan, holdsDrawing, linesIn, marksIn, lineOf, reportOf, numbersOf}
+use Rattle.sheet.specs.Calls.{loadOf, load, drawTests, draw, bufferAfter, lineTests, line, reportTests, report, markTests, mark, marksTests, marks}
 
 -- A call gives what it gives exactly if its tests come out as 0, and refuses by m exactly if they come out as m.
 module _ {A : Type 0} (k : ℕ) (a : A) where
@@ -40,7 +41,7 @@ module _ {A : Type 0} (k : ℕ) (a : A) where
       by true r = refl
       by false r = never (cc)
 
--- ---- the tests that line, report and mark begin with
+-- ---- the tests that line, report, mark and marks begin with
 abbrev pub isLoaded : Stage → Bool
 isLoaded Empty = false
 isLoaded (Loaded v e) = true
@@ -207,6 +208,31 @@ module _ (s : Sheet) (n : ℕ) where
   unfolding mark firstRefusal
   mark-given = gives-by (firstRefusal (markTests s n)) (markOf (planIn s) (drawingIn s .final) n) (begin-on (s .header .stage) (holdsPlan s) (holdsDrawing s) (cond (not markThere) 7 0) 0 refl refl refl (all-there markThere))
 
+-- ---- all marks: 11, 12, 13, 14
+module _ (s : Sheet) (buffer : List Float) where
+  abbrev marksShort : Bool
+  marksShort = ltb (length buffer) (length (numbersOf s))
+
+  marks-by : (m : ℕ) {c : Bool} → eqb m 0 ≡ false → eqb (begin (s .header .stage) (holdsPlan s) (holdsDrawing s) (cond marksShort 14 0)) m ≡ c → (marks s buffer .result ≡ refuses m) ↔ (c ≡ true)
+  unfolding marks firstRefusal
+  marks-by m z e = refuses-by (firstRefusal (marksTests s buffer)) (marksIn s) m z e
+
+  pub marks-11 : (marks s buffer .result ≡ refuses 11) ↔ (isEmpty (s .header .stage) ≡ true)
+  marks-11 = marks-by 11 refl (begin-11 (s .header .stage) (holdsPlan s) (holdsDrawing s) (cond marksShort 14 0) (only-not 14 11 refl refl marksShort))
+
+  pub marks-12 : (marks s buffer .result ≡ refuses 12) ↔ (isLoaded (s .header .stage) ≡ true)
+  marks-12 = marks-by 12 refl (begin-12 (s .header .stage) (holdsPlan s) (holdsDrawing s) (cond marksShort 14 0) (only-not 14 12 refl refl marksShort))
+
+  pub marks-13 : (marks s buffer .result ≡ refuses 13) ↔ ((isDrawn (s .header .stage) && not (holdsPlan s && holdsDrawing s)) ≡ true)
+  marks-13 = marks-by 13 refl (begin-13 (s .header .stage) (holdsPlan s) (holdsDrawing s) (cond marksShort 14 0) (only-not 14 13 refl refl marksShort))
+
+  pub marks-14 : (marks s buffer .result ≡ refuses 14) ↔ ((canShow s && ltb (length buffer) (length (numbersOf s))) ≡ true)
+  marks-14 = marks-by 14 refl (begin-on (s .header .stage) (holdsPlan s) (holdsDrawing s) (cond marksShort 14 0) 14 refl refl refl (only-14 marksShort))
+
+  pub marks-given : (marks s buffer .result ≡ gives (marksIn s)) ↔ ((canShow s && not (ltb (length buffer) (length (numbersOf s)))) ≡ true)
+  unfolding marks firstRefusal
+  marks-given = gives-by (firstRefusal (marksTests s buffer)) (marksIn s) (begin-on (s .header .stage) (holdsPlan s) (holdsDrawing s) (cond marksShort 14 0) 0 refl refl refl (only-none marksShort))
+
 -- ---- draw: 11, 13
 draw-is-11 : (e p : Bool) → eqb (cond e 11 (cond (not p) 13 0)) 11 ≡ e
 draw-is-11 true p = refl
@@ -255,20 +281,24 @@ module _ (s : Sheet) (text : List ℕ) where
       by (refused n) e = never (cc)
 
 -- ---- a refusal changes nothing
-text-kept : (k m : ℕ) (w b : List ℕ) → textAfter k w b .result ≡ refuses m → textAfter k w b .buffer ≡ b
-text-kept k m w b = by (eqb k 0)
+buffer-kept : {A : Type 0} (k m n : ℕ) (w b : List A) → bufferAfter k n w b .result ≡ refuses m → bufferAfter k n w b .buffer ≡ b
+buffer-kept k m n w b = by (eqb k 0)
   where
-    by : (t : Bool) → cond t (gives (length w)) (refuses k) ≡ refuses m → cond t (over w b) b ≡ b
+    by : (t : Bool) → cond t (gives n) (refuses k) ≡ refuses m → cond t (over w b) b ≡ b
     by true e = never (cc)
     by false e = refl
 
 pub line-kept : (s : Sheet) (n m : ℕ) (b : List ℕ) → line s n b .result ≡ refuses m → line s n b .buffer ≡ b
 unfolding line
-line-kept s n m b = text-kept (firstRefusal (lineTests s n b)) m (lineOf s n) b
+line-kept s n m b = buffer-kept (firstRefusal (lineTests s n b)) m (length (lineOf s n)) (lineOf s n) b
 
 pub report-kept : (s : Sheet) (m : ℕ) (b : List ℕ) → report s b .result ≡ refuses m → report s b .buffer ≡ b
 unfolding report
-report-kept s m b = text-kept (firstRefusal (reportTests s b)) m (reportOf s) b
+report-kept s m b = buffer-kept (firstRefusal (reportTests s b)) m (length (reportOf s)) (reportOf s) b
+
+pub marks-kept : (s : Sheet) (m : ℕ) (b : List Float) → marks s b .result ≡ refuses m → marks s b .buffer ≡ b
+unfolding marks
+marks-kept s m b = buffer-kept (firstRefusal (marksTests s b)) m (marksIn s) (numbersOf s) b
 
 pub draw-kept : (s : Sheet) (m : ℕ) → draw s .result ≡ refuses m → draw s .sheet ≡ s
 unfolding draw

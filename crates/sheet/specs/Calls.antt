@@ -6,6 +6,7 @@ use mathlib.Core.Path.{_≡_}
 use Prim.Native.Nat.{ℕ}
 use lib.Dec.{eqb}
 use lib.ListN.{length}
+use lib.Ieee.{Float}
 use Rattle.ints.specs.Lists.{over}
 use Rattle.text.specs.Reading.{Reading, accepted, refused as unread, reading}
 use Rattle.passes.specs.Drawing.{drawingOf}
@@ -18,7 +19,7 @@ use Rattle.sheet.specs.declared.types.Answer.the-variants.{Accepted}
 use Rattle.sheet.specs.declared.types.LineAnswer.{LineAnswer}
 use Rattle.sheet.specs.Sheet.{planIn, drawingIn, emptySheet, loadedSheet, drawnSheet}
 use Rattle.sheet.specs.Results.{Result, gives, refuses, resultOf, lineResultOf, Test, firstRefusal, resultAfter}
-use Rattle.sheet.specs.Tests.{test11, test12, test13Plan, test13Drawing, test7Line, test7Mark, test14, lineOf, reportOf}
+use Rattle.sheet.specs.Tests.{test11, test12, test13Plan, test13Drawing, test7Line, marksIn, test7Mark, test14, lineOf, reportOf, numbersOf}
 
 -- ---- load
 pub record SheetOut : Type 0 where
@@ -47,15 +48,22 @@ draw s =
     sheetOut (resultAfter n tt) (cond (eqb n 0) drawn s)
 
 -- ---- line, and all lines
-pub record TextOut : Type 0 where
+pub record BufferOut (A : Type 0) : Type 0 where
   pub result : Result ℕ
-  pub buffer : List ℕ
+  pub buffer : List A
 
--- A text "in a lent buffer, with its length; later bytes stay", unless the tests came out as a refusal.
+abbrev pub TextOut : Type 0
+TextOut = BufferOut ℕ
+
+-- Elements "in a lent buffer" with a count, "later bytes stay", unless the tests came out as a refusal.
+abbrev pub bufferAfter : {A : Type 0} → ℕ → ℕ → List A → List A → BufferOut A
+bufferAfter n count content buffer =
+    let written = over content buffer in
+    record { result = resultAfter n count; buffer = cond (eqb n 0) written buffer }
+
+-- A text, "with its length".
 abbrev pub textAfter : ℕ → List ℕ → List ℕ → TextOut
-textAfter n text buffer =
-    let written = over text buffer in
-    record { result = resultAfter n (length text); buffer = cond (eqb n 0) written buffer }
+textAfter n text buffer = bufferAfter n (length text) text buffer
 
 abbrev pub lineTests : Sheet → ℕ → List ℕ → List Test
 lineTests s n buffer =
@@ -71,13 +79,20 @@ reportTests s buffer = test11 s ∷ test12 s ∷ test13Plan s ∷ test13Drawing 
 unfoldable pub report : Sheet → List ℕ → TextOut
 report s buffer = textAfter (firstRefusal (reportTests s buffer)) (reportOf s) buffer
 
--- ---- mark
+-- ---- mark, and all marks
 abbrev pub markTests : Sheet → ℕ → List Test
 markTests s n = test11 s ∷ test12 s ∷ test13Plan s ∷ test13Drawing s ∷ test7Mark s n ∷ []
 
 -- "Mark n gives the n-th mark."
 unfoldable pub mark : Sheet → ℕ → Result Mark
 mark s n = resultAfter (firstRefusal (markTests s n)) (markOf (planIn s) (drawingIn s .final) n)
+
+abbrev pub marksTests : Sheet → List Float → List Test
+marksTests s buffer = test11 s ∷ test12 s ∷ test13Plan s ∷ test13Drawing s ∷ test14 (numbersOf s) buffer ∷ []
+
+-- All marks in a lent buffer, five numbers each, with how many there are; later numbers stay.
+unfoldable pub marks : Sheet → List Float → BufferOut Float
+marks s buffer = bufferAfter (firstRefusal (marksTests s buffer)) (marksIn s) (numbersOf s) buffer
 
 -- ---- clear: "Clear empties."
 unfoldable pub clear : Sheet → SheetOut
@@ -94,6 +109,6 @@ pub record Draws (s : Sheet) (a : Answer) (t : Sheet) : Type 0 where
   pub leaves : Leaves (draw s) a t
   pub demand3 : a ≡ Accepted → Demand3 (planIn t) (drawingIn t)
 
-pub record Writes (o : TextOut) (a : LineAnswer) (buffer : List ℕ) : Type 0 where
+pub record Writes {A : Type 0} (o : BufferOut A) (a : LineAnswer) (buffer : List A) : Type 0 where
   pub answered : lineResultOf a ≡ o .result
   pub left : buffer ≡ o .buffer

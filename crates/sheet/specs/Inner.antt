@@ -3,16 +3,17 @@ use mathlib.Core.Bool.{not}
 use mathlib.Core.List.{List, [], _∷_}
 use Prim.Native.Nat.{ℕ}
 use lib.Dec.{ltb}
+use lib.Ieee.{Float}
 use Rattle.plan.specs.declared.data.Plan.{Plan}
 use Rattle.marks.specs.declared.types.Mark.{Mark}
 use Rattle.stored.specs.declared.types.Drawing.{Drawing as Arrays}
 use Rattle.stored.specs.declared.types.Counts.{Counts}
-use Rattle.stored.specs.Parts.{isPlanWith, isDrawingWith, linesOf, lineWith, marksOf, markWith}
+use Rattle.stored.specs.Parts.{isPlanWith, isDrawingWith, linesOf, lineWith, marksOf, markWith, numbersWith}
 use Rattle.sheet.specs.declared.types.Stage.{Stage}
 use Rattle.sheet.specs.Sheet.{isEmpty, isDrawn, verticesIn, segmentsIn, placingsIn}
 use Rattle.sheet.specs.Results.{Result, test, firstRefusal, resultAfter}
 use Rattle.sheet.specs.Tests.{test14}
-use Rattle.sheet.specs.Calls.{TextOut, textAfter}
+use Rattle.sheet.specs.Calls.{BufferOut, TextOut, bufferAfter, textAfter}
 
 -- The counts of a stage; 0 where it has none.
 abbrev pub countsIn : Stage → Counts
@@ -30,13 +31,13 @@ drawRefusal t p = firstRefusal (test 11 (isEmpty t) ∷ test 13 (not (isPlanWith
 unfoldable pub dataRefusal : Plan → Arrays → Counts → ℕ
 dataRefusal p d c = firstRefusal (test 13 (not (isPlanWith p c)) ∷ test 13 (not (isDrawingWith p d c)) ∷ [])
 
--- The number by which line, report and mark are refused before 7, 0 if they are not.
+-- The number by which line, report, mark and marks are refused before 7 and 14, 0 if they are not.
 unfoldable pub showRefusal : Stage → Plan → Arrays → ℕ
 showRefusal t p d =
     firstRefusal
     (test 11 (isEmpty t) ∷ test 12 (not (isDrawn t)) ∷ test 13 (not (isPlanWith p (countsIn t))) ∷ test 13 (not (isDrawingWith p d (countsIn t))) ∷ [])
 
--- ---- what is left of line, report and mark where they are not refused so
+-- ---- what is left of line, report, mark and marks where they are not refused so
 abbrev pub fitted : List ℕ → List ℕ → TextOut
 fitted text buffer = textAfter (firstRefusal (test14 text buffer ∷ [])) text buffer
 
@@ -47,3 +48,6 @@ lineFrom p d c n buffer =
 
 unfoldable pub markFrom : Plan → Arrays → Counts → ℕ → Result Mark
 markFrom p d c n = resultAfter (firstRefusal (test 7 (not (ltb n (marksOf c))) ∷ [])) (markWith p d c n)
+
+abbrev pub marksFrom : Plan → Arrays → Counts → List Float → BufferOut Float
+marksFrom p d c buffer = bufferAfter (firstRefusal (test14 (numbersWith p d c) buffer ∷ [])) (marksOf c) (numbersWith p d c) buffer

@@ -4,9 +4,11 @@ use mathlib.Core.List.{List, [], _∷_}
 use Prim.Native.Nat.{ℕ, _+_}
 use lib.Dec.{ltb}
 use lib.ListN.{length, getD}
+use lib.Ieee.{Float}
 use Rattle.ints.specs.Lists.{concat}
 use Rattle.writing.specs.Data.{isStoredPlan}
 use Rattle.report.specs.Lines.{reportLines}
+use Rattle.marks.specs.Marks.{allNumbers}
 use Rattle.stored.specs.Parts.{isDrawingIn}
 use Rattle.sheet.specs.declared.types.Sheet.{Sheet}
 use Rattle.sheet.specs.Sheet.{isEmpty, isDrawn, verticesIn, segmentsIn, placingsIn, planIn, drawingIn}
@@ -48,9 +50,9 @@ marksIn s = verticesIn (s .header .stage) + segmentsIn (s .header .stage)
 abbrev pub test7Mark : Sheet → ℕ → Test
 test7Mark s n = test 7 (not (ltb n (marksIn s)))
 
--- 14: "The buffer is shorter than the line", or than all lines.
-abbrev pub test14 : List ℕ → List ℕ → Test
-test14 text buffer = test 14 (ltb (length buffer) (length text))
+-- 14: "The buffer is shorter than the line", or than all lines, or than the numbers of all marks.
+abbrev pub test14 : {A : Type 0} → List A → List A → Test
+test14 content buffer = test 14 (ltb (length buffer) (length content))
 
 -- The n-th line, and all lines one after another.
 unfoldable pub lineOf : Sheet → ℕ → List ℕ
@@ -58,3 +60,7 @@ lineOf s n = getD (reportLines (planIn s) (drawingIn s)) n []
 
 unfoldable pub reportOf : Sheet → List ℕ
 reportOf s = concat (reportLines (planIn s) (drawingIn s))
+
+-- The numbers of all marks, five each.
+unfoldable pub numbersOf : Sheet → List Float
+numbersOf s = allNumbers (planIn s) (drawingIn s .final)

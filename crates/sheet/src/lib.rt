@@ -1,4 +1,5 @@
 // The sheet and its calls.
+pub mod all_marks;
 pub mod clear;
 pub mod draw;
 pub mod line;

@@ -65,7 +65,7 @@ fn data_refusal(plan: Plan, drawing: Drawing, counts: Counts) -> u32
     0
 }
 
-// The number by which line, report and mark are refused before 7, 0 if they are not.
+// The number by which line, report, mark and marks are refused before 7 and 14, 0 if they are not.
 pub fn show_refusal(stage: Stage, plan: Plan, drawing: Drawing) -> u32
     ensures { λ r. ⌜ r ≡ showRefusal stage plan drawing ⌝ }
 {

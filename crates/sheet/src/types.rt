@@ -49,7 +49,7 @@ pub struct Changed {
     pub sheet: Sheet,
 }
 
-// What line answers: the line's length. And what the whole report answers: its length.
+// What line answers: the line's length. And what the whole report answers: its length. And what all marks answer: their count.
 pub enum LineAnswer {
     Written(usize),
     Refused(u32),

@@ -7,10 +7,10 @@ use lib.IntN.{ℤ, pos, _+ℤ_}
 use Rattle.ints.proofs.Laws.{ints, sum}
 use Rattle.sheet.specs.declared.types.LineAnswer.{LineAnswer}
 use Rattle.sheet.specs.Results.{lineResultOf}
-use Rattle.sheet.specs.Calls.{TextOut, Writes}
+use Rattle.sheet.specs.Calls.{BufferOut, Writes}
 use Rattle.sheet_c.specs.Code.{codeOf, Codes}
 
-pub codes : {o : TextOut} {a : LineAnswer} {r : ℤ} {out : List ℕ} → Writes o a out → r ≡ codeOf (lineResultOf a) → Codes o r out
+pub codes : {A : Type 0} {o : BufferOut A} {a : LineAnswer} {r : ℤ} {out : List A} → Writes o a out → r ≡ codeOf (lineResultOf a) → Codes o r out
 codes w e = record { code = e ∙ ap codeOf (w .answered); buffer = w .left }
 
 pub plain : (n : ℕ) → pos 0 +ℤ pos n ≡ pos n

@@ -2,12 +2,13 @@
 use mathlib.Core.Path.{_≡_, refl, sym, _∙_, ap}
 use mathlib.Core.Bool.{true, _&&_}
 use mathlib.Core.List.{List, [], _∷_}
-use Prim.Native.Nat.{ℕ, _+_, _≤_, _<_}
+use Prim.Native.Nat.{ℕ, _+_, _*_, _≤_, _<_}
 use native.Mathlib.Omega.{arith}
 use borrow.Author.Tests.{leb-true}
 use lib.Dec.{leb}
 use lib.ListN.{length, getD, take}
 use lib.Seq.{length-take-le}
+use lib.Ieee.{Float}
 use Rattle.ints.specs.Lists.{sum, concat}
 use Rattle.plan.specs.Limits.{maxVertices, maxSegments}
 use Rattle.plan.specs.declared.data.Plan.{Plan}
@@ -22,12 +23,25 @@ use Rattle.lines.specs.Stored.{planPart, drawingFrom, lineOf, Stored, LineRoom,
 use Rattle.lines.proofs.ByNumber.{HasPart, same-lines}
 use Rattle.lines.proofs.Listed.{final-within}
 use Rattle.lines.proofs.Rooms.{line-room, report-room, drawing-within}
-use Rattle.marks.specs.Asked.{Asked, DataOf}
-use Rattle.marks.proofs.Acceptable.{asked}
+use Rattle.marks.specs.Asked.{AskedAll, Asked, DataOf}
+use Rattle.marks.proofs.Acceptable.{asked-all}
+use Rattle.marks.proofs.All.{all-long}
 use Rattle.stored.specs.declared.types.Drawing.{Drawing as Arrays}
 use Rattle.stored.specs.declared.types.Counts.{Counts}
-use Rattle.stored.specs.Parts.{isDrawingIn, planWith, drawingWith, Holds, linesOf, lineWith, reportWith, marksOf}
+use Rattle.stored.specs.Parts.{isDrawingIn, planWith, drawingWith, isPlanWith, Holds, linesOf, lineWith, reportWith, marksOf, numbersWith}
 use Rattle.stored.proofs.Cuts.{PlanArrays, DrawingArrays, PlanCut, DrawingCut, plan-cut, drawing-cut}
+
+-- ---- as many vertices and segments as the counts say
+module _ (p : Plan) (c : Counts) (h : isPlanWith p c ≡ true) (a : PlanArrays p) where
+  vias-long : length (take (c .vertices) (p .vias)) ≡ c .vertices
+  vias-long = length-take-le (c .vertices) (p .vias) (plan-cut a c h .vias)
+
+  uppers-long : length (take (c .segments) (p .uppers)) ≡ c .segments
+  uppers-long = length-take-le (c .segments) (p .uppers) (plan-cut a c h .uppers)
+
+  -- so all marks have five numbers each
+  pub numbers-long : (d : Arrays) → length (numbersWith p d c) ≡ 5 * marksOf c
+  numbers-long d = omega (arith, all-long (planWith p c) (drawingWith d c .final), vias-long, uppers-long)
 
 module _ (p : Plan) (d : Arrays) (c : Counts) (h : Holds p d c) where
   plan-ok : acceptable (planWith p c) ≡ true
@@ -102,13 +116,19 @@ module _ (p : Plan) (d : Arrays) (c : Counts) (h : Holds p d c) where
     report-fronts f = rw (same-lines has-part (drawingWith d c)) f
 
     -- ---- marks
+    marks-asked : AskedAll (p .spacing) (take (p .levels) (p .sizes)) (take (c .vertices) (p .vias)) (take (c .vertices) (p .halves)) (take (c .segments) (p .uppers)) (take (c .segments) (p .lowers)) (take (c .vertices) (d .finals))
+    marks-asked =
+        asked-all (planWith p c) (take (c .vertices) (d .finals)) plan-ok (final-within (drawingWith d c) (drawing-within (planWith p c) (drawingWith d c) (parts .drawing)))
+        (length-take-le (c .vertices) (d .finals) (in-drawing .finals) ∙ sym (vias-long p c (h .plan) a))
+
     pub mark-asked : (n : ℕ) → n < marksOf c
         → Asked (p .spacing) (take (p .levels) (p .sizes)) (take (c .vertices) (p .vias)) (take (c .vertices) (p .halves)) (take (c .segments) (p .uppers)) (take (c .segments) (p .lowers)) (take (c .vertices) (d .finals)) n
-    mark-asked n l =
-        let v = length-take-le (c .vertices) (p .vias) (in-plan .vias) in
-        asked (planWith p c) (take (c .vertices) (d .finals)) plan-ok (final-within (drawingWith d c) (drawing-within (planWith p c) (drawingWith d c) (parts .drawing))) n
-        (length-take-le (c .vertices) (d .finals) (in-drawing .finals) ∙ sym v)
-        (omega (arith, v, length-take-le (c .segments) (p .uppers) (in-plan .uppers)))
+    mark-asked n l = record { lists = marks-asked; number = omega (arith, vias-long p c (h .plan) a, uppers-long p c (h .plan) a) }
+
+    pub all-asked : (o : List Float) → 5 * marksOf c ≤ length o
+        → AskedAll (p .spacing) (take (p .levels) (p .sizes)) (take (c .vertices) (p .vias)) (take (c .vertices) (p .halves)) (take (c .segments) (p .uppers)) (take (c .segments) (p .lowers)) (take (c .vertices) (d .finals))
+        × (5 * (length (take (c .vertices) (p .vias)) + length (take (c .segments) (p .uppers))) ≤ length o)
+    all-asked o m = (marks-asked, omega (arith, vias-long p c (h .plan) a, uppers-long p c (h .plan) a))
 
   pub mark-data : DataOf (planWith p c) (p .spacing) (take (p .levels) (p .sizes)) (take (c .vertices) (p .vias)) (take (c .vertices) (p .halves)) (take (c .segments) (p .uppers)) (take (c .segments) (p .lowers))
   mark-data = record { spacingIs = refl; sizesAre = refl; viasAre = refl; halvesAre = refl; uppersAre = refl; lowersAre = refl }

@@ -5,6 +5,7 @@ use mathlib.Core.Path.{_≡_}
 use Prim.Native.Nat.{ℕ, _+_}
 use lib.Dec.{leb}
 use lib.ListN.{length, getD, take}
+use lib.Ieee.{Float}
 use Rattle.ints.specs.Lists.{sum, concat}
 use Rattle.plan.specs.Plan.{PlanData}
 use Rattle.plan.specs.Stored.{planData}
@@ -16,7 +17,7 @@ use Rattle.passes.specs.Demand3.{Demand3}
 use Rattle.report.specs.Lines.{reportLines}
 use Rattle.report.specs.Valid.{isDrawing}
 use Rattle.marks.specs.declared.types.Mark.{Mark}
-use Rattle.marks.specs.Marks.{markOf}
+use Rattle.marks.specs.Marks.{markOf, allNumbers}
 use Rattle.stored.specs.declared.types.Drawing.{Drawing as Arrays}
 use Rattle.stored.specs.declared.types.NewDrawing.{NewDrawing}
 use Rattle.stored.specs.declared.types.Counts.{Counts}
@@ -60,6 +61,9 @@ marksOf c = c .vertices + c .segments
 
 abbrev pub markWith : Plan → Arrays → Counts → ℕ → Mark
 markWith p d c n = markOf (planWith p c) (drawingWith d c .final) n
+
+abbrev pub numbersWith : Plan → Arrays → Counts → List Float
+numbersWith p d c = allNumbers (planWith p c) (drawingWith d c .final)
 
 -- A drawing's arrays, and how many placings it lists.
 abbrev pub newDrawing : Drawing → NewDrawing

@@ -1,12 +1,12 @@
 //! How long the proved libraries take, beside the reference, in one process: ratios, with absolute times beside them.
 
+use differential::measure::{median, seconds};
 use differential::proved;
 use reference::jumps::Placer;
 use reference::place_run::Run;
 use reference::random::Random;
 use reference::requests::{Request, Scale};
 use std::hint::black_box;
-use std::time::Instant;
 
 /// Random requests of each size.
 const REQUESTS: usize = 16;
@@ -15,17 +15,8 @@ const REQUESTS: usize = 16;
 const ROUNDS: usize = 401;
 
 /// Seconds that one call takes, over some passes through the requests.
-fn seconds(passes: usize, mut call: impl FnMut(usize)) -> f64 {
-    let began = Instant::now();
-    for _ in 0..passes {
-        (0..REQUESTS).for_each(&mut call);
-    }
-    began.elapsed().as_secs_f64() / (passes * REQUESTS) as f64
-}
-
-fn median(mut values: Vec<f64>) -> f64 {
-    values.sort_by(f64::total_cmp);
-    values[values.len() / 2]
+fn seconds_each(passes: usize, mut call: impl FnMut(usize)) -> f64 {
+    seconds(passes, || (0..REQUESTS).for_each(&mut call)) / REQUESTS as f64
 }
 
 /// The proved call against the reference's jumps, on the same accepted requests.
@@ -41,10 +32,10 @@ fn place_run(boxes: usize, neighbours: usize, name: &str, scale: Scale) {
     let passes = 50_000 / (1 + boxes * 400 + neighbours * 20) + 1;
     let (mut proved_times, mut reference_times) = (Vec::new(), Vec::new());
     for _ in 0..ROUNDS {
-        proved_times.push(seconds(passes, |i| {
+        proved_times.push(seconds_each(passes, |i| {
             black_box(proved::place_run(&requests[i], &mut ours[i]));
         }));
-        reference_times.push(seconds(passes, |i| {
+        reference_times.push(seconds_each(passes, |i| {
             let q = &requests[i];
             let run = Run {
                 left: q.left.bound(),
@@ -61,7 +52,12 @@ fn place_run(boxes: usize, neighbours: usize, name: &str, scale: Scale) {
     }
     assert_eq!(ours, theirs);
     let (a, b) = (median(proved_times), median(reference_times));
-    println!("place-run r={boxes:2} s={neighbours:4} {name:6}  proved {:9.3} us  reference {:9.3} us  ratio {:.2}", a * 1e6, b * 1e6, a / b);
+    println!(
+        "place-run r={boxes:2} s={neighbours:4} {name:6}  proved {:9.3} us  reference {:9.3} us  ratio {:.2}",
+        a * 1e6,
+        b * 1e6,
+        a / b
+    );
 }
 
 fn main() {

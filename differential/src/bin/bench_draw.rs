@@ -1,28 +1,14 @@
 //! How long the proved draw takes from text to final positions, beside the reference, in one process: ratios, with absolute
 //! times beside them.
 
+use differential::measure::{about, median, seconds};
 use differential::proved_draw;
-use reference::{generate, passes, text};
+use differential::vectors;
+use reference::{passes, text};
 use std::fs;
 use std::hint::black_box;
-use std::path::Path;
-use std::time::Instant;
 
 const ROUNDS: usize = 21;
-
-/// Seconds that one call takes, over calls enough to be measured.
-fn seconds(calls: usize, mut call: impl FnMut()) -> f64 {
-    let began = Instant::now();
-    for _ in 0..calls {
-        call();
-    }
-    began.elapsed().as_secs_f64() / calls as f64
-}
-
-fn median(mut values: Vec<f64>) -> f64 {
-    values.sort_by(f64::total_cmp);
-    values[values.len() / 2]
-}
 
 /// Both from the same text to final positions.
 fn measure(name: &str, plan_text: &[u8]) {
@@ -51,27 +37,37 @@ fn measure(name: &str, plan_text: &[u8]) {
     );
 }
 
-/// The first random plan of the kind that has this many vertices, give or take one in twenty.
-fn about(kind: &str, vertices: usize) -> Vec<u8> {
-    let is_near = |plan_text: &Vec<u8>| {
-        text::read(plan_text).is_ok_and(|plan| plan.vertices().abs_diff(vertices) <= vertices / 20)
-    };
-    let mut texts = (0..).map(|seed| generate::generate(kind, seed).expect("a kind"));
-    texts.find(is_near).expect("a plan")
-}
-
 fn main() {
     for (kind, vertices) in
         [("medium", 100), ("vias", 100), ("wide", 100), ("deep", 100), ("wide", 300), ("deep", 300), ("max", 1_000)]
     {
-        measure(&format!("{kind} {vertices}"), &about(kind, vertices));
+        measure(&format!("{kind} {vertices}"), &about(kind, vertices).expect("a plan"));
     }
-    let folder = Path::new(env!("CARGO_MANIFEST_DIR")).join("../reference/tests/vectors");
     for name in [
-        "max-1", "max-2", "max-3", "far", "longest", "staircase", "stairs-1", "stairs-2", "stairs-3", "stairs-4", "zigzag",
-        "chains-1", "chains-2", "chains-4", "chains-6", "wide-1", "wide-2", "wide-3", "deep-1", "deep-2", "deep-3", "deep-4",
+        "max-1",
+        "max-2",
+        "max-3",
+        "far",
+        "longest",
+        "staircase",
+        "stairs-1",
+        "stairs-2",
+        "stairs-3",
+        "stairs-4",
+        "zigzag",
+        "chains-1",
+        "chains-2",
+        "chains-4",
+        "chains-6",
+        "wide-1",
+        "wide-2",
+        "wide-3",
+        "deep-1",
+        "deep-2",
+        "deep-3",
+        "deep-4",
     ] {
-        let plan_text = fs::read(folder.join(name).with_extension("plan")).expect("a vector");
+        let plan_text = fs::read(vectors::plan(name)).expect("a vector");
         measure(name, &plan_text);
     }
 }

@@ -1,13 +1,12 @@
 //! How long the proved preliminary positions take, beside the reference, in one process: absolute times, ratios, and how the
 //! time grows with the plan. Both are given the text; what is left without reading it is told apart.
 
+use differential::measure::{about, median, seconds};
 use differential::proved_positions;
-use reference::generate::generate;
 use reference::plan::{Draft, Plan, Vertex};
 use reference::random::Random;
 use reference::{preliminary, text};
 use std::hint::black_box;
-use std::time::Instant;
 
 /// Rounds so short that other work on the machine falls into few of them.
 const ROUNDS: usize = 400;
@@ -50,19 +49,6 @@ fn vertices(random: &mut Random, levels: usize, width: usize) -> Vec<Vertex> {
         }
     }
     vertices
-}
-
-fn seconds(calls: usize, mut call: impl FnMut()) -> f64 {
-    let began = Instant::now();
-    for _ in 0..calls {
-        call();
-    }
-    began.elapsed().as_secs_f64() / calls as f64
-}
-
-fn median(mut values: Vec<f64>) -> f64 {
-    values.sort_by(f64::total_cmp);
-    values[values.len() / 2]
 }
 
 /// Times of the proved call and of the reference, in seconds; of each the whole and what is left without reading.
@@ -109,13 +95,6 @@ fn print(name: &str, bytes: &[u8], times: &Times) {
         times.reference_alone * 1e6,
         times.proved_alone / times.reference_alone,
     );
-}
-
-/// The first random plan of the kind with about that many vertices.
-fn about(kind: &str, vertices: usize) -> Option<Vec<u8>> {
-    let near =
-        |bytes: &Vec<u8>| text::read(bytes).is_ok_and(|plan| plan.vertices().abs_diff(vertices) <= vertices / 40);
-    (0..2_000).filter_map(|seed| generate(kind, seed)).find(near)
 }
 
 fn main() {

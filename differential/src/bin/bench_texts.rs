@@ -1,26 +1,12 @@
 //! How long the proved reader takes on a plan text, beside the reference, in one process: ratios, with absolute times beside them.
 
+use differential::measure::{median, seconds};
 use differential::proved;
 use reference::generate::generate;
 use reference::text;
 use std::hint::black_box;
-use std::time::Instant;
 
 const ROUNDS: usize = 41;
-
-/// Seconds that one call takes, over calls enough to be measured.
-fn seconds(calls: usize, mut call: impl FnMut()) -> f64 {
-    let began = Instant::now();
-    for _ in 0..calls {
-        call();
-    }
-    began.elapsed().as_secs_f64() / calls as f64
-}
-
-fn median(mut values: Vec<f64>) -> f64 {
-    values.sort_by(f64::total_cmp);
-    values[values.len() / 2]
-}
 
 /// The proved reader against the reference's, and the same with the text written again.
 fn plan_text(name: &str, bytes: &[u8]) {

@@ -48,7 +48,8 @@ segment-mark-requires c κs =
     let s = c .before .before .before .before .before .before .before .before in
     let k = s .args .n - length (s .args .vias .now) in
     let here : k < length (s .args .uppers .now) = omega (arith, s .pre .number) in
-    (s .pre .near, omega (arith, s .pre .upper k here, s .pre .positions), omega (arith, s .pre .lower k (omega (arith, s .pre .ends)), s .pre .positions))
+    let a = s .pre .lists in
+    (a .near, omega (arith, a .upper k here, a .positions), omega (arith, a .lower k (omega (arith, a .ends)), a .positions))
 
 returns-2 : tie.Need-returns-2
 returns-2 c p d =

@@ -1,0 +1,63 @@
+-- The numbers of all marks, as a loop writes them: those of the next mark, and what is left after it. Assumes nothing.
+use mathlib.Core.Path.{_≡_, refl, sym, _∙_}
+use mathlib.Core.Bool.{Bool}
+use mathlib.Core.List.{List, map}
+use Prim.Native.Nat.{ℕ, zero, suc, _+_, _*_, _-_, _≤_, _<_}
+use native.Mathlib.Omega.{arith}
+use lib.ListN.{length, length-append}
+use lib.Seq.{sets}
+use lib.IntN.{ℤ}
+use lib.Ieee.{Float}
+use Rattle.ints.specs.Lists.{over, concat}
+use Rattle.plan.specs.Plan.{PlanData, numbers}
+use Rattle.text.proofs.Stores.{sets-append, sets-over}
+use Rattle.marks.specs.declared.types.Mark.{Mark}
+use Rattle.marks.specs.declared.types.Mark.the-variants.{Box, Bend, Line}
+use Rattle.marks.specs.Marks.{markOf, markCount, fiveOf, allNumbers}
+use Rattle.marks.specs.Asked.{DataOf}
+
+five-long : (m : Mark) → length (fiveOf m) ≡ 5
+unfolding fiveOf
+five-long (Box c w) = refl
+five-long (Bend c) = refl
+five-long (Line a b) = refl
+
+module _ (p : PlanData) (xs : List ℤ) where
+  -- The numbers of k marks from the n-th on.
+  abbrev numbersFrom : ℕ → ℕ → List Float
+  numbersFrom n k = concat (map (λ i. fiveOf (markOf p xs i)) (numbers n k))
+
+  from-long : (n k : ℕ) → length (numbersFrom n k) ≡ 5 * k
+  unfolding numbers concat
+  from-long n zero = refl
+  from-long n (suc k) = omega (arith, length-append (fiveOf (markOf p xs n)) (numbersFrom (n + 1) k), five-long (markOf p xs n), from-long (n + 1) k)
+
+  pub all-long : length (allNumbers p xs) ≡ 5 * markCount p
+  unfolding allNumbers
+  all-long = from-long 0 (markCount p)
+
+  -- Stored at its place, what is left from the n-th mark on makes out of o′ what all numbers make out of o.
+  abbrev pub Left : ℕ → List Float → List Float → Type 0
+  Left n o o′ = sets o′ (5 * n) (numbersFrom n (markCount p - n)) ≡ sets o 0 (allNumbers p xs)
+
+  pub none-yet : (o : List Float) → Left 0 o o
+  unfolding allNumbers
+  none-yet o = let e : markCount p - 0 ≡ markCount p = omega arith in rw e
+
+  pub next-put : (n : ℕ) (o o′ : List Float) (m : Mark) → n < markCount p → m ≡ markOf p xs n → Left n o o′ → Left (n + 1) o (sets o′ (5 * n) (fiveOf m))
+  unfolding numbers concat
+  next-put n o o′ m h e l =
+      let k : markCount p - n ≡ suc (markCount p - (n + 1)) = omega arith in
+      let f : 5 * (n + 1) ≡ 5 * n + length (fiveOf (markOf p xs n)) = omega (arith, five-long (markOf p xs n)) in
+      rw (e, f) (sym (sets-append o′ (5 * n) (fiveOf (markOf p xs n)) (numbersFrom (n + 1) (markCount p - (n + 1)))) ∙ rw k at l)
+
+  pub all-put : (n : ℕ) (o o′ : List Float) → markCount p ≤ n → 5 * markCount p ≤ length o → Left n o o′ → o′ ≡ over (allNumbers p xs) o
+  unfolding numbers concat
+  all-put n o o′ h r l =
+      let k : markCount p - n ≡ 0 = omega arith in
+      rw k at l ∙ sets-over o (allNumbers p xs) (omega (arith, all-long))
+
+-- How many marks a plan with these lists has.
+pub count-is : (p : PlanData) (spacing : ℕ) (sizes : List ℕ) (vias : List Bool) (halves uppers lowers : List ℕ) → DataOf p spacing sizes vias halves uppers lowers
+    → markCount p ≡ length vias + length uppers
+count-is p spacing sizes vias halves uppers lowers d = rw (d .viasAre, d .uppersAre)

@@ -1,0 +1,40 @@
+-- `sheet::all_marks::marks` meets its contract: refused or not by 11 to 13.
+use mathlib.Core.Path.{refl}
+use borrow.Author.Needs.{needs}
+use Rattle.sheet.proofs.ShowLaws.{holds, marks-refused, marks-shown, writes}
+use Rattle.sheet.proofs.all_marks.marks.Statement.{statement}
+use Rattle.sheet.proofs.all_marks.marks.Tie as tie
+
+show-refusal-requires : tie.Need-show-refusal-requires
+show-refusal-requires c κs = search needs
+
+returns : tie.Need-returns
+returns c =
+    let a = c .before .before .before .before .before .before .args in
+    writes (marks-refused (a .sheet) (c .before .show-refusal .result) (c .before .show-refusal .ensures) (c .if1 .taken) (a .out .now)) (record { answered = refl; left = refl })
+
+counts-in-requires : tie.Need-counts-in-requires
+counts-in-requires c κs = search needs
+
+marks-of-requires : tie.Need-marks-of-requires
+marks-of-requires c κs =
+    rw (c .before .counts-in .ensures) (holds (c .before .before .before .before .before .before .before .before .args .sheet) (c .before .before .before .show-refusal .result) (c .before .before .before .show-refusal .ensures) (c .before .before .if1 .left))
+
+same-length : tie.Need-same-length
+same-length c = search needs
+
+returns-2 : tie.Need-returns-2
+returns-2 c =
+    let a = c .before .before .before .before .before .before .before .before .before .before .before .args in
+    writes (marks-shown (a .sheet) (c .before .before .before .before .before .before .show-refusal .result) (c .before .before .before .before .before .before .show-refusal .ensures) (c .before .before .before .before .before .if1 .left) (a .out .now)) (rw (c .before .before .before .before .counts-in .ensures) at (c .before .before .marks-of .ensures))
+
+pub marks-spec : {M : Type 1} → statement M
+marks-spec =
+    tie.close
+    (tie.spec
+    show-refusal-requires
+    returns
+    counts-in-requires
+    marks-of-requires
+    same-length
+    returns-2)
