@@ -7,7 +7,7 @@ use reference::edges::edges;
 use reference::generate::generate;
 use reference::{marks, passes, report, text};
 use std::fs;
-use std::path::PathBuf;
+use std::path::{Path, PathBuf};
 
 /// What stands in a buffer before it is lent.
 const OLD: u8 = 0xaa;
@@ -126,17 +126,16 @@ fn no_report_is_longer() {
     assert!(plans().iter().all(|plan| fs::read(plan.with_extension("report")).expect("a report").len() <= MAX_REPORT));
 }
 
-/// The largest plans and the longest chains of strands.
+/// The largest plans, and two whose strands are placed one within another, 989 and 990 deep: none deeper was found.
 #[test]
 fn two_mebibytes_of_stack() {
-    let large: Vec<PathBuf> =
-        plans().into_iter().filter(|file| fs::read(file).expect("a plan").len() > 4_000).collect();
-    assert!(large.len() > 10);
+    let large = plans().into_iter().filter(|file| fs::read(file).expect("a plan").len() > 4_000);
+    let deep = ["chain-989", "chain-990"].map(|name| Path::new("tests/plans").join(name).with_extension("plan"));
+    let files: Vec<PathBuf> = large.chain(deep).collect();
     let compare_all = move || {
-        for file in large {
-            compare(&file.display().to_string(), &fs::read(&file).expect("a plan"));
-        }
+        let accepted = |file: &&PathBuf| compare(&file.display().to_string(), &fs::read(file).expect("a plan"));
+        files.iter().filter(accepted).count()
     };
     let thread = std::thread::Builder::new().stack_size(2 << 20).spawn(compare_all).expect("a thread");
-    thread.join().expect("it ends");
+    assert!(thread.join().expect("it ends") > 12);
 }

@@ -14,14 +14,25 @@ ghost use Rattle.sheet.specs.Calls as spec;
 ghost use Rattle.sheet.specs.Calls.{Writes};
 ghost use Rattle.sheet.specs.Inner.{fitted};
 
-// 14, and the lines.
-fn report_of(plan: Plan, drawing: Drawing, counts: Counts, out: &mut [u8]) -> LineAnswer
+// 14, and the lines: made in a buffer of its own, and copied.
+fn report_copied(plan: Plan, drawing: Drawing, counts: Counts, out: &mut [u8]) -> LineAnswer
     requires { ⌜ Holds plan drawing counts ⌝ }
     ensures { λ r. ⌜ Writes (fitted (reportWith plan drawing counts) (now (out .entry))) r (now (out .exit)) ⌝ }
 {
     let mut room = [0u8; MAX_REPORT];
     let length = put_lines(plan, drawing, counts, &mut room);
     fit(&room[..length], out)
+}
+
+// The same, made in the lent buffer itself where that has room for every report.
+fn report_of(plan: Plan, drawing: Drawing, counts: Counts, out: &mut [u8]) -> LineAnswer
+    requires { ⌜ Holds plan drawing counts ⌝ }
+    ensures { λ r. ⌜ Writes (fitted (reportWith plan drawing counts) (now (out .entry))) r (now (out .exit)) ⌝ }
+{
+    if out.len() < MAX_REPORT {
+        return report_copied(plan, drawing, counts, out);
+    }
+    LineAnswer::Written(put_lines(plan, drawing, counts, out))
 }
 
 // All lines after one another in a lent buffer, with their length; later bytes stay.

@@ -1,41 +1,39 @@
--- `sheet::whole::report_of` meets its contract: no report is longer than the local buffer, and what stands there is the report.
-use mathlib.Core.Path.{_≡_, refl, sym}
+-- `sheet::whole::report_of` meets its contract: what was written at the front of the buffer fits it.
+use native.Mathlib.Omega.{arith}
 use borrow.Author.Needs.{needs}
-use lib.Seq.{length-take-le}
-use Rattle.lines.specs.Stored.{maxReport}
-use Rattle.sheet.proofs.ShowLaws.{front-long, front-is, zeros-long}
+use Rattle.stored.specs.Parts.{reportWith}
+use Rattle.sheet.proofs.ShowLaws.{fitted-long, writes, wrote, front-long}
 use Rattle.sheet.proofs.whole.report_of.Statement.{statement}
 use Rattle.sheet.proofs.whole.report_of.Tie as tie
 
-slice-aggregate-put-lines : tie.Need-slice-aggregate-put-lines
-slice-aggregate-put-lines c = search needs
-
-put-lines-requires : tie.Need-put-lines-requires
-put-lines-requires c κs = (c .before .before .pre, zeros-long maxReport)
-
-array-share-prefix-room : tie.Need-array-share-prefix-room
-array-share-prefix-room c = front-long (c .before .put-lines .ensures)
-
-slice-aggregate-fit : tie.Need-slice-aggregate-fit
-slice-aggregate-fit c = sym (length-take-le _ _ (front-long (c .before .before .put-lines .ensures)))
-
-fit-requires : tie.Need-fit-requires
-fit-requires c κs = search needs
+report-copied-requires : tie.Need-report-copied-requires
+report-copied-requires c κs = search needs
 
 same-length : tie.Need-same-length
 same-length c = search needs
 
 returns : tie.Need-returns
-returns c = rw (front-is (c .before .before .before .before .before .before .put-lines .ensures)) at (c .before .before .fit .ensures)
+returns c = search needs
+
+put-lines-requires : tie.Need-put-lines-requires
+put-lines-requires c κs = search needs
+
+same-length-2 : tie.Need-same-length-2
+same-length-2 c = search needs
+
+returns-2 : tie.Need-returns-2
+returns-2 c =
+    let a = c .before .before .before .before .before .before .args in
+    let f = c .before .before .put-lines .ensures in
+    writes (fitted-long (reportWith (a .plan) (a .drawing) (a .counts)) (a .out .now) (omega (arith, f .count, front-long f, same-length-2 c))) (wrote f)
 
 pub report-of-spec : {M : Type 1} → statement M
 report-of-spec =
     tie.close
     (tie.spec
-    slice-aggregate-put-lines
-    put-lines-requires
-    array-share-prefix-room
-    slice-aggregate-fit
-    fit-requires
+    report-copied-requires
     same-length
-    returns)
+    returns
+    put-lines-requires
+    same-length-2
+    returns-2)
