@@ -1,8 +1,9 @@
 -- The passes one after another make the drawing. Assumes nothing.
-use Prim.Native.Nat.{ℕ}
+use Prim.Native.Nat.{ℕ, zero, suc, _+_, _-_, _<_, _≤_}
 use mathlib.Core.Path.{_≡_, sym, _∙_, ap, subst}
 use mathlib.Core.Bool.{Bool}
 use mathlib.Core.List.{List, [], _++_, append-assoc, append-nil}
+use native.Mathlib.Omega.{arith}
 use lib.ListN.{length}
 use lib.IntN.{ℤ}
 use Rattle.plan.specs.Plan.{PlanData}
@@ -13,22 +14,28 @@ use Rattle.demand3.proofs.Trace.{start}
 use Rattle.demand3.proofs.Schedule.{Visit, passVisits, firstPass, secondPass, thirdPass, schedule, three-is}
 use Rattle.moments.specs.Moments.{stateAfter, Held}
 use Rattle.moments.specs.Listing.{Listing}
-use Rattle.three_passes.specs.Passing.{downward, upward, PassMade, TurnNext}
-use Rattle.three_passes.specs.Drawn.{Drawn, AtStart, TwoMade}
+use Rattle.visits.specs.Visits.{Written}
+use Rattle.starting.proofs.Proper.{proper}
+use Rattle.one_pass.specs.Passing.{PassMade}
+use Rattle.three_passes.specs.Turn.{inTurn, TurnNext}
+use Rattle.three_passes.specs.Drawn.{Drawn, AtStart}
 
--- ---- the visits of each pass
-abbrev one : PlanData → List Visit
-one p = passVisits p 1 (downward p)
+-- ---- the visits of m passes from pass q on
+unfoldable pub turnsFrom : PlanData → ℕ → ℕ → List Visit
+turnsFrom p zero q = []
+turnsFrom p (suc m) q = passVisits p q (inTurn q p) ++ turnsFrom p m (q + 1)
 
-abbrev two : PlanData → List Visit
-two p = passVisits p 2 (upward p)
+schedule-is : (p : PlanData) → schedule p ≡ turnsFrom p 3 1
+unfolding firstPass secondPass thirdPass turnsFrom
+schedule-is p = append-assoc (firstPass p) (secondPass p) (thirdPass p) ∙ ap (λ (vs : List Visit). firstPass p ++ (secondPass p ++ vs)) (sym (append-nil (thirdPass p)))
 
-abbrev three : PlanData → List Visit
-three p = passVisits p 3 (downward p)
+turn-first : (p : PlanData) (q : ℕ) → q ≤ 3 → turnsFrom p (4 - q) q ≡ passVisits p q (inTurn q p) ++ turnsFrom p (4 - (q + 1)) (q + 1)
+unfolding turnsFrom
+turn-first p q h = let e : 4 - q ≡ suc (4 - (q + 1)) = omega arith in ap (λ (m : ℕ). turnsFrom p m q) e
 
-schedule-is : (p : PlanData) → schedule p ≡ one p ++ (two p ++ (three p ++ []))
-unfolding firstPass secondPass thirdPass
-schedule-is p = append-assoc (one p) (two p) (three p) ∙ ap (λ (vs : List Visit). one p ++ (two p ++ vs)) (sym (append-nil (three p)))
+turns-end : (p : PlanData) (q : ℕ) → 3 < q → turnsFrom p (4 - q) q ≡ []
+unfolding turnsFrom
+turns-end p q h = let e : 4 - q ≡ 0 = omega arith in ap (λ (m : ℕ). turnsFrom p m q) e
 
 -- ---- the drawing
 drawing-final : (p : PlanData) → stateAfter p (schedule p) .at ≡ drawingOf p .final
@@ -39,36 +46,51 @@ drawing-placings : (p : PlanData) → listed p (stateAfter p (schedule p) .trace
 unfolding drawingOf
 drawing-placings p = ap (λ (s : State). listed p (s .trace)) (sym (three-is p (start p)))
 
+-- ---- before pass q: the visits of those before are made, those from pass q on come next
+pub record Reached (p : PlanData) (q n b : ℕ) (at : List ℤ) (apart : List ℕ) (marks : List Bool) (passes levels sizes vertices : List ℕ) (positions : List ℤ) : Type 0 where
+  pub past : List Visit
+  pub held : Held p past (turnsFrom p (4 - q) q) at apart marks
+  pub written : Written p past n b passes levels sizes vertices positions
+
 module _ {p : PlanData} {ns : List ℕ} {vias : List Bool} {uppers lowers : List ℕ} {at₀ : List ℤ} {apart₀ : List ℕ} {marks₀ : List Bool} {passes₀ levels₀ sizes₀ vertices₀ : List ℕ} {positions₀ : List ℤ}
     (s : AtStart p ns vias uppers lowers at₀ apart₀ marks₀ passes₀ levels₀ sizes₀ vertices₀ positions₀) where
-  turn : (past coming : List Visit) (q : ℕ) (ls : List ℕ) {at : List ℤ} {apart : List ℕ} {marks : List Bool} → Held p past (passVisits p q ls ++ coming) at apart marks
-      → TurnNext p past coming q ls ns vias uppers lowers at apart marks
-  turn past coming q ls h = record { held = h; sizesAre = s .sizesAre; viasAre = s .viasAre; uppersAre = s .uppersAre; lowersAre = s .lowersAre }
+  pub vertices-few : length vias ≤ 1024
+  vertices-few = rw (s .viasAre) (proper p (s .held .ok) .few)
 
-  pub first-turn : TurnNext p [] (two p ++ (three p ++ [])) 1 (downward p) ns vias uppers lowers at₀ apart₀ marks₀
-  first-turn = turn [] (two p ++ (three p ++ [])) 1 (downward p) (subst (λ (vs : List Visit). Held p [] vs at₀ apart₀ marks₀) (schedule-is p) (s .held))
+  pub segments-few : length uppers ≤ 2048
+  segments-few = rw (s .uppersAre) (proper p (s .held .ok) .segments)
 
-  module _ {n b : ℕ} {at : List ℤ} {apart : List ℕ} {marks : List Bool} {passes levels sizes vertices : List ℕ} {positions : List ℤ} where
-    pub second-turn : PassMade p [] (two p ++ (three p ++ [])) 1 (downward p) n b at apart marks passes levels sizes vertices positions
-        → TurnNext p (one p) (three p ++ []) 2 (upward p) ns vias uppers lowers at apart marks
-    second-turn m = turn (one p) (three p ++ []) 2 (upward p) (m .held)
+  pub reached-first : Reached p 1 0 0 at₀ apart₀ marks₀ passes₀ levels₀ sizes₀ vertices₀ positions₀
+  reached-first = record { past = []; held = subst (λ (vs : List Visit). Held p [] vs at₀ apart₀ marks₀) (schedule-is p) (s .held); written = s .written }
 
-    pub third-turn : TwoMade p n b at apart marks passes levels sizes vertices positions → TurnNext p (firstPass p ++ secondPass p) [] 3 (downward p) ns vias uppers lowers at apart marks
-    unfolding thirdPass
-    third-turn m = turn (firstPass p ++ secondPass p) [] 3 (downward p) (subst (λ (vs : List Visit). Held p (firstPass p ++ secondPass p) vs at apart marks) (sym (append-nil (thirdPass p))) (m .held))
+  module _ {q n b : ℕ} {at : List ℤ} {apart : List ℕ} {marks : List Bool} {passes levels sizes vertices : List ℕ} {positions : List ℤ}
+      (r : Reached p q n b at apart marks passes levels sizes vertices positions) where
+    pub next-turn : q ≤ 3 → TurnNext p (r .past) (turnsFrom p (4 - (q + 1)) (q + 1)) q ns vias uppers lowers at apart marks
+    next-turn h = record {
+      held = subst (λ (vs : List Visit). Held p (r .past) vs at apart marks) (turn-first p q h) (r .held);
+      sizesAre = s .sizesAre;
+      viasAre = s .viasAre;
+      uppersAre = s .uppersAre;
+      lowersAre = s .lowersAre;
+    }
 
--- ---- what the second leaves, and the third
-pub two-made : {p : PlanData} {n b : ℕ} {at : List ℤ} {apart : List ℕ} {marks : List Bool} {passes levels sizes vertices : List ℕ} {positions : List ℤ}
-    → PassMade p (one p) (three p ++ []) 2 (upward p) n b at apart marks passes levels sizes vertices positions → TwoMade p n b at apart marks passes levels sizes vertices positions
-unfolding firstPass secondPass thirdPass
-two-made {p} {at = at} {apart} {marks} m = record { held = subst (λ (vs : List Visit). Held p (one p ++ two p) vs at apart marks) (append-nil (three p)) (m .held); written = m .written }
+pub reached-next : {p : PlanData} {past : List Visit} {q n b : ℕ} {at : List ℤ} {apart : List ℕ} {marks : List Bool} {passes levels sizes vertices : List ℕ} {positions : List ℤ}
+    → PassMade p past (turnsFrom p (4 - (q + 1)) (q + 1)) q (inTurn q p) n b at apart marks passes levels sizes vertices positions → Reached p (q + 1) n b at apart marks passes levels sizes vertices positions
+reached-next m = record { past = _; held = m .held; written = m .written }
 
-pub all-drawn : {p : PlanData} {n b : ℕ} {at : List ℤ} {apart : List ℕ} {marks : List Bool} {passes levels sizes vertices : List ℕ} {positions : List ℤ}
-    → PassMade p (firstPass p ++ secondPass p) [] 3 (downward p) n b at apart marks passes levels sizes vertices positions → Drawn p n b at passes levels sizes vertices positions
-unfolding thirdPass
-all-drawn {p} {passes} {levels} {sizes} {vertices} {positions} m = let e = drawing-placings p in record {
-  final = m .held .places ∙ drawing-final p;
-  lists = subst (λ (l : List Placing). Listing l passes levels sizes vertices positions) e (m .written .lists);
-  placings = m .written .placings ∙ ap length e;
-  boxes = m .written .boxes ∙ ap (λ (l : List Placing). length (boxesListed l)) e;
-}
+-- ---- and after the last one
+module _ {p : PlanData} {q n b : ℕ} {at : List ℤ} {apart : List ℕ} {marks : List Bool} {passes levels sizes vertices : List ℕ} {positions : List ℤ}
+    (r : Reached p q n b at apart marks passes levels sizes vertices positions) (h : 3 < q) where
+  all-past : r .past ≡ schedule p
+  all-past = sym (r .held .whole ∙ ap (λ (vs : List Visit). r .past ++ vs) (turns-end p q h) ∙ append-nil (r .past))
+
+  all-listed : listed p (stateAfter p (r .past) .trace) ≡ drawingOf p .placings
+  all-listed = ap (λ (vs : List Visit). listed p (stateAfter p vs .trace)) all-past ∙ drawing-placings p
+
+  pub all-drawn : Drawn p n b at passes levels sizes vertices positions
+  all-drawn = record {
+    final = r .held .places ∙ ap (λ (vs : List Visit). stateAfter p vs .at) all-past ∙ drawing-final p;
+    lists = subst (λ (l : List Placing). Listing l passes levels sizes vertices positions) all-listed (r .written .lists);
+    placings = r .written .placings ∙ ap length all-listed;
+    boxes = r .written .boxes ∙ ap (λ (l : List Placing). length (boxesListed l)) all-listed;
+  }

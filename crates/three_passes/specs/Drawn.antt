@@ -1,6 +1,6 @@
 -- What the three passes leave.
 use mathlib.Core.Bool.{Bool}
-use mathlib.Core.List.{List, [], _++_}
+use mathlib.Core.List.{List, []}
 use mathlib.Core.Path.{_≡_}
 use Prim.Native.Nat.{ℕ}
 use lib.ListN.{length, replicate}
@@ -9,7 +9,7 @@ use Rattle.plan.specs.Plan.{PlanData}
 use Rattle.preliminary.specs.Positions.{preliminary}
 use Rattle.passes.specs.Drawing.{drawingOf}
 use Rattle.passes.specs.Words.{boxesListed, maxListed}
-use Rattle.demand3.proofs.Schedule.{firstPass, secondPass, thirdPass, schedule}
+use Rattle.demand3.proofs.Schedule.{schedule}
 use Rattle.moments.specs.Moments.{Held}
 use Rattle.moments.specs.Listing.{Listing}
 use Rattle.visits.specs.Visits.{Written}
@@ -36,12 +36,6 @@ pub record SomeAtStart (ns : List ℕ) (vias : List Bool) (uppers lowers : List 
     (passes levels sizes vertices : List ℕ) (positions : List ℤ) : Type 0 where
   pub plan : PlanData
   pub is : AtStart plan ns vias uppers lowers at apart marks passes levels sizes vertices positions
-
--- After passes 1 and 2.
-pub record TwoMade (p : PlanData) (n b : ℕ) (at : List ℤ) (apart : List ℕ) (marks : List Bool) (passes levels sizes vertices : List ℕ)
-    (positions : List ℤ) : Type 0 where
-  pub held : Held p (firstPass p ++ secondPass p) (thirdPass p) at apart marks
-  pub written : Written p (firstPass p ++ secondPass p) n b passes levels sizes vertices positions
 
 -- The list of placings is still empty: every array is 0.
 pub record Unlisted (passes levels sizes vertices : List ℕ) (positions : List ℤ) : Type 0 where

@@ -20,7 +20,7 @@ measured c = c .before .before .before .before .before .before .before .before .
 abbrev marked : tie.After-positions → tie.After-mark-loose
 marked c = c .before .before .before .before .before .before .before .before .before .before .before .before .before .before .before .before .before .before .before .before .before .before
 
-abbrev passed : tie.After-positions → tie.After-run-passes
+abbrev passed : tie.After-positions → tie.After-run-with-tables
 passed c = c .before .before .before .before .before .before .before .before .before .before .before .before
 
 array-borrow-prefix-apart : tie.Need-array-borrow-prefix-apart
@@ -79,8 +79,8 @@ array-borrow-prefix-apart-2 c =
     let n = length (s .args .vias .now) in
     first-fit (d .last .1 .1 .1 .0) (drop n (replicate 1024 0)) n (d .kept .1 .1 .1 .0 ∙ length-take-le n (replicate 1024 0) (vertices-few (s .pre .lists)))
 
-slice-aggregate-run-passes : tie.Need-slice-aggregate-run-passes
-slice-aggregate-run-passes c =
+slice-aggregate-run-with-tables : tie.Need-slice-aggregate-run-with-tables
+slice-aggregate-run-with-tables c =
     let s = c .before .before .before .before .before .before .before .before .before .before .before .before .before .before .before .before .before .before .before in
     let d = c .before .before .before .before .before .before .before .before .distances in
     let n = length (s .args .vias .now) in
@@ -93,15 +93,15 @@ array-borrow-prefix-marks-2 c =
     let n = length (s .args .vias .now) in
     first-fit (m .last .1 .1 .1 .1 .0) (drop n (replicate 1024 false)) n (m .kept .1 .1 .1 .1 .0 ∙ length-take-le n (replicate 1024 false) (vertices-few (s .pre .lists)))
 
-slice-aggregate-run-passes-2 : tie.Need-slice-aggregate-run-passes-2
-slice-aggregate-run-passes-2 c =
+slice-aggregate-run-with-tables-2 : tie.Need-slice-aggregate-run-with-tables-2
+slice-aggregate-run-with-tables-2 c =
     let s = c .before .before .before .before .before .before .before .before .before .before .before .before .before .before .before .before .before .before .before .before in
     let m = c .before .before .before .before .mark-loose in
     let n = length (s .args .vias .now) in
     first-count (m .last .1 .1 .1 .1 .0) (drop n (replicate 1024 false)) n (m .kept .1 .1 .1 .1 .0 ∙ length-take-le n (replicate 1024 false) (vertices-few (s .pre .lists)))
 
-run-passes-requires : tie.Need-run-passes-requires
-run-passes-requires c κs =
+run-with-tables-requires : tie.Need-run-with-tables-requires
+run-with-tables-requires c κs =
     let s = c .before .before .before .before .before .before .before .before .before .before .before .before .before .before .before .before .before .before .before .before .before .before .before .before .before in
     let some = s .pre in
     let d = c .before .before .before .before .before .before .before .before .before .before .before .before .before .before .distances in
@@ -116,22 +116,22 @@ run-passes-requires c κs =
     record { plan = some .plan; is = at-start (some .lists) (λ g h. is ∙ d .ensures (some .plan) g h) (some .preliminaries) (marks-are ∙ m .ensures) (some .unlisted) }
 
 same-length : tie.Need-same-length
-same-length c = passed c .run-passes .kept .1 .1 .1 .1 .0
+same-length c = passed c .run-with-tables .kept .1 .1 .1 .1 .0
 
 same-length-2 : tie.Need-same-length-2
-same-length-2 c = passed c .run-passes .kept .1 .1 .1 .1 .1 .1 .1 .0
+same-length-2 c = passed c .run-with-tables .kept .1 .1 .1 .1 .1 .1 .1 .0
 
 same-length-3 : tie.Need-same-length-3
-same-length-3 c = passed c .run-passes .kept .1 .1 .1 .1 .1 .1 .1 .1 .0
+same-length-3 c = passed c .run-with-tables .kept .1 .1 .1 .1 .1 .1 .1 .1 .0
 
 same-length-4 : tie.Need-same-length-4
-same-length-4 c = passed c .run-passes .kept .1 .1 .1 .1 .1 .1 .1 .1 .1 .0
+same-length-4 c = passed c .run-with-tables .kept .1 .1 .1 .1 .1 .1 .1 .1 .1 .0
 
 same-length-5 : tie.Need-same-length-5
-same-length-5 c = passed c .run-passes .kept .1 .1 .1 .1 .1 .1 .1 .1 .1 .1 .0
+same-length-5 c = passed c .run-with-tables .kept .1 .1 .1 .1 .1 .1 .1 .1 .1 .1 .0
 
 same-length-6 : tie.Need-same-length-6
-same-length-6 c = passed c .run-passes .kept .1 .1 .1 .1 .1 .1 .1 .1 .1 .1 .1 .0
+same-length-6 c = passed c .run-with-tables .kept .1 .1 .1 .1 .1 .1 .1 .1 .1 .1 .1 .0
 
 returns : tie.Need-returns
 returns c =
@@ -144,7 +144,7 @@ returns c =
     let long′ : length (m .last .1 .1 .1 .1 .0) ≡ n = m .kept .1 .1 .1 .1 .0 ∙ length-take-le n (replicate 1024 false) (vertices-few (entry c .pre .lists)) in
     let others : List Bool = drop n (replicate 1024 false) in
     let marks-are : take n (m .last .1 .1 .1 .1 .0 ++ others) ≡ m .last .1 .1 .1 .1 .0 = first-is (m .last .1 .1 .1 .1 .0) others n long′ in
-    λ p l a. passed c .run-passes .ensures p (at-start l (λ g h. is ∙ d .ensures p g h) a (marks-are ∙ m .ensures) (entry c .pre .unlisted))
+    λ p l a. passed c .run-with-tables .ensures p (at-start l (λ g h. is ∙ d .ensures p g h) a (marks-are ∙ m .ensures) (entry c .pre .unlisted))
 
 pub three-passes-spec : {M : Type 1} → statement M
 three-passes-spec =
@@ -159,10 +159,10 @@ three-passes-spec =
     slice-aggregate-mark-loose-2
     mark-loose-requires
     array-borrow-prefix-apart-2
-    slice-aggregate-run-passes
+    slice-aggregate-run-with-tables
     array-borrow-prefix-marks-2
-    slice-aggregate-run-passes-2
-    run-passes-requires
+    slice-aggregate-run-with-tables-2
+    run-with-tables-requires
     same-length
     same-length-2
     same-length-3

@@ -1,9 +1,9 @@
--- `three_passes::pass::enter_level` meets its contract: the tables are made of the level that comes next, and `visit_level` reads
+-- `one_pass::pass::enter_level` meets its contract: the tables are made of the level that comes next, and `visit_level` reads
 -- them.
 use native.Mathlib.Omega.{arith}
-use Rattle.three_passes.proofs.EnterLaws.{level-fits, vias-long, rows-joinable, vertices-few, made}
-use Rattle.three_passes.proofs.pass.enter_level.Statement.{statement}
-use Rattle.three_passes.proofs.pass.enter_level.Tie as tie
+use Rattle.one_pass.proofs.EnterLaws.{level-fits, vias-long, rows-joinable, vertices-few, made}
+use Rattle.one_pass.proofs.pass.enter_level.Statement.{statement}
+use Rattle.one_pass.proofs.pass.enter_level.Tie as tie
 
 -- what is known at the entry and after each call, where the function returns
 abbrev entry : tie.After-positions → tie.Start

@@ -8,7 +8,7 @@ use Rattle.plan.specs.Plan.{PlanData, numbers}
 use Rattle.demand3.proofs.Schedule.{Visit, passVisits}
 use Rattle.moments.specs.Moments.{Held, Neighbouring}
 use Rattle.visits.specs.Visits.{Written}
-use Rattle.three_passes.specs.Levels.{Room}
+use Rattle.one_pass.specs.Levels.{Room}
 
 -- The levels from the top, and from the bottom.
 abbrev pub downward : PlanData → List ℕ
@@ -39,21 +39,4 @@ pub record SomePass (q : ℕ) (along : PlanData → List ℕ) (n b : ℕ) (ns : 
   pub past : List Visit
   pub coming : List Visit
   pub is : PassNext plan past coming q (along plan) ns vias first ends before after counts at apart marks
-  pub written : Written plan past n b passes levels sizes vertices positions
-
--- The same before the pass has its tables: by the plan's segments.
-pub record TurnNext (p : PlanData) (past coming : List Visit) (q : ℕ) (ls ns : List ℕ) (vias : List Bool) (uppers lowers : List ℕ)
-    (at : List ℤ) (apart : List ℕ) (marks : List Bool) : Type 0 where
-  pub held : Held p past (passVisits p q ls ++ coming) at apart marks
-  pub sizesAre : ns ≡ p .sizes
-  pub viasAre : vias ≡ p .vias
-  pub uppersAre : uppers ≡ p .uppers
-  pub lowersAre : lowers ≡ p .lowers
-
-pub record SomeTurn (q : ℕ) (along : PlanData → List ℕ) (n b : ℕ) (ns : List ℕ) (vias : List Bool) (uppers lowers : List ℕ) (at : List ℤ)
-    (apart : List ℕ) (marks : List Bool) (passes levels sizes vertices : List ℕ) (positions : List ℤ) : Type 0 where
-  pub plan : PlanData
-  pub past : List Visit
-  pub coming : List Visit
-  pub is : TurnNext plan past coming q (along plan) ns vias uppers lowers at apart marks
   pub written : Written plan past n b passes levels sizes vertices positions

@@ -10,8 +10,8 @@ ghost use mathlib.Core.List.{List};
 ghost use Rattle.plan.specs.Plan.{PlanData};
 ghost use Rattle.demand3.proofs.Schedule.{Visit};
 ghost use Rattle.visits.specs.Visits.{Written, Levelled};
-ghost use Rattle.three_passes.specs.Levels.{LevelNext, SomeLevelNext};
-ghost use Rattle.three_passes.specs.Passing.{downward, upward, PassNext, PassMade, SomePass};
+ghost use Rattle.one_pass.specs.Levels.{LevelNext, SomeLevelNext};
+ghost use Rattle.one_pass.specs.Passing.{downward, upward, PassNext, PassMade, SomePass};
 
 // Visits the runs of level l, which stands from `start` up to `to`; the level that precedes it stands from `low` up to `high`.
 fn enter_level(

@@ -13,7 +13,7 @@ use Rattle.demand3.proofs.Schedule.{Visit}
 use Rattle.draw.specs.Joins.{Joinable, joinedAt, lastIn, firstIn, marksIn}
 use Rattle.moments.proofs.Near.{joinable}
 use Rattle.visits.specs.Visits.{Levelling}
-use Rattle.three_passes.specs.Levels.{LevelNext}
+use Rattle.one_pass.specs.Levels.{LevelNext}
 
 module _ {p : PlanData} {past coming : List Visit} {q l low high start to : ℕ} {vias : List Bool} {first ends before₀ after₀ counts₀ : List ℕ} {at : List ℤ} {apart : List ℕ} {marks : List Bool}
     (k : LevelNext p past coming q l low high start to vias first ends before₀ after₀ counts₀ at apart marks) where

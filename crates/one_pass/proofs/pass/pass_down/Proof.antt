@@ -1,4 +1,4 @@
--- `three_passes::pass::pass_down` meets its contract: before each turn the levels above are visited and those from i on come next.
+-- `one_pass::pass::pass_down` meets its contract: before each turn the levels above are visited and those from i on come next.
 use Prim.Native.Nat.{_+_, _-_, _<_, _≤_}
 use mathlib.Core.Path.{refl, _∙_}
 use mathlib.Core.List.{List}
@@ -8,11 +8,11 @@ use lib.ListN.{length}
 use Rattle.plan.specs.Plan.{PlanData}
 use Rattle.demand3.proofs.Schedule.{Visit}
 use Rattle.visits.specs.Visits.{Written}
-use Rattle.three_passes.specs.Passing.{downward, PassNext}
-use Rattle.three_passes.proofs.Along.{Kept}
-use Rattle.three_passes.proofs.DownLaws.{Downto, levels-few, down-begin, down-end, down-small, down-enter, down-more}
-use Rattle.three_passes.proofs.pass.pass_down.Statement.{statement}
-use Rattle.three_passes.proofs.pass.pass_down.Tie as tie
+use Rattle.one_pass.specs.Passing.{downward, PassNext}
+use Rattle.one_pass.proofs.Along.{Kept}
+use Rattle.one_pass.proofs.DownLaws.{Downto, levels-few, down-begin, down-end, down-small, down-enter, down-more}
+use Rattle.one_pass.proofs.pass.pass_down.Statement.{statement}
+use Rattle.one_pass.proofs.pass.pass_down.Tie as tie
 
 abbrev Inv-loop : tie.InvT-loop
 Inv-loop q lengths vias first ends before₀ after₀ counts₀ at₀ apart₀ marks₀ passes₀ levels₀ sizes₀ vertices₀ positions₀ listed₀ low₀ start₀ i₀ before after counts at apart marks passes levels sizes vertices positions listed low start i =

@@ -10,7 +10,7 @@ use Rattle.passes.specs.Runs.{runsOn}
 use Rattle.demand3.proofs.Schedule.{Visit, visitOf, passVisits}
 use Rattle.moments.specs.Moments.{Held}
 use Rattle.visits.specs.Visits.{Written, Levelled}
-use Rattle.three_passes.specs.Passing.{PassMade}
+use Rattle.one_pass.specs.Passing.{PassMade}
 
 pub record Between (p : PlanData) (past coming : List Visit) (q : ℕ) (done left : List ℕ) (n b : ℕ) (at : List ℤ) (apart : List ℕ)
     (marks : List Bool) (passes levels sizes vertices : List ℕ) (positions : List ℤ) : Type 0 where

@@ -14,9 +14,9 @@ use Rattle.demand3.proofs.Sound.{Sound, sound}
 use Rattle.demand3.proofs.Schedule.{Visit, passVisits}
 use Rattle.moments.proofs.JoinedLevels.{Range, range-up, first-next}
 use Rattle.visits.specs.Visits.{Written, Levelled}
-use Rattle.three_passes.specs.Levels.{LevelNext, SomeLevelNext}
-use Rattle.three_passes.specs.Passing.{upward, PassNext, PassMade}
-use Rattle.three_passes.proofs.Along.{Between, begin, next-held, one-more, end}
+use Rattle.one_pass.specs.Levels.{LevelNext, SomeLevelNext}
+use Rattle.one_pass.specs.Passing.{upward, PassNext, PassMade}
+use Rattle.one_pass.proofs.Along.{Between, begin, next-held, one-more, end}
 
 -- with i levels to come: they end before `to`, the level last visited before `high`
 pub record Upto (p : PlanData) (past coming : List Visit) (i to high n b : ℕ) (at : List ℤ) (apart : List ℕ) (marks : List Bool)

@@ -14,9 +14,9 @@ use Rattle.demand3.proofs.Sound.{Sound, sound}
 use Rattle.demand3.proofs.Schedule.{Visit, passVisits}
 use Rattle.moments.proofs.JoinedLevels.{Range, range-down, range-top, first-next}
 use Rattle.visits.specs.Visits.{Written, Levelled}
-use Rattle.three_passes.specs.Levels.{LevelNext, SomeLevelNext}
-use Rattle.three_passes.specs.Passing.{downward, PassNext, PassMade}
-use Rattle.three_passes.proofs.Along.{Between, begin, next-held, one-more, end}
+use Rattle.one_pass.specs.Levels.{LevelNext, SomeLevelNext}
+use Rattle.one_pass.specs.Passing.{downward, PassNext, PassMade}
+use Rattle.one_pass.proofs.Along.{Between, begin, next-held, one-more, end}
 
 -- after i levels: the next one begins at `start`, the last one at `low`
 pub record Downto (p : PlanData) (past coming : List Visit) (q i low start n b : ℕ) (at : List ℤ) (apart : List ℕ) (marks : List Bool)

@@ -1,0 +1,4 @@
+pub mod EnterLaws
+pub mod Along
+pub mod DownLaws
+pub mod UpLaws
