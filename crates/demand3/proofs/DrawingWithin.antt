@@ -2,18 +2,20 @@
 use mathlib.Core.Path.{_≡_, sym, _∙_, ap, subst}
 use mathlib.Core.Bool.{Bool, true, _&&_}
 use mathlib.Core.List.{List, [], _++_, append-assoc, append-nil}
-use Prim.Native.Nat.{ℕ, suc, _+_, _*_, _≤_}
+use Prim.Native.Nat.{ℕ, _+_, _*_, _≤_}
 use native.Mathlib.Omega.{arith}
 use borrow.Author.Tests.{le-leb}
-use lib.ListN.{length, length-append, List·getD-eq-default}
-use lib.IntN.{ℤ, pos, negsuc}
-use Rattle.ints.proofs.Laws.{cases}
+use lib.ListN.{length, getD, length-append, List·getD-eq-default}
+use lib.IntN.{ℤ, pos}
+use Rattle.ints.proofs.Laws.{apart, cases}
+use Rattle.ints.proofs.Reach.{within-make, within-each}
 use Rattle.plan.specs.Plan.{PlanData, vertexCount}
 use Rattle.preliminary.specs.Positions.{preliminary}
 use Rattle.passes.specs.State.{positionOf, startAt}
 use Rattle.passes.specs.Drawing.{listed}
-use Rattle.passes.specs.Words.{reach, isWithin, allWithin, boxesListed, maxListed, drawingWithin}
-use Rattle.demand3.proofs.All.{All, all-nil, all-map, all-left, all-of-get, all-every}
+use Rattle.ints.specs.Reach.{reach, isWithin, allWithin}
+use Rattle.passes.specs.Words.{boxesListed, maxListed, drawingWithin}
+use Rattle.demand3.proofs.All.{All, all-nil, all-map, all-left, all-get, all-of-get}
 use Rattle.demand3.proofs.Sound.{Sound}
 use Rattle.demand3.proofs.Schedule.{Visit, visitAll, visit-append, firstPass, secondPass, thirdPass, first-visits, second-visits, third-visits}
 use Rattle.demand3.proofs.Trace.{start}
@@ -60,13 +62,11 @@ module _ {p : PlanData} (so : Sound p) (pre : Preliminary p) where
       rw (visit-append p (firstPass p ++ secondPass p) (thirdPass p) (start p)) (lies-at-more afterTwo (omega arith) g)
 
 -- ---- the test
-within : (M : ℕ) → M ≤ reach → (z : ℤ) → Lies M M z → isWithin z ≡ true
-within M h (pos n) l = le-leb n reach (omega (arith, l .right))
-within M h (negsuc n) l = le-leb (suc n) reach (omega (arith, l .left))
+pub within-lies : (M : ℕ) → M ≤ reach → (z : ℤ) → Lies M M z → isWithin z ≡ true
+within-lies M h z l = within-make z (omega (arith, l .right, l .left, apart z))
 
 lies-within : (M : ℕ) → M ≤ reach → {xs : List ℤ} → All (Lies M M) xs → allWithin xs ≡ true
-unfolding allWithin
-lies-within M h a = all-every isWithin (all-map (within M h) a)
+lies-within M h {xs} a = within-each xs (λ i k. within-lies M h (getD xs i (pos 0)) (all-get xs (pos 0) a i k))
 
 five : (a b c d e : Bool) → a ≡ true → b ≡ true → c ≡ true → d ≡ true → e ≡ true → a && b && c && d && e ≡ true
 five a b c d e f g h i j = rw (f, g, h, i, j)

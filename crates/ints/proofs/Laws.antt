@@ -272,3 +272,7 @@ pub ruleset reads = (eq-read, lt-true, lt-false, le-true, le-false, ≤-read, <-
 pub ruleset makes = (eq-make, make-lt-true, make-lt-false, make-le-true, make-le-false, ≤-make, <-make)
 
 pub ruleset ints = (reads, makes)
+
+-- ---- what is added to 0
+pub plain : (n : ℕ) → pos 0 +ℤ pos n ≡ pos n
+plain n = omega (arith, ints, sum (pos 0) (pos n))

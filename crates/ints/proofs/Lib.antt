@@ -1,2 +1,5 @@
+pub mod FrontLaws
 pub mod Laws
 pub mod Lists
+pub mod Reach
+pub mod Tests

@@ -1,4 +1,4 @@
--- Laws of lists that the kit does not have: `over`, `concat`, and `map` with a part, a store and a load. Assumes nothing.
+-- Laws of lists that the kit does not have: `over`, `sum`, `concat`, and `map` with a part, a store and a load. Assumes nothing.
 -- Elsewhere: `length-map`, `List·getD-map` (lib.ListN), `map-append`, `map-map` (mathlib.Core.List), and of `over` itself,
 -- which is an append, `take-append-seam`, `drop-append-seam`, `set-append-left` (lib.Seq), `List·getD-append` (lib.ListN).
 use Prim.Native.Nat.{ℕ, zero, suc, _+_, _<_, _≤_}
@@ -26,6 +26,16 @@ module _ {A : Type 0} where
   -- once it is full nothing of the old is left
   pub over-all : (xs o : List A) → length o ≤ length xs → over xs o ≡ xs
   over-all xs o h = rw (drop-of-length-le o h, append-nil)
+
+-- ---- the sum of what is left after the first i
+module _ (xs : List ℕ) (i : ℕ) where
+  pub sum-on : i < length xs → sum (drop i xs) ≡ getD xs i 0 + sum (drop (i + 1) xs)
+  unfolding sum
+  sum-on h = rw (add-one, drop-cons xs i 0 h)
+
+  pub sum-end : length xs ≤ i → sum (drop i xs) ≡ 0
+  unfolding sum
+  sum-end h = rw (drop-of-length-le xs h)
 
 -- ---- lists one after another
 module _ {A : Type 0} where

@@ -1,7 +1,9 @@
 -- Integers as this project writes them: the two parts of a number, its order, the lesser and the greater of two, and how far
 -- apart two stand. Positions are integers; the laws that let omega read them are in proofs/Laws.antt.
 use mathlib.Core.Bool.{Bool, true, false, cond}
+use mathlib.Core.List.{List}
 use Prim.Native.Nat.{ℕ, zero, suc, _+_, _≤_, _<_}
+use lib.ListN.{getD}
 use lib.IntN.{ℤ, pos, negsuc, _-ℤ_, natAbs}
 use lib.Signed.{ltZ}
 
@@ -36,3 +38,7 @@ maxZ a b = cond (ltZ a b) b a
 -- How far apart two stand.
 unfoldable pub gap : ℤ → ℤ → ℕ
 gap a b = natAbs (a -ℤ b)
+
+-- No number is further than m from 0.
+pub record SizedTo (m : ℕ) (xs : List ℤ) : Type 0 where
+  pub each : (i : ℕ) → size (getD xs i (pos 0)) ≤ m

@@ -1,10 +1,14 @@
-// Arithmetic on positions. A position is an i64, a distance a u64. Each result is the integer that the contract
-// names; where a sum or a cast could leave an i64, `requires` bounds the sizes of what it is made of.
+// Arithmetic on positions, and the sum of counts. A position is an i64, a distance a u64, a count a u16. Each result is the
+// number that the contract names; where a sum or a cast could leave its type, `requires` bounds the sizes of what it is made of.
+pub mod within;
+
 ghost use mathlib.Core.Path.{_≡_};
-ghost use Prim.Native.Nat.{ℕ, _+_, _<_, _^_};
+ghost use Prim.Native.Nat.{ℕ, _+_, _≤_, _<_, _^_};
+ghost use lib.ListN.{length};
 ghost use lib.IntN.{ℤ, pos, _+ℤ_, _-ℤ_};
 ghost use lib.Signed.{ltZ};
 ghost use Rattle.ints.specs.Ints.{size, minZ, maxZ, gap};
+ghost use Rattle.ints.specs.Lists.{sum as sumOf};
 
 pub fn sum(a: i64, b: i64) -> i64
     requires { ⌜ size a + size b < 2 ^ 63 ⌝ }
@@ -66,4 +70,24 @@ pub fn too_near(a: i64, b: i64, d: u64) -> bool
     ensures { λ r. ⌜ r ≡ ltZ (b -ℤ a) (pos d) ⌝ }
 {
     b - a < d as i64
+}
+
+fn wide(x: u16) -> usize
+    ensures { λ r. ⌜ r ≡ x ⌝ }
+{
+    x as usize
+}
+
+// The sum of all numbers of a list.
+pub fn total(xs: &[u16]) -> usize
+    requires { ⌜ length (now xs) ≤ 2048 ⌝ }
+    ensures { λ r. ⌜ r ≡ sumOf (now (xs .entry)) ⌝ }
+{
+    let mut n: usize = 0;
+    let mut i: usize = 0;
+    while i < xs.len() {
+        n += wide(xs[i]);
+        i += 1;
+    }
+    n
 }

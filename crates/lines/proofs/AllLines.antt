@@ -15,7 +15,7 @@ use Rattle.plan.specs.Graph.{Levelled}
 use Rattle.writing.specs.Written.{Room, Wrote, Fronts}
 use Rattle.writing.proofs.Written.{front-of}
 use Rattle.ints.proofs.Lists.{concat-append, concat-one}
-use Rattle.writing.proofs.Walks.{sum-on}
+use Rattle.ints.proofs.Lists.{sum-on}
 use Rattle.passes.specs.Stored.{placingsFrom}
 use Rattle.report.specs.Lines.{vertexOfLine, drawingLine, atLineOf, placeLine, endLine, reportLines}
 use Rattle.lines.specs.Stored.{planPart, heightAt, heightIn, vertexLine, vertexLines, VertexRoom, VerticesRoom, AtLinesRoom, placingOf, PlacingRoom, placeLines, PlacingsRoom, drawingFrom, ReportRoom}

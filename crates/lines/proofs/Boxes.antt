@@ -1,35 +1,24 @@
 -- The words of boxes one after another, and positions within reach.
 use mathlib.Core.Path.{_≡_, refl, sym}
-use mathlib.Core.Bool.{true}
 use mathlib.Core.List.{List, [], _∷_, _++_, append-assoc}
 use Prim.Native.Nat.{ℕ, suc, _+_, _≤_, _<_}
 use native.Mathlib.Omega.{arith}
 use native.Mathlib.Numerals.{add-one}
-use borrow.Author.Tests.{leb-true}
 use lib.ListN.{length, getD, drop, drop-of-length-le}
 use lib.Seq.{drop-cons}
-use lib.IntN.{ℤ, pos, negsuc}
+use lib.IntN.{ℤ, pos}
 use mir.Syntax.{w64}
 use mir.Val.{toZ, ofZ}
 use Rattle.ints.specs.Ints.{size}
 use Rattle.ints.proofs.Laws.{back, fit-make}
 use Rattle.passes.specs.Drawing.{BoxAt, boxesWith}
-use Rattle.passes.specs.Words.{reach, isWithin, allWithin}
+use Rattle.ints.specs.Reach.{reach}
 use Rattle.text.specs.Bytes.{bytes}
 use Rattle.text.specs.Decimal.{decimal, signed}
 use Rattle.report.specs.Lines.{printedNumber, boxWords}
-use Rattle.demand3.proofs.All.{every-all, all-get}
 use Rattle.lines.specs.Stored.{boxAt}
 
 -- ---- within reach
-pub within-size : (z : ℤ) → isWithin z ≡ true → size z ≤ reach
-within-size (pos n) h = omega (arith, leb-true n reach h)
-within-size (negsuc n) h = omega (arith, leb-true (suc n) reach h)
-
-pub within-at : (xs : List ℤ) (i : ℕ) → allWithin xs ≡ true → i < length xs → size (getD xs i (pos 0)) ≤ reach
-unfolding allWithin
-within-at xs i h l = within-size (getD xs i (pos 0)) (all-get xs (pos 0) (every-all isWithin xs h) i l)
-
 -- what a load of a position within reach gives back
 pub read-back : (z : ℤ) → size z ≤ reach → toZ w64 (ofZ w64 z) ≡ z
 read-back z h = back (fit-make z (omega arith))

@@ -4,7 +4,7 @@ use mathlib.Core.Bool.{false}
 use mathlib.Core.List.{List, [], _∷_, _++_, map, append-assoc}
 use Prim.Native.Nat.{ℕ, suc, _+_, _-_, _≤_, _<_}
 use native.Mathlib.Omega.{arith}
-use lib.ListN.{length, getD, take, length-append, length-map, length-replicate, List·getD-append}
+use lib.ListN.{length, getD, take, length-append, length-take, length-map, length-replicate, List·getD-append}
 use lib.Seq.{getD-append-add}
 use lib.IntN.{ℤ}
 use Rattle.ints.specs.Lists.{sum}
@@ -18,7 +18,7 @@ use Rattle.writing.proofs.Written.{front-of}
 use Rattle.writing.proofs.LineLaws.{level-inside}
 use Rattle.passes.specs.Words.{maxListed}
 use Rattle.lines.specs.Stored.{planPart, heightAt, Positions, Stored, vertexLine, placingOf, drawingFrom, lineOf, VertexRoom, PlacingRoom, LineRoom}
-use Rattle.lines.proofs.Listed.{noPlacing, placings-count, placing-at, preliminary-within, final-within, listed-within, part-within}
+use Rattle.lines.proofs.Listed.{noPlacing, placings-count, placing-at, preliminary-within, final-within, few-placings, listed-within, part-within}
 
 -- ---- a plan's part is enough
 pub record HasPart (p : PlanData) (spacing : ℕ) (sizes : List ℕ) (v : ℕ) : Type 0 where
@@ -142,5 +142,5 @@ module _ {spacing : ℕ} {sizes : List ℕ} {preliminary finals : List ℤ} {pas
   pub fronts : {w out : List ℕ} {r : ℕ} → theLine ≡ w → Wrote w o 0 r out → Fronts theLine o r out
   fronts e w = rw e (front-of w (omega (arith, ap length e, h .room)))
 
-  pub few-before : (k : ℕ) → k < length passes → sum (take k counts) ≤ maxListed
-  few-before k l = omega (arith, level-inside counts k (omega (arith, h .stored .ofCounts)), h .stored .few)
+  pub few-before : (k : ℕ) → k < length passes → length (take k counts) ≤ maxListed
+  few-before k l = simp length-take (omega (arith, placings-are, few-placings drawing (h .stored .within)))

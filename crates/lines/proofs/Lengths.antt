@@ -5,11 +5,12 @@ use mathlib.Core.List.{List, [], _∷_, _++_, map, map-append}
 use Prim.Native.Nat.{ℕ, suc, _+_, _-_, _*_, _≤_, _<_}
 use native.Mathlib.Nat.{mul-le-mul-left, mul-le-mul-right}
 use native.Mathlib.Omega.{arith}
-use lib.ListN.{length, getD, length-append, List·getD-eq-default}
+use lib.ListN.{length, length-append, List·getD-eq-default}
 use lib.IntN.{ℤ, pos, negsuc}
 use Rattle.ints.specs.Ints.{size}
 use Rattle.ints.specs.Lists.{concat}
 use Rattle.ints.proofs.Laws.{cases}
+use Rattle.ints.proofs.Reach.{within-size, within-get, within-at}
 use Rattle.plan.specs.Limits.{maxLevels, maxSpacing, maxOnLevel, maxVertices}
 use Rattle.plan.specs.Plan.{PlanData, vertexCount, numbers, levelIn, levelOf, heightOf}
 use Rattle.text.specs.Decimal.{signed}
@@ -17,12 +18,12 @@ use Rattle.text.proofs.DecimalLaws.{decimal-length}
 use Rattle.ints.proofs.Lists.{concat-append}
 use Rattle.passes.specs.State.{positionOf}
 use Rattle.passes.specs.Drawing.{BoxAt, Placing, Drawing}
-use Rattle.passes.specs.Words.{reach, isWithin, allWithin, boxesListed, maxListed, drawingWithin}
+use Rattle.ints.specs.Reach.{reach, isWithin}
+use Rattle.passes.specs.Words.{boxesListed, maxListed, drawingWithin}
 use Rattle.report.specs.Lines.{printedNumber, vertexOfLine, drawingLine, atLine, atLineOf, boxWords, placeLine, endLine, reportLines}
-use Rattle.demand3.proofs.All.{All, all-nil, all-cons, all-map, all-append, all-left, all-right, all-get, every-all}
+use Rattle.demand3.proofs.All.{All, all-nil, all-cons, all-map, all-append, all-left, all-right, all-get, all-of-get}
 use Rattle.demand3.proofs.Levels.{all-numbers}
 use Rattle.lines.specs.Stored.{lineOf, placeLines, maxLine, maxReport}
-use Rattle.lines.proofs.Boxes.{within-size}
 use Rattle.lines.proofs.Listed.{preliminary-within, final-within, boxes-within, few-placings, few-boxes}
 use Rattle.lines.proofs.ByNumber.{atLines, at-lines, lines-from}
 use Rattle.lines.proofs.AllLines.{level-high}
@@ -112,12 +113,6 @@ places-short (q ∷ qs) (all-cons s ss) w =
     let more = map (λ (b : BoxAt). b .position) (boxesListed qs) in
     simp length-append (omega (arith, place-short q s (all-left ps more both), places-short qs ss (all-right ps more both)))
 
-position-small : (xs : List ℤ) → allWithin xs ≡ true → (v : ℕ) → size (positionOf xs v) ≤ reach
-unfolding allWithin
-position-small xs h v = cases (length xs) v
-    (λ l. rw (List·getD-eq-default xs (pos 0) l) (omega arith))
-    (λ l. within-size (getD xs v (pos 0)) (all-get xs (pos 0) (every-all isWithin xs h) v l))
-
 module _ {p : PlanData} {d : Drawing} (s : Small p d) where
   height-small : (v : ℕ) → heightOf p (levelOf p v) ≤ 640000
   unfolding levelOf heightOf
@@ -130,11 +125,11 @@ module _ {p : PlanData} {d : Drawing} (s : Small p d) where
   each-at = mapped (λ i. atLineOf p d (vertexOfLine i)) (all-numbers 0 (vertexCount p) (λ i l h.
       let v = vertexOfLine i in
       at-short (printedNumber v) (positionOf (d .preliminary) v) (positionOf (d .final) v) (heightOf p (levelOf p v)) (omega (arith, s .vertices))
-      (position-small (d .preliminary) (preliminary-within d (s .within)) v) (position-small (d .final) (final-within d (s .within)) v) (height-small v)))
+      (within-at (d .preliminary) v (preliminary-within d (s .within))) (within-at (d .final) v (final-within d (s .within))) (height-small v)))
 
   boxes-in : Within (boxesListed (d .placings))
-  unfolding allWithin
-  boxes-in = every-all isWithin (map (λ (b : BoxAt). b .position) (boxesListed (d .placings))) (boxes-within d (s .within))
+  boxes-in = let xs = map (λ (b : BoxAt). b .position) (boxesListed (d .placings)) in
+      all-of-get xs (pos 0) (λ i l. within-get xs i (boxes-within d (s .within)))
 
   -- ---- every line, and the whole
   each-line : All (λ (w : List ℕ). length w ≤ maxLine) (reportLines p d)

@@ -13,9 +13,10 @@ use lib.IntN.{ℤ}
 use Rattle.ints.specs.Lists.{sum}
 use Rattle.passes.specs.Drawing.{BoxAt, Placing, Drawing, boxesWith}
 use Rattle.passes.specs.Stored.{placingsFrom}
-use Rattle.passes.specs.Words.{isWithin, allWithin, boxesListed, maxListed, drawingWithin}
+use Rattle.ints.specs.Reach.{allWithin}
+use Rattle.ints.proofs.Reach.{within-take, within-right}
+use Rattle.passes.specs.Words.{boxesListed, maxListed, drawingWithin}
 use Rattle.text.proofs.TestLaws.{conj-at}
-use Rattle.demand3.proofs.All.{every-all, all-every, all-take, all-right}
 use Rattle.lines.specs.Stored.{placing, placingOf, drawingFrom, Stored}
 
 abbrev pub noPlacing : Placing
@@ -73,9 +74,7 @@ positions-listed (q ∷ qs) (l ∷ ls) (c ∷ cs) vs ys e f g h =
 
 -- a part of what is within reach
 pub part-within : (n s c : ℕ) (ys : List ℤ) → s + c ≤ n → allWithin (take n ys) ≡ true → allWithin (take c (drop s ys)) ≡ true
-unfolding allWithin
-part-within n s c ys h e =
-    all-every isWithin (all-right (take s ys) (take c (drop s ys)) (rw (take-take (s + c) n ys h, take-add s c ys) at (all-take (s + c) (every-all isWithin (take n ys) e))))
+part-within n s c ys h e = within-right (take s ys) (take c (drop s ys)) (rw (take-take (s + c) n ys h, take-add s c ys) at (within-take (s + c) (take n ys) e))
 
 module _ (d : Drawing) (e : drawingWithin d ≡ true) where
   within-parts : (i : ℕ) → getD (allWithin (d .preliminary) ∷ allWithin (d .final) ∷ allWithin (map (λ (b : BoxAt). b .position) (boxesListed (d .placings)))

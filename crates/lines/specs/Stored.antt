@@ -15,7 +15,8 @@ use Rattle.writing.specs.Data.{dataOf}
 use Rattle.passes.specs.State.{positionOf}
 use Rattle.passes.specs.Drawing.{BoxAt, Placing, Drawing, boxesWith}
 use Rattle.passes.specs.Stored.{placingsFrom}
-use Rattle.passes.specs.Words.{maxListed, allWithin, drawingWithin}
+use Rattle.ints.specs.Reach.{allWithin}
+use Rattle.passes.specs.Words.{maxListed, drawingWithin}
 use Rattle.report.specs.Lines.{printedNumber, vertexOfLine, atLine, placeLine, reportLines}
 
 -- The data of which these are part, as far as the report asks for them: the level spacing, the levels' sizes and the number of

@@ -12,7 +12,7 @@ ghost use Rattle.ints.specs.Ints.{size};
 ghost use Rattle.text.specs.Decimal.{signed};
 ghost use Rattle.writing.specs.Written.{Room, Wrote};
 ghost use Rattle.passes.specs.Drawing.{boxesWith};
-ghost use Rattle.passes.specs.Words.{reach, allWithin};
+ghost use Rattle.ints.specs.Reach.{reach, allWithin};
 ghost use Rattle.report.specs.Lines.{printedNumber, drawingLine, atLine, boxWords, placeLine};
 ghost use Rattle.lines.specs.Stored.{boxAt, placing, placeHead};
 

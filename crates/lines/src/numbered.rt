@@ -4,16 +4,15 @@ use crate::forms::put_at;
 use crate::forms::put_drawing;
 use crate::forms::put_placing;
 use crate::forms::wide;
+use ints::total;
 use writing::number::put_word;
 ghost use mathlib.Core.Path.{_≡_};
 ghost use mathlib.Core.List.{[]};
 ghost use Prim.Native.Nat.{_+_, _<_, _≤_};
 ghost use lib.ListN.{length};
-ghost use Rattle.ints.specs.Lists.{sum};
 ghost use Rattle.plan.specs.Limits.{maxLevels};
 ghost use Rattle.plan.specs.Plan.{levelIn, heightOf};
 ghost use Rattle.writing.specs.Written.{Wrote, Fronts};
-ghost use Rattle.passes.specs.Words.{maxListed};
 ghost use Rattle.report.specs.Lines.{vertexOfLine, placeLine};
 ghost use Rattle.lines.specs.Stored.{planPart, heightAt, drawingFrom, placingOf, vertexLine, VertexRoom, PlacingRoom, lineOf, LineRoom};
 
@@ -70,20 +69,6 @@ pub fn put_vertex(
     ensures { λ r. ⌜ Wrote (vertexLine (now (preliminary .entry)) (now (finals .entry)) v y) (now (out .entry)) at r (now (out .exit)) ⌝ }
 {
     put_at(out, at, printed_number(v), preliminary[v], finals[v], y)
-}
-
-// How many boxes placings with these counts have.
-fn total(counts: &[u16]) -> usize
-    requires { ⌜ sum (now counts) ≤ maxListed ⌝ }
-    ensures { λ r. ⌜ r ≡ sum (now (counts .entry)) ⌝ }
-{
-    let mut n: usize = 0;
-    let mut i: usize = 0;
-    while i < counts.len() {
-        n += wide(counts[i]);
-        i += 1;
-    }
-    n
 }
 
 // The line of the k-th placing, whose boxes start at `start`.

@@ -17,7 +17,7 @@ use Rattle.plan.specs.Acceptable.{halfHolds, halvesHold, limitsHold, acceptable
 use Rattle.plan.proofs.Crossings.{and-left, and-right, cond-right}
 use Rattle.plan.proofs.GraphLaws.{within-of, same-3}
 use Rattle.plan.proofs.Sound.{sound}
-use Rattle.passes.specs.Words.{allWithin}
+use Rattle.ints.specs.Reach.{allWithin}
 use Rattle.marks.specs.Marks.{markCount}
 use Rattle.marks.specs.Exact.{Exact}
 use Rattle.marks.specs.Asked.{InReach, AskedAll, Asked}

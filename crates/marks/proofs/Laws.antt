@@ -2,19 +2,18 @@
 use mathlib.Core.Path.{_≡_}
 use mathlib.Core.Bool.{Bool, true, false, cond}
 use mathlib.Core.List.{List, [], _∷_}
-use Prim.Native.Nat.{ℕ, zero, suc, _+_, _*_, _-_, _≤_, _<_}
+use Prim.Native.Nat.{ℕ, suc, _+_, _*_, _-_, _≤_, _<_}
 use native.Mathlib.Nat.{mul-le-mul}
 use native.Mathlib.Omega.{arith}
-use borrow.Author.Tests.{leb-true, lt-ltb, le-ltb}
+use borrow.Author.Tests.{lt-ltb, le-ltb}
 use lib.Dec.{ltb}
 use lib.ListN.{length, getD}
-use lib.IntN.{ℤ, pos, negsuc, natAbs}
-use Rattle.ints.proofs.Laws.{if-ind}
+use lib.IntN.{ℤ, natAbs}
+use Rattle.ints.proofs.Laws.{abs, if-ind}
+use Rattle.ints.proofs.Reach.{within-at as size-at}
 use Rattle.plan.specs.Plan.{PlanData, levelIn, levelOf, heightOf}
-use Rattle.plan.specs.Checks.{every}
-use Rattle.plan.proofs.Crossings.{cond-left, cond-right}
 use Rattle.passes.specs.State.{positionOf}
-use Rattle.passes.specs.Words.{reach, isWithin, allWithin}
+use Rattle.ints.specs.Reach.{reach, allWithin}
 use Rattle.marks.specs.declared.types.Mark.the-variants.{Box, Bend, Line}
 use Rattle.marks.specs.Half.{wholeOf}
 use Rattle.marks.specs.Marks.{markOf}
@@ -30,15 +29,8 @@ level-most (n ∷ ns) v =
 pub height-most : (s l : ℕ) → s ≤ 10000 → l ≤ 64 → s * l ≤ 640000
 height-most s l h k = mul-le-mul h k
 
-within-size : (x : ℤ) → isWithin x ≡ true → natAbs x ≤ reach
-within-size (pos n) e = leb-true n reach e
-within-size (negsuc n) e = leb-true (suc n) reach e
-
 pub within-at : (xs : List ℤ) (v : ℕ) → allWithin xs ≡ true → natAbs (positionOf xs v) ≤ reach
-unfolding allWithin every
-within-at [] v e = omega arith
-within-at (x ∷ xs) zero e = within-size x (cond-left (isWithin x) (every isWithin xs) e)
-within-at (x ∷ xs) (suc v) e = within-at xs v (cond-right (isWithin x) (every isWithin xs) e)
+within-at xs v e = omega (arith, abs (positionOf xs v), size-at xs v e)
 
 -- ---- the n-th mark, by the plan's lists
 module _ (p : PlanData) (spacing : ℕ) (sizes : List ℕ) (vias : List Bool) (halves uppers lowers : List ℕ) (xs : List ℤ) (n : ℕ)

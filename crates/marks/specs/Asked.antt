@@ -8,7 +8,7 @@ use lib.IntN.{ℤ}
 use Rattle.plan.specs.Limits.{maxLevels, maxSpacing}
 use Rattle.plan.specs.Plan.{PlanData}
 use Rattle.plan.specs.Graph.{Below}
-use Rattle.passes.specs.Words.{allWithin}
+use Rattle.ints.specs.Reach.{allWithin}
 use Rattle.marks.specs.declared.types.Point.{Point}
 use Rattle.marks.specs.Marks.{pointAt}
 

@@ -2,7 +2,7 @@
 ghost use mathlib.Core.Path.{_≡_};
 ghost use lib.IntN.{natAbs};
 ghost use Prim.Native.Nat.{_≤_};
-ghost use Rattle.passes.specs.Words.{reach};
+ghost use Rattle.ints.specs.Reach.{reach};
 ghost use Rattle.marks.specs.Marks.{pointOf};
 
 // A point in steps.

@@ -6,7 +6,8 @@ use Rattle.passes.specs.State.{put, doubledOn, doubledIn, startAt, takeO
 use Rattle.passes.specs.Ready.{doubledSpan, hasNoSlack, isSettled, preceding, firstVia, joinedVia, nearestLeft, nearestRight, settledBetween, isReady}
 use Rattle.passes.specs.Passes.{boxesAt, placed, after, isDue, visit, visitEach, pass, threePasses}
 use Rattle.passes.specs.Drawing.{boxesWith, listed, finalState, traceOf, drawingOf}
-use Rattle.passes.specs.Words.{replay, before, finished, keepsOrder, innerUpright, bendsBetween, bendsAt, bendCount, strandBendsTwice, bendsAtMostTwice, timesPlaced, timesDue, placedAsDue, doubledBetween, differences, throughFirst, distancesThen, farApart, isPlacementThen, placeOf, sidewaysFrom, sidewaysSum, sidewaysThen, allWithin, boxesListed, drawingWithin}
+use Rattle.ints.specs.Reach.{allWithin}
+use Rattle.passes.specs.Words.{replay, before, finished, keepsOrder, innerUpright, bendsBetween, bendsAt, bendCount, strandBendsTwice, bendsAtMostTwice, timesPlaced, timesDue, placedAsDue, doubledBetween, differences, throughFirst, distancesThen, farApart, isPlacementThen, placeOf, sidewaysFrom, sidewaysSum, sidewaysThen, boxesListed, drawingWithin}
 
 unfoldable pub passesOpen : Unit {0}
 unfolding runOpen preliminaryOpen runsFrom runsOn runsOfLevels runsOf runAt put doubledOn doubledIn startAt takeOn doubledSpan hasNoSlack isSettled preceding firstVia joinedVia nearestLeft nearestRight settledBetween isReady boxesAt placed after isDue visit visitEach pass threePasses boxesWith listed finalState traceOf drawingOf replay before finished keepsOrder innerUpright bendsBetween bendsAt bendCount strandBendsTwice bendsAtMostTwice timesPlaced timesDue placedAsDue doubledBetween differences throughFirst distancesThen farApart isPlacementThen placeOf sidewaysFrom sidewaysSum sidewaysThen allWithin boxesListed drawingWithin

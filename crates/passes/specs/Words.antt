@@ -2,12 +2,13 @@
 use mathlib.Core.Bool.{Bool, true, false, cond, not, _&&_}
 use mathlib.Core.List.{List, [], _∷_, _++_, map}
 use mathlib.Core.Option.{Option, none, some}
-use Prim.Native.Nat.{ℕ, zero, suc, _+_, _-_}
+use Prim.Native.Nat.{ℕ, zero, _+_, _-_}
 use lib.Dec.{eqb, leb}
 use lib.ListN.{length, getD, take}
-use lib.IntN.{ℤ, pos, negsuc, _-ℤ_, _*ℤ_}
+use lib.IntN.{ℤ, pos, _-ℤ_, _*ℤ_}
 use lib.Signed.{leZ}
 use Rattle.ints.specs.Ints.{P, gap}
+use Rattle.ints.specs.Reach.{allWithin}
 use Rattle.plan.specs.Plan.{PlanData, vertexCount, isVia, numbers, levelsOf, levelOf, heightOf, Siblings, siblingsOf}
 use Rattle.plan.specs.Segments.{Segment, segmentsOf, above, below, innerSegments}
 use Rattle.plan.specs.Strands.{firstOr, strandOf}
@@ -170,17 +171,6 @@ sidewaysSum q vs ys xs (s ∷ ss) =
 
 unfoldable pub sidewaysThen : PlanData → Step → List ℤ → List ℤ → ℕ
 sidewaysThen p s xs ys = sidewaysSum (s .pass) (runOf p s .boxes) ys xs (segmentsOf p)
-
--- "Every position lies within ±2^40."
-abbrev pub reach : ℕ
-reach = 1099511627776
-
-abbrev pub isWithin : ℤ → Bool
-isWithin (pos n) = leb n reach
-isWithin (negsuc n) = leb (suc n) reach
-
-unfoldable pub allWithin : List ℤ → Bool
-allWithin xs = every isWithin xs
 
 -- All boxes in a list of placings.
 unfoldable pub boxesListed : List Placing → List BoxAt

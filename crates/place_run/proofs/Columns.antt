@@ -115,15 +115,6 @@ counting-end left zs cs ns m back far u v b f a i h q = record {
   beyonds = λ x k. omega (arith, q .beyonds x k, beyond-end left zs (drop i cs) (drop a ns) x i h);
 }
 
--- ---- sums of counts
-pub sum-next : (cs : List ℕ) (i : ℕ) → i < length cs → sum (drop i cs) ≡ getD cs i 0 + sum (drop (i + 1) cs)
-unfolding sum
-sum-next cs i h = rw (add-one, drop-cons cs i 0 h)
-
-pub sum-end : (cs : List ℕ) (i : ℕ) → length cs ≤ i → sum (drop i cs) ≡ 0
-unfolding sum
-sum-end cs i h = rw (drop-of-length-le cs h)
-
 -- ---- the columns of the first k boxes, and of the others
 pub sum-cut : (k : ℕ) (cs : List ℕ) → sum (take k cs) + sum (drop k cs) ≡ sum cs
 unfolding sum

@@ -14,7 +14,8 @@ use Rattle.run.proofs.PlaceBest.{clamp}
 use Rattle.run.proofs.Coordinates.{addOffsets}
 use Rattle.run.proofs.Fast.{placeFast}
 use Rattle.ints.specs.Lists.{sum}
-use Rattle.place_run.specs.Call.{reach, boxesFrom}
+use Rattle.ints.specs.Reach.{reach}
+use Rattle.place_run.specs.Call.{boxesFrom}
 use Rattle.place_run.specs.Columns.{Columns, Small, maxSize, Cut, Joined}
 use Rattle.place_run.specs.Halves.{Placed}
 use Rattle.place_run.specs.Offsets.{offsetsFrom, lessOffsets, lessNear, plusOffsets, Near, OffsetsOf, Given, Fits, placedBetween}

@@ -15,10 +15,12 @@ use Rattle.run.specs.Run.{nondecreasing, span}
 use Rattle.run.proofs.Sorted.{less, countUpTo, and-left, and-right, and-make}
 use Rattle.run.proofs.Coordinates.{inRun, addOffsets}
 use Rattle.ints.specs.Lists.{sum}
-use Rattle.place_run.specs.Call.{reach, boxesFrom}
+use Rattle.ints.specs.Reach.{reach}
+use Rattle.ints.proofs.Lists.{sum-on, sum-end}
+use Rattle.place_run.specs.Call.{boxesFrom}
 use Rattle.place_run.specs.Columns.{partsInOrder, Columns, maxSize}
 use Rattle.place_run.specs.Offsets.{offsetsFrom, lessOffsets, lessNear, plusOffsets, maxOffset, OffsetsOf}
-use Rattle.place_run.proofs.Columns.{sum-next, sum-end, drop-take}
+use Rattle.place_run.proofs.Columns.{drop-take}
 
 -- ---- the next distance, also where nothing follows
 pub first-drop : {A : Type 0} (e : A) (i : ℕ) (l : List A) → getD (drop i l) 0 e ≡ getD l i e
@@ -29,7 +31,7 @@ first-drop e (suc i) (x ∷ l) = first-drop e i l
 pub sum-step : (ds : List ℕ) (i : ℕ) → sum (drop i ds) ≡ getD ds i 0 + sum (drop (i + 1) ds)
 sum-step ds i = cases (length ds) i
     (λ h. omega (arith, sum-end ds i h, sum-end ds (i + 1) (omega arith), List·getD-eq-default ds 0 h))
-    (λ h. sum-next ds i h)
+    (λ h. sum-on ds i h)
 
 -- ---- the offsets
 pub offsets-start : (ds : List ℕ) (r : ℕ) → offsetsFrom 0 ds (r - 0) ≡ offsetsFrom 0 ds r

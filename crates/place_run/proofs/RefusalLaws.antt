@@ -1,39 +1,30 @@
 -- The tests of refusal 8 over the rest of a list, one element further: as the loops of refusal.rt meet them. Assumes nothing.
-use mathlib.Core.Path.{_≡_, refl, sym, _∙_, ap, subst}
+use mathlib.Core.Path.{_≡_, refl, sym, _∙_, ap}
 use mathlib.Core.Bool.{Bool, true, false, _&&_, not}
 use mathlib.Core.List.{List, [], _∷_}
 use Prim.Native.Nat.{ℕ, zero, suc, _+_, _-_, _*_, _≤_, _<_, min}
 use native.Mathlib.Omega.{arith}
 use native.Mathlib.Numerals.{add-one}
-use borrow.Author.Tests.{leb-true, leb-false, le-leb, lt-leb}
-use lib.Dec.{T, leb}
+use borrow.Author.Tests.{leb-true, le-leb, lt-leb}
+use lib.Dec.{leb}
 use lib.ListN.{length, take, drop, getD, drop-of-length-le}
 use lib.Seq.{drop-cons, drop-drop}
 use lib.IntN.{ℤ, pos, negsuc}
 use lib.Signed.{ltZ, leZ}
 use Rattle.ints.specs.Ints.{size, _⊑_}
 use Rattle.ints.proofs.Laws.{cases, ints}
+use Rattle.ints.proofs.Tests.{and-left, and-right}
+use Rattle.ints.proofs.Reach.{within-size, within-get, within-cut}
 use Rattle.run.specs.Run.{free, at, nondecreasing, neighboursInOrder, span}
 use Rattle.run.proofs.Sorted.{and-make, Sorted, sorted-cons, sorted, sorted-get}
 use Rattle.place_run.specs.declared.types.Bound.{Bound}
 use Rattle.place_run.specs.declared.types.Bound.the-variants.{Free, At}
 use Rattle.ints.specs.Lists.{sum}
-use Rattle.place_run.specs.Call.{memberOf, positionsOf, boxesFrom, isWithin, allWithin, isDistance, allDistances, reach}
+use Rattle.ints.specs.Reach.{reach, isWithin, allWithin}
+use Rattle.place_run.specs.Call.{memberOf, positionsOf, boxesFrom, isDistance, allDistances}
 use Rattle.place_run.specs.Columns.{partsInOrder}
 
 -- ---- tests that must both hold
-pub and-left : (a b : Bool) → (a && b) ≡ true → a ≡ true
-and-left true b e = refl
-and-left false b e = e
-
-pub and-right : (a b : Bool) → (a && b) ≡ true → b ≡ true
-and-right true b e = e
-and-right false b e = absurd (subst T (sym e) tt)
-
-pub and-assoc : (a b c : Bool) → (a && (b && c)) ≡ (a && b && c)
-and-assoc true b c = refl
-and-assoc false b c = refl
-
 pub and-true : (a : Bool) → (a && true) ≡ a
 and-true true = refl
 and-true false = refl
@@ -43,14 +34,6 @@ and-false true = refl
 and-false false = refl
 
 -- ---- sums
-pub sum-step : (ns : List ℕ) (i : ℕ) → i < length ns → sum (drop i ns) ≡ getD ns i 0 + sum (drop (i + 1) ns)
-unfolding sum
-sum-step ns i h = rw (add-one, drop-cons ns i 0)
-
-pub sum-end : (ns : List ℕ) (i : ℕ) → length ns ≤ i → sum (drop i ns) ≡ 0
-unfolding sum
-sum-end ns i h = rw (drop-of-length-le ns h)
-
 -- one more than the limit stands for any sum over it
 pub min-leb : (t n m : ℕ) → t ≡ min n (m + 1) → leb t m ≡ leb n m
 min-leb t n m e = cases n m (λ h. le-leb t m (omega arith) ∙ sym (le-leb n m h)) (λ h. lt-leb t m (omega arith) ∙ sym (lt-leb n m h))
@@ -61,28 +44,6 @@ member-le Free = omega arith
 member-le (At x) = omega arith
 
 -- ---- positions and distances within their limits
--- the test from below, then that from above
-pub within-high : (x : ℤ) → leZ (negsuc 1099511627775) x ≡ true → leZ x (pos reach) ≡ isWithin x
-within-high (pos n) e = refl
-within-high (negsuc n) e = let h = leb-true n 1099511627775 e in sym (le-leb (suc n) reach (omega arith))
-
-pub within-low : (x : ℤ) → leZ (negsuc 1099511627775) x ≡ false → isWithin x ≡ false
-within-low (pos n) e = absurd (subst T e tt)
-within-low (negsuc n) e = let h = leb-false n 1099511627775 e in lt-leb (suc n) reach (omega arith)
-
-pub within-step : (xs : List ℤ) (i : ℕ) → i < length xs → allWithin (drop i xs) ≡ (isWithin (getD xs i (pos 0)) && allWithin (drop (i + 1) xs))
-unfolding allWithin
-within-step xs i h = rw (add-one, drop-cons xs i (pos 0))
-
-pub within-end : (xs : List ℤ) (i : ℕ) → length xs ≤ i → allWithin (drop i xs) ≡ true
-unfolding allWithin
-within-end xs i h = rw (drop-of-length-le xs h)
-
--- so neither a position nor a bound is far from 0
-pub within-size : (x : ℤ) → isWithin x ≡ true → size x ≤ reach
-within-size (pos n) e = let h = leb-true n reach e in omega arith
-within-size (negsuc n) e = let h = leb-true (suc n) reach e in omega arith
-
 pub bound-size : (b : Bound) (x : ℤ) → b ≡ At x → allWithin (positionsOf b) ≡ true → size x ≤ reach
 unfolding allWithin
 bound-size b x e h = within-size x (and-left (isWithin x) true (rw e at h))
@@ -129,12 +90,6 @@ within-from a x (y ∷ xs) p (sorted-cons q r) e f =
     let g = within-between x a (getD (y ∷ xs) (length xs) (pos 0)) p (last-above x (y ∷ xs) (sorted-cons q r)) e f in
     and-make g (within-from x y xs q r g f)
 
-within-get : (xs : List ℤ) (i : ℕ) → allWithin xs ≡ true → isWithin (getD xs i (pos 0)) ≡ true
-unfolding allWithin
-within-get [] i e = refl
-within-get (x ∷ xs) zero e = and-left (isWithin x) (allWithin xs) e
-within-get (x ∷ xs) (suc i) e = within-get xs i (and-right (isWithin x) (allWithin xs) e)
-
 same-tests : (a b : Bool) → (a ≡ true → b ≡ true) → (b ≡ true → a ≡ true) → a ≡ b
 same-tests true b f g = sym (f refl)
 same-tests false true f g = g refl
@@ -163,12 +118,6 @@ in-order-same (o ∷ os) ds (c ∷ cs) ns h = ap (λ t. nondecreasing (take c ns
 -- within reach, and each box's in order
 abbrev pub takenParts : List ℕ → List ℤ → Bool
 takenParts cs ns = allWithin ns && partsInOrder cs ns
-
-within-cut : (c : ℕ) (ns : List ℤ) → allWithin ns ≡ (allWithin (take c ns) && allWithin (drop c ns))
-unfolding allWithin
-within-cut zero ns = refl
-within-cut (suc c) [] = refl
-within-cut (suc c) (n ∷ ns) = ap (λ t. isWithin n && t) (within-cut c ns) ∙ and-assoc (isWithin n) (allWithin (take c ns)) (allWithin (drop c ns))
 
 -- the tests of one box, then those of the others
 and-pairs : (a b c d : Bool) → ((a && b) && (c && d)) ≡ ((a && c) && (b && d))

@@ -2,14 +2,15 @@
 use mathlib.Core.Path.{_≡_, refl, sym, _∙_, ap}
 use mathlib.Core.Bool.{true, _&&_}
 use mathlib.Core.List.{List, [], _∷_}
-use Prim.Native.Nat.{ℕ, zero, suc, _+_, _-_, _*_, _≤_, _<_}
+use Prim.Native.Nat.{ℕ, _+_, _-_, _*_, _≤_, _<_}
 use native.Mathlib.Omega.{arith}
 use lib.Dec.{leb, eqb}
 use borrow.Author.Tests.{leb-true, eqb-true}
 use lib.ListN.{length, drop, getD, length-drop}
-use lib.IntN.{ℤ, pos, negsuc}
+use lib.IntN.{ℤ, pos}
 use Rattle.ints.specs.Ints.{size}
 use Rattle.ints.proofs.Laws.{sum as sum-of, dif}
+use Rattle.ints.proofs.Reach.{within-at}
 use Rattle.run.specs.Run.{Bound as Limit, neighboursInOrder, span}
 use Rattle.run.specs.Place.{placeRun, placeBoxes}
 use Rattle.run.specs.Words.{isPossible}
@@ -20,30 +21,18 @@ use Rattle.run.proofs.Fast.{fast-run}
 use Rattle.place_run.specs.declared.types.Bound.{Bound}
 use Rattle.place_run.specs.declared.types.Bound.the-variants.{Free, At}
 use Rattle.ints.specs.Lists.{sum}
-use Rattle.place_run.specs.Call.{limitOf, memberOf, positionsOf, leftDistance, otherDistances, boxesFrom, maxBoxes, maxNeighbours, isSmall, isFitting, reach, isWithin, allWithin, isDistance, allDistances, isInReach, isSound, isTaken, placedOf}
+use Rattle.ints.specs.Reach.{reach, allWithin}
+use Rattle.place_run.specs.Call.{limitOf, memberOf, positionsOf, leftDistance, otherDistances, boxesFrom, maxBoxes, maxNeighbours, isSmall, isFitting, allDistances, isInReach, isSound, isTaken, placedOf}
 use Rattle.place_run.specs.Columns.{Columns}
 use Rattle.place_run.specs.Halves.{SmallLimit}
 use Rattle.place_run.specs.Offsets.{Near, maxOffset, Fits, placedBetween, requestOf}
-use Rattle.place_run.proofs.RefusalLaws.{in-order-same}
+use Rattle.place_run.proofs.RefusalLaws.{in-order-same, sum-distances}
 use Rattle.place_run.proofs.Columns.{sum-cut}
 use Rattle.place_run.proofs.Offsets.{sum-step, span-is}
 
 -- ---- the tests
-within-size : (x : ℤ) → isWithin x ≡ true → size x ≤ reach
-within-size (pos n) e = omega (arith, leb-true n reach e)
-within-size (negsuc n) e = omega (arith, leb-true (suc n) reach e)
-
 all-near : (xs : List ℤ) → allWithin xs ≡ true → Near xs
-unfolding allWithin
-all-near [] e i h = absurd (omega arith)
-all-near (x ∷ xs) e zero h = within-size x (and-left _ _ e)
-all-near (x ∷ xs) e (suc i) h = all-near xs (and-right (isWithin x) _ e) i (omega arith)
-
-sum-bound : (ds : List ℕ) → allDistances ds ≡ true → sum ds ≤ length ds * (2 * reach)
-unfolding allDistances sum
-sum-bound [] e = omega arith
-sum-bound (d ∷ ds) e = let h = leb-true d (2 * reach) (and-right (leb 1 d) _ (and-left (isDistance d) _ e)) in
-    omega (arith, sum-bound ds (and-right (isDistance d) _ e))
+all-near xs e i h = within-at xs i e
 
 pub others-is : (l : Bound) (ds : List ℕ) → otherDistances l ds ≡ drop (memberOf l) ds
 others-is Free ds = refl
@@ -97,7 +86,7 @@ taken l r old ds cs ns zs e =
       right = all-near (positionsOf r) (and-right h1 h2 k2);
       olds = all-near old (and-right (h1 && h2) h3 k3);
       nears = all-near ns (and-right (h1 && h2 && h3) h4 k4);
-      offsets = sum-bound ds (and-right (h1 && h2 && h3 && h4) h5 re);
+      offsets = sum-distances ds (and-right (h1 && h2 && h3 && h4) h5 re);
       order = or;
       possible = and-right (neighboursInOrder bs) po so;
     }

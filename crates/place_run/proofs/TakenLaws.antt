@@ -11,8 +11,9 @@ use lib.IntN.{ℤ}
 use Rattle.run.specs.Run.{neighboursInOrder}
 use Rattle.run.specs.Words.{isPossible}
 use Rattle.ints.specs.Lists.{sum}
-use Rattle.place_run.specs.Call.{Request, boxesOf, maxBoxes, maxNeighbours, isSmall, isTaken, limitOf, memberOf, positionsOf, leftDistance, allWithin, allDistances}
-use Rattle.place_run.proofs.RefusalLaws.{and-left, and-right, and-assoc}
+use Rattle.ints.specs.Reach.{allWithin}
+use Rattle.place_run.specs.Call.{Request, boxesOf, maxBoxes, maxNeighbours, isSmall, isTaken, limitOf, memberOf, positionsOf, leftDistance, allDistances}
+use Rattle.ints.proofs.Tests.{and-left, and-right, and-assoc}
 
 -- What the tests say of the sizes and lengths.
 pub record Fitting (q : Request) : Type 0 where

@@ -2,11 +2,12 @@
 use mathlib.Core.Path.{_≡_}
 use mathlib.Core.Bool.{Bool, true, false, cond, not, _&&_}
 use mathlib.Core.List.{List, [], _∷_}
-use Prim.Native.Nat.{ℕ, zero, suc, _+_, _-_, _*_}
+use Prim.Native.Nat.{ℕ, zero, _+_, _-_, _*_}
 use lib.Dec.{leb, eqb}
 use lib.ListN.{length, take, drop, getD}
-use lib.IntN.{ℤ, pos, negsuc}
+use lib.IntN.{ℤ}
 use Rattle.ints.specs.Lists.{sum}
+use Rattle.ints.specs.Reach.{reach, allWithin}
 use Rattle.run.specs.Run.{Bound as Limit, free, at, Box, neighboursInOrder}
 use Rattle.run.specs.Place.{placeRun}
 use Rattle.run.specs.Words.{isPossible}
@@ -80,17 +81,6 @@ isFitting q answer =
     && eqb (length (q .distances)) (memberOf (q .left) + q .boxes + memberOf (q .right) - 1)
 
 -- "a position outside ±2^40, a distance outside 1 to 2^41"
-abbrev pub reach : ℕ
-reach = 1099511627776
-
-abbrev pub isWithin : ℤ → Bool
-isWithin (pos n) = leb n reach
-isWithin (negsuc n) = leb (suc n) reach
-
-unfoldable pub allWithin : List ℤ → Bool
-allWithin [] = true
-allWithin (x ∷ xs) = isWithin x && allWithin xs
-
 abbrev pub isDistance : ℕ → Bool
 isDistance d = leb 1 d && leb d (2 * reach)
 

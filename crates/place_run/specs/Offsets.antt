@@ -12,7 +12,8 @@ use Rattle.run.proofs.Coordinates.{inRun, addOffsets}
 use Rattle.run.proofs.Fast.{placeFast}
 use Rattle.place_run.specs.declared.types.Bound.{Bound}
 use Rattle.ints.specs.Lists.{sum}
-use Rattle.place_run.specs.Call.{Request, reach}
+use Rattle.ints.specs.Reach.{reach}
+use Rattle.place_run.specs.Call.{Request}
 use Rattle.place_run.specs.Columns.{Columns, Sized}
 use Rattle.place_run.specs.Halves.{SmallLimit}
 

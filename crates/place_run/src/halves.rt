@@ -13,7 +13,8 @@ ghost use Rattle.run.specs.Run.{startOf};
 ghost use Rattle.run.proofs.Sorted.{less};
 ghost use Rattle.run.proofs.PlaceBest.{clampLow, clampHigh, clamp};
 ghost use Rattle.ints.specs.Lists.{sum};
-ghost use Rattle.place_run.specs.Call.{limitOf, reach};
+ghost use Rattle.ints.specs.Reach.{reach};
+ghost use Rattle.place_run.specs.Call.{limitOf};
 ghost use Rattle.place_run.specs.Halves.{Placed};
 ghost use Rattle.place_run.specs.Offsets.{lessOffsets, lessNear, Near, maxOffset, Given};
 

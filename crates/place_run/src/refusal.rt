@@ -1,6 +1,8 @@
 // Refusal 8 of document 01: whether a run that is handed to place-run is taken. Positions are half steps.
 use crate::types::Bound;
 use ints::too_near;
+use ints::within::all_within;
+use ints::within::is_within;
 ghost use mathlib.Core.Path.{_≡_};
 ghost use mathlib.Core.Bool.{true, _&&_};
 ghost use mathlib.Core.List.{List};
@@ -10,7 +12,8 @@ ghost use lib.IntN.{ℤ, pos};
 ghost use Rattle.run.specs.Run.{nondecreasing};
 ghost use Rattle.run.specs.Words.{isPossible};
 ghost use Rattle.ints.specs.Lists.{sum};
-ghost use Rattle.place_run.specs.Call.{Request, limitOf, memberOf, positionsOf, leftDistance, otherDistances, boxesFrom, maxBoxes, maxNeighbours, isWithin, allWithin, isDistance, allDistances, isTaken};
+ghost use Rattle.ints.specs.Reach.{isWithin, allWithin};
+ghost use Rattle.place_run.specs.Call.{Request, limitOf, memberOf, positionsOf, leftDistance, otherDistances, boxesFrom, maxBoxes, maxNeighbours, isDistance, allDistances, isTaken};
 ghost use Rattle.place_run.specs.Columns.{partsInOrder};
 
 // "over 64 boxes, over 2,048 neighbours in all"
@@ -18,9 +21,7 @@ const MAX_BOXES: u64 = 64;
 
 const MAX_NEIGHBOURS: u64 = 2048;
 
-// Positions lie within ±2^40, distances from 1 to 2^41.
-const REACH: i64 = 1 << 40;
-
+// "a distance outside 1 to 2^41"
 const MAX_DISTANCE: u64 = 1 << 41;
 
 // The neighbours in all, or one more than the limit if there are more.
@@ -58,13 +59,6 @@ fn members(bound: Bound) -> u64
     }
 }
 
-// Whether a position is within ±2^40.
-fn is_within(x: i64) -> bool
-    ensures { λ r. ⌜ r ≡ isWithin x ⌝ }
-{
-    -REACH <= x && x <= REACH
-}
-
 // A side with no bound hands in no position.
 fn bound_within(bound: Bound) -> bool
     ensures { λ r. ⌜ r ≡ allWithin (positionsOf bound) ⌝ }
@@ -73,19 +67,6 @@ fn bound_within(bound: Bound) -> bool
         Bound::Free => true,
         Bound::At(x) => is_within(x),
     }
-}
-
-fn all_within(positions: &[i64]) -> bool
-    ensures { λ r. ⌜ r ≡ allWithin (now (positions .entry)) ⌝ }
-{
-    let mut i = 0;
-    while i < positions.len() {
-        if !is_within(positions[i]) {
-            return false;
-        }
-        i += 1;
-    }
-    true
 }
 
 // Whether a distance is from 1 to 2^41.

@@ -24,14 +24,16 @@ use Rattle.demand3.proofs.Invariant.{Inv, near-order}
 use Rattle.demand3.proofs.Placing.{side-of, stands, boxes-within}
 use Rattle.demand3.proofs.Schedule.{Visit, schedule}
 use Rattle.draw.proofs.LevelLaws.{along-length}
-use Rattle.place_run.specs.Call.{Request, boxesOf, memberOf, leftDistance, isWithin, allDistances, isSmall, isFitting, isInReach, isSound, isTaken, placedOf}
+use Rattle.ints.specs.Reach.{isWithin}
+use Rattle.place_run.specs.Call.{Request, boxesOf, memberOf, leftDistance, allDistances, isSmall, isFitting, isInReach, isSound, isTaken, placedOf}
 use Rattle.moments.specs.Moments.{stateAfter, RunIs, Neighbouring}
 use Rattle.placing.specs.Asked.{leftOf, rightOf, part, countsOf, nearOf, asked}
 use Rattle.placing.proofs.Reach.{past-runs, past-reached, past-lies}
 use Rattle.placing.proofs.LevelEnds.{last-none}
 use Rattle.placing.proofs.Boxes.{near-is, counts-are, rows-rise, rows-inside, sum-rows, boxes-are}
 use Rattle.placing.proofs.Sides.{LeftIs, left-is, RightIs, right-is, right-last}
-use Rattle.placing.proofs.Tests.{within-lies, part-within, map-within, all-distances, gap-low}
+use Rattle.demand3.proofs.DrawingWithin.{within-lies}
+use Rattle.placing.proofs.Tests.{part-within, map-within, all-distances, gap-low}
 
 five : (a b c d e : Bool) → a ≡ true → b ≡ true → c ≡ true → d ≡ true → e ≡ true → a && b && c && d && e ≡ true
 five a b c d e f g h i j = rw (f, g, h, i, j)

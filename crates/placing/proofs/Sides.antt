@@ -14,7 +14,8 @@ use Rattle.passes.specs.Runs.{bothVias}
 use Rattle.passes.specs.State.{positionOf}
 use Rattle.passes.specs.Passes.{boundAt, distanceFrom}
 use Rattle.demand3.proofs.RunsOn.{LeftEnd, no-left, via-left, RightEnd, no-right, via-right}
-use Rattle.place_run.specs.Call.{limitOf, memberOf, positionsOf, leftDistance, otherDistances, isWithin, allWithin}
+use Rattle.ints.specs.Reach.{isWithin, allWithin}
+use Rattle.place_run.specs.Call.{limitOf, memberOf, positionsOf, leftDistance, otherDistances}
 use Rattle.placing.specs.Asked.{lowOf, highOf, leftOf, rightOf}
 
 abbrev pub hasVia : Option ℕ → Bool

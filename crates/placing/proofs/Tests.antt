@@ -7,30 +7,21 @@ use native.Mathlib.Omega.{arith}
 use borrow.Author.Tests.{leb-true, le-leb}
 use lib.Dec.{leb, eqb}
 use lib.ListN.{length, getD, take, drop}
-use lib.IntN.{ℤ, pos, negsuc}
+use lib.IntN.{ℤ}
 use Rattle.ints.specs.Lists.{sum}
+use Rattle.ints.proofs.Reach.{within-take, within-drop, within-each}
 use Rattle.run.proofs.Sorted.{and-left, and-right, and-make}
 use Rattle.plan.specs.Plan.{PlanData, vertexCount}
 use Rattle.plan.specs.Limits.{within, maxLevels, maxGap, maxSpacing, maxOnLevel, maxVertices, maxSegments}
 use Rattle.plan.specs.Checks.{every, check3, check4, check5, check6}
 use Rattle.plan.specs.Acceptable.{halvesHold, limitsHold, acceptable}
 use Rattle.passes.specs.State.{positionOf}
-use Rattle.demand3.proofs.All.{All, all-nil, all-cons, all-of-get, all-take, all-drop}
-use Rattle.demand3.proofs.Reach.{Lies}
-use Rattle.place_run.specs.Call.{reach, isWithin, allWithin, allDistances}
-
-pub within-lies : (M : ℕ) → M ≤ reach → (z : ℤ) → Lies M M z → isWithin z ≡ true
-within-lies M h (pos n) l = le-leb n reach (omega (arith, l .right))
-within-lies M h (negsuc n) l = le-leb (suc n) reach (omega (arith, l .left))
-
-all-within : {xs : List ℤ} → All (λ x. isWithin x ≡ true) xs → allWithin xs ≡ true
-unfolding allWithin
-all-within all-nil = refl
-all-within (all-cons h hs) = and-make h (all-within hs)
+use Rattle.ints.specs.Reach.{reach, isWithin, allWithin}
+use Rattle.place_run.specs.Call.{allDistances}
 
 module _ (xs : List ℤ) (f : (v : ℕ) → isWithin (positionOf xs v) ≡ true) where
   pub part-within : (n k : ℕ) → allWithin (take n (drop k xs)) ≡ true
-  part-within n k = all-within (all-take n (all-drop k (all-of-get xs (pos 0) (λ v h. f v))))
+  part-within n k = within-take n (drop k xs) (within-drop k xs (within-each xs (λ v h. f v)))
 
   pub map-within : (vs : List ℕ) → allWithin (map (positionOf xs) vs) ≡ true
   unfolding allWithin

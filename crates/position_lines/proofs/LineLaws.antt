@@ -6,7 +6,7 @@ use native.Mathlib.Omega.{arith}
 use native.Mathlib.Numerals.{add-one}
 use lib.ListN.{length, getD, length-append}
 use lib.IntN.{ℤ, pos, negsuc}
-use Rattle.ints.specs.Ints.{size}
+use Rattle.ints.specs.Ints.{size, SizedTo}
 use Rattle.ints.specs.Lists.{concat}
 use Rattle.plan.specs.Plan.{numbers}
 use Rattle.text.specs.Bytes.{bytes}
@@ -16,7 +16,6 @@ use Rattle.writing.specs.Written.{Room, Wrote}
 use Rattle.writing.proofs.Written.{wrote-none, wrote-long, and-then, and-both, room-after}
 use Rattle.ints.proofs.Lists.{concat-append, concat-one}
 use Rattle.writing.proofs.LineLaws.{numbers-add}
-use Rattle.shifting.specs.Counts.{SizedTo}
 use Rattle.position_lines.specs.Lines.{positionLine, linesTo}
 
 numbers-last : (v n : ℕ) → numbers v (n + 1) ≡ numbers v n ++ (v + n) ∷ []

@@ -11,7 +11,7 @@ use Rattle.plan.specs.declared.data.Plan.{Plan}
 use Rattle.plan.proofs.Sound.{sound}
 use Rattle.preliminary.specs.Positions.{preliminary}
 use Rattle.preliminary.proofs.Positions.{preliminary-size}
-use Rattle.shifting.specs.Counts.{SizedTo}
+use Rattle.ints.specs.Ints.{SizedTo}
 use Rattle.starting.specs.Lists.{Lists}
 use Rattle.text.specs.Reading.{accepted, refused}
 use Rattle.writing.specs.Again.{refusedLine}

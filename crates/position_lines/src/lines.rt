@@ -12,13 +12,12 @@ ghost use mathlib.Core.Path.{_≡_};
 ghost use mathlib.Core.Bool.{true};
 ghost use Prim.Native.Nat.{_<_, _≤_, _^_};
 ghost use lib.ListN.{length};
-ghost use Rattle.ints.specs.Ints.{size};
+ghost use Rattle.ints.specs.Ints.{size, SizedTo};
 ghost use Rattle.plan.specs.Stored.{planData};
 ghost use Rattle.text.specs.Reading.{reading};
 ghost use Rattle.writing.specs.Written.{Room, Wrote, Fronts};
 ghost use Rattle.writing.specs.Data.{isStoredPlan};
 ghost use Rattle.preliminary.specs.Positions.{preliminary};
-ghost use Rattle.shifting.specs.Counts.{SizedTo};
 ghost use Rattle.position_lines.specs.Lines.{positionLine, linesTo, printedPositions, maxPosition, maxPrinted};
 
 // Most bytes of all lines together: 1,024 of 20 bytes.

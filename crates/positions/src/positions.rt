@@ -8,9 +8,8 @@ ghost use mathlib.Core.List.{map};
 ghost use Prim.Native.Nat.{_+_, _<_, _^_};
 ghost use lib.ListN.{length};
 ghost use lib.IntN.{negℤ, _+ℤ_};
-ghost use Rattle.ints.specs.Ints.{size};
+ghost use Rattle.ints.specs.Ints.{size, SizedTo};
 ghost use Rattle.plan.specs.Plan.{PlanData};
-ghost use Rattle.shifting.specs.Counts.{SizedTo};
 ghost use Rattle.preliminary.specs.Positions as spec;
 ghost use Rattle.positions.specs.Sides.{Proper, PlanOf};
 

@@ -12,7 +12,7 @@ ghost use mathlib.Core.List.{List, map};
 ghost use Prim.Native.Nat.{ℕ, _≤_, _<_};
 ghost use lib.ListN.{length, getD, replicate};
 ghost use lib.IntN.{ℤ, pos};
-ghost use Rattle.shifting.specs.Counts.{SizedTo};
+ghost use Rattle.ints.specs.Ints.{SizedTo};
 ghost use Rattle.positions.specs.Sides.{Ready, SideIs, Fresh};
 
 fn place_of(x: u32) -> i64

@@ -6,7 +6,7 @@ use native.Mathlib.Omega.{arith}
 use borrow.Author.Tests.{le-leb, lt-leb}
 use lib.IntN.{ℤ, pos, _+ℤ_, _-ℤ_}
 use lib.ListN.{length, drop}
-use Rattle.ints.proofs.Laws.{ints, sum}
+use Rattle.ints.proofs.Laws.{plain}
 use Rattle.plan.specs.Plan.{PlanData, vertexCount}
 use Rattle.preliminary.specs.Positions.{preliminary}
 use Rattle.text.specs.Reading.{Reading, accepted, refused}
@@ -23,9 +23,6 @@ module _ (p : PlanData) (o : List ℤ) (n : ℕ) (count : vertexCount p ≡ n) w
     number = e ∙ plain n ∙ ap pos (sym count);
     buffer = ap (λ (m : ℕ). xs ++ drop m o) (sym l) ∙ ap (λ (ys : List ℤ). ys ++ drop (length ys) o) x;
   })
-    where
-      plain : (m : ℕ) → pos 0 +ℤ pos m ≡ pos m
-      plain m = omega (arith, ints, sum (pos 0) (pos m))
 
 module _ (g : Reading) (o : List ℤ) where
   pub leaves-accepted : (p : PlanData) → g ≡ accepted p → (r : ℤ) (out : List ℤ) → Leaves (positionsIfShort p o) r out → Leaves (left g o) r out

@@ -1,10 +1,7 @@
 -- The number of what a call gives, as the program meets it.
 use mathlib.Core.Path.{_≡_, _∙_, ap}
 use mathlib.Core.List.{List}
-use Prim.Native.Nat.{ℕ}
-use native.Mathlib.Omega.{arith}
-use lib.IntN.{ℤ, pos, _+ℤ_}
-use Rattle.ints.proofs.Laws.{ints, sum}
+use lib.IntN.{ℤ}
 use Rattle.sheet.specs.declared.types.LineAnswer.{LineAnswer}
 use Rattle.sheet.specs.Results.{lineResultOf}
 use Rattle.sheet.specs.Calls.{BufferOut, Writes}
@@ -12,6 +9,3 @@ use Rattle.sheet_c.specs.Code.{codeOf, Codes}
 
 pub codes : {A : Type 0} {o : BufferOut A} {a : LineAnswer} {r : ℤ} {out : List A} → Writes o a out → r ≡ codeOf (lineResultOf a) → Codes o r out
 codes w e = record { code = e ∙ ap codeOf (w .answered); buffer = w .left }
-
-pub plain : (n : ℕ) → pos 0 +ℤ pos n ≡ pos n
-plain n = omega (arith, ints, sum (pos 0) (pos n))

@@ -10,11 +10,12 @@ use lib.ListN.{length, getD, drop, set, length-set, drop-of-length-le}
 use lib.Seq.{drop-cons}
 use lib.IntN.{ℤ, pos, negsuc, _+ℤ_}
 use lib.Signed.{leZ, ltZ}
-use Rattle.ints.specs.Ints.{P, N, size, _⊑_, minZ, gap}
+use Rattle.ints.specs.Ints.{P, N, size, _⊑_, minZ, gap, SizedTo}
+use Rattle.ints.proofs.Reach.{sized-tail}
 use Rattle.ints.proofs.Laws.{ints, cases, casesZ, if-ind, sum, gap-ge, gap-l, gap-r, least, make-le-true, make-le-false, make-lt-true, make-lt-false, eq-make}
 use Rattle.plan.proofs.CountLaws.{by-same}
 use Rattle.preliminary.specs.Shift.{insert, sort, middle, leastOf, leastOr}
-use Rattle.shifting.specs.Counts.{countTo, SizedTo, NoneAbove}
+use Rattle.shifting.specs.Counts.{countTo, NoneAbove}
 
 -- how many are below z
 unfoldable pub countBelow : ℤ → List ℤ → ℕ
@@ -155,9 +156,6 @@ middle-none (x ∷ xs) e = absurd (omega arith)
 pub to-le : (z : ℤ) (xs : List ℤ) → countTo z xs ≤ length xs
 to-le z [] = omega (arith, to-none z)
 to-le z (x ∷ xs) = casesZ x z (λ h. omega (arith, to-in z x xs h, to-le z xs)) (λ h. omega (arith, to-out z x xs h, to-le z xs))
-
-sized-tail : (m : ℕ) (x : ℤ) (xs : List ℤ) → SizedTo m (x ∷ xs) → SizedTo m xs
-sized-tail m x xs s = record { each = λ i. s .each (suc i) }
 
 -- at z all are counted, where none is above it
 pub to-each : (z : ℤ) (xs : List ℤ) → ((i : ℕ) → i < length xs → getD xs i (pos 0) ⊑ z) → countTo z xs ≡ length xs

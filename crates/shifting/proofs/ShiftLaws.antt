@@ -12,14 +12,13 @@ use lib.ListN.{length, getD, take, drop, replicate, length-append, length-replic
 use lib.Seq.{take-append-seam, take-at}
 use Rattle.ints.specs.Lists.{over}
 use lib.IntN.{ℤ, pos, _+ℤ_, _-ℤ_}
-use Rattle.ints.specs.Ints.{size}
+use Rattle.ints.specs.Ints.{size, SizedTo}
 use Rattle.ints.proofs.Laws.{cases, dif, if-ind}
 use Rattle.plan.specs.Plan.{PlanData, Siblings, numbers}
 use Rattle.plan.specs.Segments.{Segment, segmentsFrom, segmentsOf}
 use Rattle.plan.proofs.CountLaws.{by-same}
 use Rattle.strands.specs.Links.{chain, positions, among, pairsBy}
 use Rattle.preliminary.specs.Shift.{gapsIn, offsetsIn, middle, leastOr, shiftOf, moved, shiftEach}
-use Rattle.shifting.specs.Counts.{SizedTo}
 use Rattle.shifting.specs.Shifts.{gapKey, offsetKey, keysBy, slack, offset, slacks, offsets, Shiftable, ShiftsBy, Spread, Linked}
 use Rattle.shifting.proofs.SpreadLaws.{InRange, shift-in}
 use Rattle.shifting.proofs.KeyLaws.{keys-long, keys-at, positions-at}
@@ -134,14 +133,6 @@ over-take l o b n e h = rw (e, h) (take-append-seam l (drop (length l) o))
 pub least-none : (other : ℤ) (l : List ℤ) → length l ≡ 0 → leastOr other l ≡ other
 least-none other [] e = refl
 least-none other (x ∷ l) e = absurd (omega arith)
-
-pub sized-at : (m : ℕ) (f : ℕ → ℤ) (is : List ℕ) → ((k : ℕ) → size (f k) ≤ m) → (i : ℕ) → size (getD (map f is) i (pos 0)) ≤ m
-sized-at m f [] h i = omega arith
-sized-at m f (k ∷ is) h zero = h k
-sized-at m f (k ∷ is) h (suc i) = sized-at m f is h i
-
-pub sized-map : (m : ℕ) (f : ℕ → ℤ) (is : List ℕ) → ((k : ℕ) → size (f k) ≤ m) → SizedTo m (map f is)
-sized-map m f is h = record { each = sized-at m f is h }
 
 pub offset-sized : (c : ℕ) (classes : List ℕ) (xs : List ℤ) (a b : ℕ) → SizedTo 134217728 xs → size (offset c classes xs a b) ≤ 268435456
 offset-sized c classes xs a b s =

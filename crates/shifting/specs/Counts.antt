@@ -2,11 +2,11 @@
 use mathlib.Core.Bool.{cond}
 use mathlib.Core.List.{List, [], _∷_}
 use mathlib.Core.Path.{_≡_}
-use Prim.Native.Nat.{ℕ, zero, suc, _+_, _<_, _≤_}
+use Prim.Native.Nat.{ℕ, zero, suc, _+_, _<_}
 use lib.ListN.{length, getD, set}
 use lib.IntN.{ℤ, pos, _+ℤ_}
 use lib.Signed.{leZ, ltZ}
-use Rattle.ints.specs.Ints.{size, _⊑_}
+use Rattle.ints.specs.Ints.{_⊑_}
 
 unfoldable pub countTo : ℤ → List ℤ → ℕ
 countTo z [] = 0
@@ -14,10 +14,6 @@ countTo z (x ∷ xs) =
     let more = countTo z xs in
     let here = suc more in
     cond (leZ x z) here more
-
--- No number is further than m from 0.
-pub record SizedTo (m : ℕ) (xs : List ℤ) : Type 0 where
-  pub each : (i : ℕ) → size (getD xs i (pos 0)) ≤ m
 
 -- No number is above z.
 pub record NoneAbove (z : ℤ) (xs : List ℤ) : Type 0 where

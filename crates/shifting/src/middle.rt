@@ -5,9 +5,9 @@ ghost use mathlib.Core.Path.{_≡_};
 ghost use Prim.Native.Nat.{ℕ, _+_, _≤_, _<_};
 ghost use lib.ListN.{length, getD};
 ghost use lib.IntN.{ℤ, pos};
-ghost use Rattle.ints.specs.Ints.{size};
+ghost use Rattle.ints.specs.Ints.{size, SizedTo};
 ghost use Rattle.preliminary.specs.Shift as shift;
-ghost use Rattle.shifting.specs.Counts.{countTo, SizedTo, NoneAbove};
+ghost use Rattle.shifting.specs.Counts.{countTo, NoneAbove};
 
 // The least of a list that has one.
 pub fn least(xs: &[i64]) -> i64

@@ -15,12 +15,12 @@ ghost use mathlib.Core.List.{List};
 ghost use Prim.Native.Nat.{ℕ, _+_, _≤_, _<_, _^_};
 ghost use lib.ListN.{length, getD, replicate};
 ghost use lib.IntN.{ℤ, pos};
-ghost use Rattle.ints.specs.Ints.{size};
+ghost use Rattle.ints.specs.Ints.{size, SizedTo};
 ghost use Rattle.ints.specs.Lists.{over};
 ghost use Rattle.plan.specs.Graph.{Below};
 ghost use Rattle.plan.specs.Plan.{PlanData, Siblings, numbers};
 ghost use Rattle.strands.specs.Links.{Rising, chain, Bucketed};
-ghost use Rattle.shifting.specs.Counts.{SizedTo, movedAt};
+ghost use Rattle.shifting.specs.Counts.{movedAt};
 ghost use Rattle.preliminary.specs.Shift as spec;
 ghost use Rattle.shifting.specs.Shifts as lists;
 

@@ -16,7 +16,8 @@ use Rattle.plan.specs.Acceptable.{acceptable}
 use Rattle.text.proofs.TestLaws.{conj-at}
 use Rattle.writing.specs.Written.{Fronts}
 use Rattle.writing.proofs.AgainLaws.{stored-of}
-use Rattle.passes.specs.Words.{maxListed, allWithin}
+use Rattle.ints.specs.Reach.{allWithin}
+use Rattle.passes.specs.Words.{maxListed}
 use Rattle.report.specs.Lines.{reportLines}
 use Rattle.report.specs.Valid.{isDrawing}
 use Rattle.lines.specs.Stored.{planPart, drawingFrom, lineOf, Stored, LineRoom, ReportRoom, maxLine, maxReport}

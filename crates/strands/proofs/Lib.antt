@@ -1,4 +1,3 @@
 pub mod ChainLaws
 pub mod StrandLaws
 pub mod InnerLaws
-pub mod FrontLaws

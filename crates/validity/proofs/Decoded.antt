@@ -18,7 +18,8 @@ use Rattle.text.specs.Writing.{sameNumbers}
 use Rattle.passes.specs.Runs.{Run, runsOf}
 use Rattle.passes.specs.Drawing.{BoxAt, boxesWith}
 use Rattle.passes.specs.Stored.{placingsFrom}
-use Rattle.passes.specs.Words.{allWithin, boxesListed, maxListed, drawingWithin}
+use Rattle.ints.specs.Reach.{allWithin}
+use Rattle.passes.specs.Words.{boxesListed, maxListed, drawingWithin}
 use Rattle.report.specs.Valid.{isPass, isRunOfPlan, isDrawing}
 use Rattle.validity.specs.Stored.{isStoredDrawing, StoredList}
 use Rattle.validity.specs.Tests.{isRunOn, arePlacings}

@@ -1,22 +1,18 @@
 -- Tests and sums of a whole list, and of what is left of it after the first i, as loops meet them. Assumes nothing.
 use Prim.Native.Nat.{ℕ, zero, suc, _+_, _-_, _≤_, _<_}
-use mathlib.Core.Path.{_≡_, refl, sym, _∙_, subst}
+use mathlib.Core.Path.{_≡_, refl, sym, _∙_}
 use mathlib.Core.Bool.{true, false}
 use mathlib.Core.List.{List, [], _∷_}
 use native.Mathlib.Omega.{arith}
 use native.Mathlib.Numerals.{add-one}
-use borrow.Author.Tests.{leb-true, leb-false, le-leb, lt-leb, eq-eqb, ne-eqb}
-use lib.Dec.{T, eqb}
+use borrow.Author.Tests.{eq-eqb, ne-eqb}
+use lib.Dec.{eqb}
 use lib.ListN.{length, getD, take, drop, drop-of-length-le}
 use lib.Seq.{drop-cons}
-use lib.IntN.{ℤ, pos, negsuc}
-use lib.Signed.{leZ}
 use Rattle.ints.specs.Lists.{sum}
 use Rattle.ints.proofs.Laws.{cases}
 use Rattle.plan.specs.Plan.{numbers}
-use Rattle.plan.specs.Checks.{every}
 use Rattle.text.specs.Writing.{sameNumbers}
-use Rattle.passes.specs.Words.{reach, isWithin, allWithin}
 
 -- ---- sums
 pub sum-parts : (n : ℕ) (ns : List ℕ) → sum (take n ns) + sum (drop n ns) ≡ sum ns
@@ -32,28 +28,6 @@ ends-count end first count h = cases end (first + count)
     (λ k. eq-eqb (end - first) count (omega arith) ∙ sym (eq-eqb end (first + count) (omega arith)))
     (λ k. ne-eqb (end - first) count (λ e. omega arith) ∙ sym (ne-eqb end (first + count) (λ e. omega arith))))
     (λ j. ne-eqb (end - first) count (λ e. omega arith) ∙ sym (ne-eqb end (first + count) (λ e. omega arith)))
-
--- ---- positions
-pub within-high : (x : ℤ) → leZ (negsuc 1099511627775) x ≡ true → leZ x (pos reach) ≡ isWithin x
-within-high (pos n) e = refl
-within-high (negsuc n) e = let h = leb-true n 1099511627775 e in sym (le-leb (suc n) reach (omega arith))
-
-pub within-low : (x : ℤ) → leZ (negsuc 1099511627775) x ≡ false → isWithin x ≡ false
-within-low (pos n) e = absurd (subst T e tt)
-within-low (negsuc n) e = let h = leb-false n 1099511627775 e in lt-leb (suc n) reach (omega arith)
-
-module _ (xs : List ℤ) (i : ℕ) where
-  pub within-on : i < length xs → isWithin (getD xs i (pos 0)) ≡ true → allWithin (drop i xs) ≡ allWithin (drop (i + 1) xs)
-  unfolding allWithin every
-  within-on h e = rw (add-one, drop-cons xs i (pos 0) h, e)
-
-  pub within-stop : i < length xs → isWithin (getD xs i (pos 0)) ≡ false → allWithin (drop i xs) ≡ false
-  unfolding allWithin every
-  within-stop h e = rw (drop-cons xs i (pos 0) h, e)
-
-  pub within-end : length xs ≤ i → allWithin (drop i xs) ≡ true
-  unfolding allWithin every
-  within-end h = rw (drop-of-length-le xs h)
 
 -- ---- whether a list is f, f + 1 and so on
 module _ (bs : List ℕ) (f i n : ℕ) where

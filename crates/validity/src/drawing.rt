@@ -1,7 +1,7 @@
 // Whether a drawing that was handed in is one that line and mark do not refuse.
 use crate::placings::are_placings;
-use crate::placings::boxes_in_all;
-use crate::positions::all_within;
+use ints::total;
+use ints::within::all_within;
 ghost use mathlib.Core.Path.{_≡_};
 ghost use Rattle.plan.specs.Plan.{PlanData};
 ghost use Rattle.validity.specs.Stored.{isStoredDrawing, OfPlan, StoredLevels, StoredList};
@@ -23,7 +23,7 @@ pub fn is_drawing(
     requires { ⌜ StoredLevels (now sizes) (now vias) × StoredList (now passes) (now levels) (now counts) (now vertices) (now positions) ⌝ }
     ensures { λ r. ⌜ ((p : PlanData) → OfPlan p (now (sizes .entry)) (now (vias .entry)) → r ≡ isStoredDrawing p (now (preliminary .entry)) (now (finals .entry)) (now (passes .entry)) (now (levels .entry)) (now (counts .entry)) (now (vertices .entry)) (now (positions .entry))) ⌝ }
 {
-    let n = boxes_in_all(counts);
+    let n = total(counts);
     if MAX_LISTED < n {
         return false;
     }

@@ -1,5 +1,4 @@
 // Refusal 13, of a drawing.
 pub mod drawing;
 pub mod placings;
-pub mod positions;
 pub mod runs;

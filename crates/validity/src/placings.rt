@@ -8,23 +8,8 @@ ghost use lib.ListN.{length};
 ghost use Rattle.ints.specs.Lists.{sum};
 ghost use Rattle.plan.specs.Limits.{within};
 ghost use Rattle.plan.specs.Plan.{PlanData};
-ghost use Rattle.passes.specs.Words.{maxListed};
 ghost use Rattle.validity.specs.Stored.{OfPlan, StoredLevels};
 ghost use Rattle.validity.specs.Tests.{isRunOn, arePlacings};
-
-// How many boxes are listed.
-pub fn boxes_in_all(counts: &[u16]) -> usize
-    requires { ⌜ length (now counts) ≤ maxListed ⌝ }
-    ensures { λ r. ⌜ r ≡ sum (now (counts .entry)) ⌝ }
-{
-    let mut n: usize = 0;
-    let mut i: usize = 0;
-    while i < counts.len() {
-        n += wide(counts[i]);
-        i += 1;
-    }
-    n
-}
 
 // "a listed pass other than 1 to 3"
 fn is_pass(q: u16) -> bool

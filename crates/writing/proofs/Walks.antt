@@ -7,7 +7,6 @@ use native.Mathlib.Omega.{arith}
 use native.Mathlib.Numerals.{add-one}
 use lib.ListN.{length, getD, drop, drop-of-length-le}
 use lib.Seq.{drop-cons}
-use Rattle.ints.specs.Lists.{sum}
 use Rattle.plan.specs.Checks.{every}
 use Rattle.plan.specs.Acceptable.{halfHolds, halvesHold}
 
@@ -23,15 +22,6 @@ module _ (t : ℕ → Bool) (xs : List ℕ) (i : ℕ) where
   pub all-end : length xs ≤ i → every t (drop i xs) ≡ true
   unfolding every
   all-end h = rw (drop-of-length-le xs h)
-
-module _ (xs : List ℕ) (i : ℕ) where
-  pub sum-on : i < length xs → sum (drop i xs) ≡ getD xs i 0 + sum (drop (i + 1) xs)
-  unfolding sum
-  sum-on h = rw (add-one, drop-cons xs i 0 h)
-
-  pub sum-end : length xs ≤ i → sum (drop i xs) ≡ 0
-  unfolding sum
-  sum-end h = rw (drop-of-length-le xs h)
 
 module _ (vias : List Bool) (halves : List ℕ) (i : ℕ) (e : length vias ≡ length halves) where
   pub halves-on : i < length vias → halfHolds (getD vias i false) (getD halves i 0) ≡ true → halvesHold (drop i vias) (drop i halves) ≡ halvesHold (drop (i + 1) vias) (drop (i + 1) halves)

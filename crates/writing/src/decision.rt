@@ -1,22 +1,16 @@
 // Refusal 13, of a plan: whether it is that of a text that passes checks 1 to 6. No text is written: a plan is that of a text
 // exactly if its data are within the limits and pass checks 3 to 6.
+use ints::total;
 use plan::checks::check_plan;
 use plan::data::Plan;
 ghost use mathlib.Core.Path.{_≡_};
 ghost use mathlib.Core.Bool.{Bool, _&&_};
-ghost use Prim.Native.Nat.{ℕ, _≤_};
-ghost use lib.ListN.{length, getD};
-ghost use Rattle.ints.specs.Lists.{sum};
+ghost use Prim.Native.Nat.{ℕ};
+ghost use lib.ListN.{getD};
 ghost use Rattle.plan.specs.Limits.{within, maxLevels, maxGap, maxSpacing, maxHalfWidth, maxOnLevel};
 ghost use Rattle.plan.specs.Checks.{every};
 ghost use Rattle.plan.specs.Acceptable.{halfHolds, halvesHold, limitsHold, acceptable};
 ghost use Rattle.writing.specs.Data.{dataOf, isStoredPlan};
-
-fn wide(x: u16) -> usize
-    ensures { λ r. ⌜ (r ≡ x) × (r ≤ 65535) ⌝ }
-{
-    x as usize
-}
 
 fn level_count(k: u32) -> usize
     ensures { λ r. ⌜ r ≡ k ⌝ }
@@ -61,20 +55,6 @@ fn sizes_hold(sizes: &[u16]) -> bool
         i += 1;
     }
     true
-}
-
-// How many vertices stand on all levels.
-pub fn total(sizes: &[u16]) -> usize
-    requires { ⌜ length (now sizes) ≤ maxLevels ⌝ }
-    ensures { λ r. ⌜ r ≡ sum (now (sizes .entry)) ⌝ }
-{
-    let mut n: usize = 0;
-    let mut i: usize = 0;
-    while i < sizes.len() {
-        n += wide(sizes[i]);
-        i += 1;
-    }
-    n
 }
 
 // A box's half-width is "1 to 200", a via's is 0.

@@ -1,7 +1,7 @@
 // The lines of a plan's text, written from a position of a lent buffer on. Each answers the position past what it wrote.
-use crate::decision::total;
 use crate::number::put_then;
 use crate::number::put_word;
+use ints::total;
 use plan::levels::wide;
 ghost use mathlib.Core.Path.{_≡_};
 ghost use mathlib.Core.Bool.{true};

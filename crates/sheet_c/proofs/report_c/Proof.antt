@@ -4,11 +4,11 @@ use native.Mathlib.Omega.{arith}
 use mir.Syntax.{w64}
 use mir.Val.{toZ, ofZ}
 use borrow.Author.Needs.{needs}
-use Rattle.ints.proofs.Laws.{back′}
+use Rattle.ints.proofs.Laws.{back′, plain}
 use Rattle.sheet.specs.Results.{lineResultOf}
 use Rattle.from_text.proofs.Texts.{report-few}
 use Rattle.sheet_c.specs.Code.{codeOf}
-use Rattle.sheet_c.proofs.CodeLaws.{codes, plain}
+use Rattle.sheet_c.proofs.CodeLaws.{codes}
 use Rattle.sheet_c.proofs.report_c.Statement.{statement}
 use Rattle.sheet_c.proofs.report_c.Tie as tie
 

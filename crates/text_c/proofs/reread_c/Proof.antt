@@ -3,11 +3,11 @@ use mathlib.Core.Path.{_≡_, sym, _∙_, ap}
 use mathlib.Core.List.{List}
 use Prim.Native.Nat.{ℕ}
 use native.Mathlib.Omega.{arith}
-use lib.IntN.{ℤ, pos, _+ℤ_}
+use lib.IntN.{ℤ}
 use mir.Syntax.{w64}
 use mir.Val.{toZ, ofZ}
 use borrow.Author.Needs.{needs}
-use Rattle.ints.proofs.Laws.{back′, ints, sum}
+use Rattle.ints.proofs.Laws.{back′, plain}
 use Rattle.writing.specs.Again.{Left, Leaves}
 use Rattle.writing.specs.declared.again.Rewritten.{Rewritten}
 use Rattle.writing.proofs.AgainLaws.{written-few}
@@ -17,9 +17,6 @@ use Rattle.text_c.proofs.reread_c.Tie as tie
 
 codes : {l : Left} {a : Rewritten} {r : ℤ} {out : List ℕ} → Leaves l a out → r ≡ codeOf a → Codes l r out
 codes L e = record { code = e ∙ ap codeOf (L .answer); buffer = L .buffer }
-
-plain : (n : ℕ) → pos 0 +ℤ pos n ≡ pos n
-plain n = omega (arith, ints, sum (pos 0) (pos n))
 
 b-plus : (c : tie.After-plus) → toZ w64 (ofZ w64 (c .plus .result)) ≡ c .plus .result
 b-plus c = back′ (c .plus .result) (c .plus .ok)

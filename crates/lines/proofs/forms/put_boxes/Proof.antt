@@ -10,7 +10,8 @@ use Rattle.passes.specs.Drawing.{boxesWith}
 use Rattle.report.specs.Lines.{boxWords}
 use Rattle.lines.specs.Stored.{boxAt}
 use Rattle.lines.proofs.Partly.{Partly, nothing-yet, next-room, next-written, all-written}
-use Rattle.lines.proofs.Boxes.{within-at, read-back, words-next, words-end}
+use Rattle.ints.proofs.Reach.{within-at}
+use Rattle.lines.proofs.Boxes.{read-back, words-next, words-end}
 use Rattle.lines.proofs.forms.put_boxes.Statement.{statement}
 use Rattle.lines.proofs.forms.put_boxes.Tie as tie
 
@@ -38,7 +39,7 @@ shared-slice-copy-out-put-box c = search needs
 
 put-box-requires : tie.Need-put-box-requires Inv-loop μ-loop
 put-box-requires c κs = let a = c .before .before .before .before .before .before .before .args in let i = c .before .before .before .before .loop .i in
-    let h = within-at (a .positions .now) i (c .before .before .before .before .before .before .before .pre .1) (omega arith) in
+    let h = within-at (a .positions .now) i (c .before .before .before .before .before .before .before .pre .1) in
     rw (read-back (getD (a .positions .now) i (pos 0)) h) (
       h,
       next-room (boxWords (boxAt (getD (a .vertices .now) i 0) (getD (a .positions .now) i (pos 0)) ∷ [])) (boxWords (boxesWith (drop (i + 1) (a .vertices .now)) (drop (i + 1) (a .positions .now))))
@@ -53,7 +54,7 @@ loop-less c = search needs
 
 loop-again : tie.Need-loop-again Inv-loop μ-loop
 loop-again c = let a = c .before .before .before .before .before .before .before .before .before .before .args in let i = c .before .before .before .before .before .before .before .loop .i in
-    let h = within-at (a .positions .now) i (c .before .before .before .before .before .before .before .before .before .before .pre .1) (omega arith) in
+    let h = within-at (a .positions .now) i (c .before .before .before .before .before .before .before .before .before .before .pre .1) in
     let now = next-written (boxWords (boxAt (getD (a .vertices .now) i 0) (getD (a .positions .now) i (pos 0)) ∷ [])) (boxWords (boxesWith (drop (i + 1) (a .vertices .now)) (drop (i + 1) (a .positions .now))))
     (words-next (a .vertices .now) (a .positions .now) (c .before .before .before .before .before .before .before .before .before .before .pre .0) i (c .before .before .before .before .before .before .loop-test .taken)) (c .before .before .before .before .before .before .before .loop .inv .2) (rw (read-back (getD (a .positions .now) i (pos 0)) h) at (c .before .before .put-box .ensures)) in
     (omega arith, c .before .before .put-box .kept .0 ∙ c .before .before .before .before .before .before .before .loop .inv .1, now)

@@ -1,8 +1,8 @@
 -- `lines::numbered::put_vertex` meets its contract: positions within reach are read as they are stored.
-use native.Mathlib.Omega.{arith}
 use lib.IntN.{pos}
 use lib.ListN.{getD}
-use Rattle.lines.proofs.Boxes.{within-at, read-back}
+use Rattle.ints.proofs.Reach.{within-at}
+use Rattle.lines.proofs.Boxes.{read-back}
 use borrow.Author.Needs.{needs}
 use Rattle.lines.proofs.numbered.put_vertex.Statement.{statement}
 use Rattle.lines.proofs.numbered.put_vertex.Tie as tie
@@ -24,8 +24,8 @@ shared-slice-copy-out-put-at-2 c = search needs
 
 put-at-requires : tie.Need-put-at-requires
 put-at-requires c κs = let a = c .before .before .before .before .before .args in
-    let h = within-at (a .preliminary .now) (a .v) (c .before .before .before .before .before .pre .positions .ofPreliminary) (c .before .before .before .before .before .pre .vertex) in
-    let k = within-at (a .finals .now) (a .v) (c .before .before .before .before .before .pre .positions .ofFinals) (omega (arith, c .before .before .before .before .before .pre .vertex, c .before .before .before .before .before .pre .positions .long)) in
+    let h = within-at (a .preliminary .now) (a .v) (c .before .before .before .before .before .pre .positions .ofPreliminary) in
+    let k = within-at (a .finals .now) (a .v) (c .before .before .before .before .before .pre .positions .ofFinals) in
     rw (c .before .before .printed-number .ensures, read-back (getD (a .preliminary .now) (a .v) (pos 0)) h, read-back (getD (a .finals .now) (a .v) (pos 0)) k) (h, k, c .before .before .before .before .before .pre .room)
 
 same-length : tie.Need-same-length
@@ -33,8 +33,8 @@ same-length c = search needs
 
 returns : tie.Need-returns
 returns c = let a = c .before .before .before .before .before .before .before .before .args in
-    let h = within-at (a .preliminary .now) (a .v) (c .before .before .before .before .before .before .before .before .pre .positions .ofPreliminary) (c .before .before .before .before .before .before .before .before .pre .vertex) in
-    let k = within-at (a .finals .now) (a .v) (c .before .before .before .before .before .before .before .before .pre .positions .ofFinals) (omega (arith, c .before .before .before .before .before .before .before .before .pre .vertex, c .before .before .before .before .before .before .before .before .pre .positions .long)) in
+    let h = within-at (a .preliminary .now) (a .v) (c .before .before .before .before .before .before .before .before .pre .positions .ofPreliminary) in
+    let k = within-at (a .finals .now) (a .v) (c .before .before .before .before .before .before .before .before .pre .positions .ofFinals) in
     rw (c .before .before .before .before .before .printed-number .ensures, read-back (getD (a .preliminary .now) (a .v) (pos 0)) h, read-back (getD (a .finals .now) (a .v) (pos 0)) k) at (c .before .before .put-at .ensures)
 
 pub put-vertex-spec : {M : Type 1} → statement M

@@ -8,7 +8,7 @@ use lib.Seq.{length-take-le, drop-at}
 use lib.IntN.{ℤ, pos}
 use Rattle.ints.specs.Lists.{over}
 use Rattle.plan.specs.Stored.{planData}
-use Rattle.strands.proofs.FrontLaws.{first-fit, first-is, first-count}
+use Rattle.ints.proofs.FrontLaws.{first-fit, first-is, first-count}
 use Rattle.writing.proofs.AgainLaws.{StoredPlan, stored-of}
 use Rattle.passes.specs.Drawing.{drawingOf}
 use Rattle.passes_c.proofs.PositionLaws.{second-long, two-written}

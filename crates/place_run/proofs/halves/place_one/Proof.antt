@@ -9,7 +9,8 @@ use Rattle.ints.proofs.Laws.{back, back′}
 use Rattle.run.proofs.Sorted.{less}
 use Rattle.run.proofs.PlaceBest.{clamp}
 use Rattle.run.proofs.Coordinates.{start-less}
-use Rattle.place_run.specs.Call.{limitOf, reach}
+use Rattle.ints.specs.Reach.{reach}
+use Rattle.place_run.specs.Call.{limitOf}
 use Rattle.place_run.proofs.Small.{small-start}
 use Rattle.place_run.proofs.halves.place_one.Statement.{statement}
 use Rattle.place_run.proofs.halves.place_one.Tie as tie

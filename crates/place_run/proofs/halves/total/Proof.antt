@@ -5,7 +5,7 @@ use native.Mathlib.Omega.{arith}
 use Prim.Native.Nat.{_+_, _-_, _≤_}
 use lib.ListN.{length, drop}
 use Rattle.ints.specs.Lists.{sum}
-use Rattle.place_run.proofs.Columns.{sum-next, sum-end}
+use Rattle.ints.proofs.Lists.{sum-on, sum-end}
 use Rattle.place_run.proofs.halves.total.Statement.{statement}
 use Rattle.place_run.proofs.halves.total.Tie as tie
 
@@ -25,7 +25,7 @@ shared-slice-read-s : tie.Need-shared-slice-read-s Inv-loop μ-loop
 shared-slice-read-s c = search needs
 
 add-s : tie.Need-add-s Inv-loop μ-loop
-add-s c = let l = c .before .before .loop in omega (arith, sum-next (c .before .before .before .args .counts .now) (l .i) (c .before .loop-test .taken))
+add-s c = let l = c .before .before .loop in omega (arith, sum-on (c .before .before .before .args .counts .now) (l .i) (c .before .loop-test .taken))
 
 add-i : tie.Need-add-i Inv-loop μ-loop
 add-i c = search needs
@@ -34,7 +34,7 @@ loop-less : tie.Need-loop-less Inv-loop μ-loop
 loop-less c = search needs
 
 loop-again : tie.Need-loop-again Inv-loop μ-loop
-loop-again c = let l = c .before .before .loop in omega (arith, sum-next (c .before .before .before .args .counts .now) (l .i) (c .before .loop-test .taken))
+loop-again c = let l = c .before .before .loop in omega (arith, sum-on (c .before .before .before .args .counts .now) (l .i) (c .before .loop-test .taken))
 
 returns : tie.Need-returns Inv-loop μ-loop
 returns c = let l = c .before .loop in omega (arith, sum-end (c .before .before .args .counts .now) (l .i) (c .loop-test .left))

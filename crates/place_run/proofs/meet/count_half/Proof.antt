@@ -10,7 +10,7 @@ use mir.Syntax.{w64}
 use mir.Val.{toZ}
 use Rattle.ints.proofs.Laws.{back, back′}
 use Rattle.run.proofs.Sorted.{less}
-use Rattle.place_run.specs.Call.{reach}
+use Rattle.ints.specs.Reach.{reach}
 use Rattle.place_run.specs.Columns.{BoxCounts}
 use Rattle.place_run.specs.Offsets.{lessNear}
 use Rattle.place_run.proofs.Columns.{First, Counting, counting-start, next-first, next-sizes, counting-next, counting-end}

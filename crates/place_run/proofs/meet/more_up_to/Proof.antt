@@ -10,7 +10,7 @@ use lib.IntN.{ℤ}
 use mir.Syntax.{w64}
 use mir.Val.{toZ, ofZ}
 use Rattle.ints.proofs.Laws.{back}
-use Rattle.place_run.specs.Call.{reach}
+use Rattle.ints.specs.Reach.{reach}
 use Rattle.place_run.specs.Columns.{maxSize, more, HalfCounts}
 use Rattle.place_run.specs.Offsets.{lessNear}
 use Rattle.place_run.proofs.Columns.{cut-within, cut-left, cut-right, beside-more, around-more}

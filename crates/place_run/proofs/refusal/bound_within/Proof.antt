@@ -1,7 +1,7 @@
 -- `refusal::bound_within` meets its contract: a free side has no position, a bound the one that is tested.
 use borrow.Author.Needs.{needs}
 use Rattle.ints.proofs.Laws.{back′}
-use Rattle.place_run.specs.Call.{allWithin}
+use Rattle.ints.specs.Reach.{allWithin}
 use Rattle.place_run.proofs.RefusalLaws.{and-true}
 use Rattle.place_run.proofs.refusal.bound_within.Statement.{statement}
 use Rattle.place_run.proofs.refusal.bound_within.Tie as tie

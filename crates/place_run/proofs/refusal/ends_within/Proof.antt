@@ -8,7 +8,7 @@ use borrow.Author.Needs.{needs}
 use lib.ListN.{length, getD}
 use lib.IntN.{ℤ, pos}
 use Rattle.ints.proofs.Laws.{back′}
-use Rattle.place_run.specs.Call.{isWithin}
+use Rattle.ints.specs.Reach.{isWithin}
 use Rattle.place_run.proofs.refusal.ends_within.Statement.{statement}
 use Rattle.place_run.proofs.refusal.ends_within.Tie as tie
 

@@ -7,7 +7,8 @@ use borrow.Author.Tests.{not-true, not-false}
 use borrow.Author.Needs.{needs}
 use lib.ListN.{length, drop, getD}
 use Rattle.ints.specs.Lists.{sum}
-use Rattle.place_run.proofs.RefusalLaws.{sum-step, sum-end, takenParts, parts-step, parts-end}
+use Rattle.ints.proofs.Lists.{sum-on, sum-end}
+use Rattle.place_run.proofs.RefusalLaws.{takenParts, parts-step, parts-end}
 use Rattle.place_run.proofs.refusal.neighbours_are_taken.Statement.{statement}
 use Rattle.place_run.proofs.refusal.neighbours_are_taken.Tie as tie
 
@@ -20,7 +21,7 @@ abbrev μ-loop : tie.MeasureT-loop
 -- what the i-th count leaves
 step : (c : tie.After-shared-slice-known2 Inv-loop μ-loop) → let s = c .before .before .before .before .args in let i = c .before .before .loop .i in
     sum (drop i (s .counts .now)) ≡ getD (s .counts .now) i 0 + sum (drop (i + 1) (s .counts .now))
-step c = sum-step (c .before .before .before .before .args .counts .now) (c .before .before .loop .i) (c .before .loop-test .taken)
+step c = sum-on (c .before .before .before .before .args .counts .now) (c .before .before .loop .i) (c .before .loop-test .taken)
 
 loop-holds : tie.Need-loop-holds Inv-loop μ-loop
 loop-holds c = (omega arith, omega arith, refl)

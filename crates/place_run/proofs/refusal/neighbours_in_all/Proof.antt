@@ -7,7 +7,7 @@ use borrow.Author.Needs.{needs}
 use lib.ListN.{length, drop}
 use Rattle.ints.specs.Lists.{sum}
 use Rattle.place_run.specs.Call.{maxNeighbours}
-use Rattle.place_run.proofs.RefusalLaws.{sum-step, sum-end}
+use Rattle.ints.proofs.Lists.{sum-on, sum-end}
 use Rattle.place_run.proofs.refusal.neighbours_in_all.Statement.{statement}
 use Rattle.place_run.proofs.refusal.neighbours_in_all.Tie as tie
 
@@ -33,7 +33,7 @@ add-result : tie.Need-add-result Inv-loop μ-loop
 add-result c = search needs
 
 returns : tie.Need-returns Inv-loop μ-loop
-returns c = omega (arith, sum-step (c .before .before .before .before .args .counts .now) (c .before .before .before .loop .i) (c .before .before .loop-test .taken))
+returns c = omega (arith, sum-on (c .before .before .before .before .args .counts .now) (c .before .before .before .loop .i) (c .before .before .loop-test .taken))
 
 mul-total : tie.Need-mul-total Inv-loop μ-loop
 mul-total c = search needs
@@ -51,7 +51,7 @@ loop-less : tie.Need-loop-less Inv-loop μ-loop
 loop-less c = search needs
 
 loop-again : tie.Need-loop-again Inv-loop μ-loop
-loop-again c = omega (arith, sum-step (c .before .before .before .before .before .args .counts .now) (c .before .before .before .before .loop .i) (c .before .before .before .loop-test .taken))
+loop-again c = omega (arith, sum-on (c .before .before .before .before .before .args .counts .now) (c .before .before .before .before .loop .i) (c .before .before .before .loop-test .taken))
 
 returns-2 : tie.Need-returns-2 Inv-loop μ-loop
 returns-2 c = omega (arith, sum-end (c .before .before .args .counts .now) (c .before .loop .i) (c .loop-test .left))

@@ -5,7 +5,7 @@ use native.Mathlib.Omega.{arith}
 use borrow.Author.Needs.{needs}
 use lib.ListN.{length, drop}
 use Rattle.ints.specs.Lists.{sum}
-use Rattle.place_run.proofs.RefusalLaws.{sum-step, sum-end}
+use Rattle.ints.proofs.Lists.{sum-on, sum-end}
 use Rattle.place_run.proofs.refusal.total_distance.Statement.{statement}
 use Rattle.place_run.proofs.refusal.total_distance.Tie as tie
 
@@ -25,7 +25,7 @@ shared-slice-read-total : tie.Need-shared-slice-read-total Inv-loop μ-loop
 shared-slice-read-total c = search needs
 
 add-total : tie.Need-add-total Inv-loop μ-loop
-add-total c = omega (arith, sum-step (c .before .before .before .args .distances .now) (c .before .before .loop .i) (c .before .loop-test .taken))
+add-total c = omega (arith, sum-on (c .before .before .before .args .distances .now) (c .before .before .loop .i) (c .before .loop-test .taken))
 
 add-i : tie.Need-add-i Inv-loop μ-loop
 add-i c = search needs
@@ -34,7 +34,7 @@ loop-less : tie.Need-loop-less Inv-loop μ-loop
 loop-less c = search needs
 
 loop-again : tie.Need-loop-again Inv-loop μ-loop
-loop-again c = omega (arith, sum-step (c .before .before .before .args .distances .now) (c .before .before .loop .i) (c .before .loop-test .taken))
+loop-again c = omega (arith, sum-on (c .before .before .before .args .distances .now) (c .before .before .loop .i) (c .before .loop-test .taken))
 
 returns : tie.Need-returns Inv-loop μ-loop
 returns c = omega (arith, sum-end (c .before .before .args .distances .now) (c .before .loop .i) (c .loop-test .left))

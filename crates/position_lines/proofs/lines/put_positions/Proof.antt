@@ -8,7 +8,7 @@ use lib.IntN.{ℤ, pos}
 use mir.Val.{toZ, ofZ}
 use mir.Syntax.{w64}
 use Rattle.ints.proofs.Laws.{back, fit-make}
-use Rattle.shifting.specs.Counts.{SizedTo}
+use Rattle.ints.specs.Ints.{SizedTo}
 use Rattle.writing.specs.Written.{Wrote}
 use Rattle.writing.proofs.Written.{wrote-none, front-of}
 use borrow.Author.Needs.{needs}

@@ -8,8 +8,8 @@ use lib.Seq.{length-take-le}
 use lib.IntN.{ℤ, pos}
 use Rattle.plan.specs.Stored.{planData}
 use Rattle.preliminary.specs.Positions.{preliminary}
-use Rattle.shifting.specs.Counts.{SizedTo}
-use Rattle.strands.proofs.FrontLaws.{first-fit, first-is, first-count}
+use Rattle.ints.specs.Ints.{SizedTo}
+use Rattle.ints.proofs.FrontLaws.{first-fit, first-is, first-count}
 use Rattle.writing.proofs.AgainLaws.{StoredPlan, stored-of}
 use borrow.Author.Needs.{needs}
 use Rattle.position_lines.proofs.LineLaws.{lines-same}

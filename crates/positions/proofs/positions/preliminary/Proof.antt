@@ -8,9 +8,9 @@ use native.Mathlib.Omega.{arith}
 use lib.ListN.{length, take, drop, replicate}
 use lib.Seq.{length-take-le}
 use lib.IntN.{ℤ, pos, negℤ}
-use Rattle.shifting.specs.Counts.{SizedTo}
+use Rattle.ints.specs.Ints.{SizedTo}
 use Rattle.preliminary.specs.Positions.{sums}
-use Rattle.strands.proofs.FrontLaws.{take-replicate, first-fit, first-is, first-count}
+use Rattle.ints.proofs.FrontLaws.{take-replicate, first-fit, first-is, first-count}
 use Rattle.positions.proofs.PositionLaws.{both-sides, proper-ready, side-by}
 use borrow.Author.Needs.{needs}
 use Rattle.positions.proofs.positions.preliminary.Statement.{statement}

@@ -5,7 +5,7 @@ use mathlib.Core.Bool.{false}
 use native.Mathlib.Omega.{arith}
 use lib.ListN.{length, take, replicate}
 use lib.Seq.{length-take-le}
-use Rattle.strands.proofs.FrontLaws.{take-replicate}
+use Rattle.ints.proofs.FrontLaws.{take-replicate}
 use borrow.Author.Needs.{needs}
 use Rattle.positions.proofs.side.side.Statement.{statement}
 use Rattle.positions.proofs.side.side.Tie as tie

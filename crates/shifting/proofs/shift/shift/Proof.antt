@@ -5,7 +5,7 @@ use mathlib.Core.List.{List, _++_}
 use native.Mathlib.Omega.{arith}
 use lib.ListN.{length, getD, take, drop, replicate, length-replicate}
 use lib.Seq.{length-take-le, take-at}
-use Rattle.strands.proofs.FrontLaws.{first-fit, first-count}
+use Rattle.ints.proofs.FrontLaws.{first-fit, first-count}
 use Rattle.shifting.proofs.KeyLaws.{linked-by, heads-none}
 use borrow.Author.Needs.{needs}
 use Rattle.shifting.proofs.shift.shift.Statement.{statement}

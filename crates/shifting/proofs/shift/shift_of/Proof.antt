@@ -2,8 +2,9 @@
 use lib.ListN.{length-map, length, getD, take}
 use Rattle.shifting.specs.Shifts.{slack, offset, slacks, offsets}
 use Rattle.preliminary.specs.Shift.{leastOr, middle}
-use Rattle.shifting.specs.Counts.{SizedTo}
-use Rattle.shifting.proofs.ShiftLaws.{over-take, least-none, sized-map, offset-sized}
+use Rattle.ints.specs.Ints.{SizedTo}
+use Rattle.ints.proofs.Reach.{sized-map}
+use Rattle.shifting.proofs.ShiftLaws.{over-take, least-none, offset-sized}
 use mathlib.Core.Path.{subst, _≡_, refl, sym, _∙_, ap}
 use mathlib.Core.List.{List}
 use Prim.Native.Nat.{ℕ, _+_, _-_, _≤_, _<_}

@@ -9,13 +9,13 @@ use borrow.Author.Needs.{needs}
 use Rattle.validity.proofs.drawing.is_drawing.Statement.{statement}
 use Rattle.validity.proofs.drawing.is_drawing.Tie as tie
 
-boxes-in-all-requires : tie.Need-boxes-in-all-requires
-boxes-in-all-requires c κs = search needs
+total-requires : tie.Need-total-requires
+total-requires c κs = search needs
 
 returns : tie.Need-returns
 returns c =
     let s = c .before .before .before .before .before .before .before .before in
-    λ p o. sym (many-boxes p (s .args .preliminary .now) (s .args .finals .now) (s .pre .1) (omega (arith, c .before .boxes-in-all .ensures)))
+    λ p o. sym (many-boxes p (s .args .preliminary .now) (s .args .finals .now) (s .pre .1) (omega (arith, c .before .total .ensures)))
 
 all-within-requires : tie.Need-all-within-requires
 all-within-requires c κs = search needs
@@ -23,7 +23,7 @@ all-within-requires c κs = search needs
 returns-2 : tie.Need-returns-2
 returns-2 c =
     let s = c .before .before .before .before .before .before .before .before .before .before in
-    λ p o. sym (stored-is p (s .args .preliminary .now) (s .args .finals .now) (s .pre .1) (omega (arith, c .before .before .before .boxes-in-all .ensures))
+    λ p o. sym (stored-is p (s .args .preliminary .now) (s .args .finals .now) (s .pre .1) (omega (arith, c .before .before .before .total .ensures))
     ∙ rw (sym (c .before .all-within .ensures) ∙ not-true _ (c .if2 .taken)))
 
 all-within-requires-2 : tie.Need-all-within-requires-2
@@ -32,13 +32,13 @@ all-within-requires-2 c κs = search needs
 returns-3 : tie.Need-returns-3
 returns-3 c =
     let s = c .before .before .before .before .before .before .before .before .before .before .before .before in
-    λ p o. sym (stored-is p (s .args .preliminary .now) (s .args .finals .now) (s .pre .1) (omega (arith, c .before .before .before .before .before .boxes-in-all .ensures))
+    λ p o. sym (stored-is p (s .args .preliminary .now) (s .args .finals .now) (s .pre .1) (omega (arith, c .before .before .before .before .before .total .ensures))
     ∙ rw (sym (c .before .before .before .all-within .ensures) ∙ not-false _ (c .before .before .if2 .left), sym (c .before .all-within2 .ensures) ∙ not-true _ (c .if3 .taken)))
 
 slice-aggregate-all-within : tie.Need-slice-aggregate-all-within
 slice-aggregate-all-within c =
     let s = c .before .before .before .before .before .before .before .before .before .before .before .before .before in
-    sym (length-take-le (c .before .before .before .before .before .before .boxes-in-all .result) (s .args .positions .now) (omega (arith, s .pre .1 .ofPositions, c .before .before .before .before .before .if1 .left)))
+    sym (length-take-le (c .before .before .before .before .before .before .total .result) (s .args .positions .now) (omega (arith, s .pre .1 .ofPositions, c .before .before .before .before .before .if1 .left)))
 
 all-within-requires-3 : tie.Need-all-within-requires-3
 all-within-requires-3 c κs = search needs
@@ -46,11 +46,11 @@ all-within-requires-3 c κs = search needs
 returns-4 : tie.Need-returns-4
 returns-4 c =
     let s = c .before .before .before .before .before .before .before .before .before .before .before .before .before .before .before in
-    λ p o. sym (stored-is p (s .args .preliminary .now) (s .args .finals .now) (s .pre .1) (omega (arith, c .before .before .before .before .before .before .before .before .boxes-in-all .ensures))
+    λ p o. sym (stored-is p (s .args .preliminary .now) (s .args .finals .now) (s .pre .1) (omega (arith, c .before .before .before .before .before .before .before .before .total .ensures))
     ∙ rw (
       sym (c .before .before .before .before .before .before .all-within .ensures) ∙ not-false _ (c .before .before .before .before .before .if2 .left),
       sym (c .before .before .before .before .all-within2 .ensures) ∙ not-false _ (c .before .before .before .if3 .left),
-      sym (rw (c .before .before .before .before .before .before .before .before .boxes-in-all .ensures) at (c .before .all-within3 .ensures)) ∙ not-true _ (c .if4 .taken),
+      sym (rw (c .before .before .before .before .before .before .before .before .total .ensures) at (c .before .all-within3 .ensures)) ∙ not-true _ (c .if4 .taken),
     ))
 
 are-placings-requires : tie.Need-are-placings-requires
@@ -60,18 +60,18 @@ returns-5 : tie.Need-returns-5
 returns-5 c =
     let s = c .before .before .before .before .before .before .before .before .before .before .before .before .before .before .before .before in
     λ p o. c .are-placings .ensures p o
-    ∙ sym (stored-is p (s .args .preliminary .now) (s .args .finals .now) (s .pre .1) (omega (arith, c .before .before .before .before .before .before .before .before .before .boxes-in-all .ensures))
+    ∙ sym (stored-is p (s .args .preliminary .now) (s .args .finals .now) (s .pre .1) (omega (arith, c .before .before .before .before .before .before .before .before .before .total .ensures))
     ∙ rw (
       sym (c .before .before .before .before .before .before .before .all-within .ensures) ∙ not-false _ (c .before .before .before .before .before .before .if2 .left),
       sym (c .before .before .before .before .before .all-within2 .ensures) ∙ not-false _ (c .before .before .before .before .if3 .left),
-      sym (rw (c .before .before .before .before .before .before .before .before .before .boxes-in-all .ensures) at (c .before .before .all-within3 .ensures)) ∙ not-false _ (c .before .if4 .left),
+      sym (rw (c .before .before .before .before .before .before .before .before .before .total .ensures) at (c .before .before .all-within3 .ensures)) ∙ not-false _ (c .before .if4 .left),
     ))
 
 pub is-drawing-spec : {M : Type 1} → statement M
 is-drawing-spec =
     tie.close
     (tie.spec
-    boxes-in-all-requires
+    total-requires
     returns
     all-within-requires
     returns-2

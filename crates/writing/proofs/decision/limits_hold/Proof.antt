@@ -13,7 +13,6 @@ use Rattle.writing.proofs.decision.halves_hold.Reads as halves-hold-rea
 use Rattle.writing.proofs.decision.level_count.Reads as level-count-reads
 use Rattle.writing.proofs.decision.numbers_hold.Reads as numbers-hold-reads
 use Rattle.writing.proofs.decision.sizes_hold.Reads as sizes-hold-reads
-use Rattle.writing.proofs.decision.total.Reads as total-reads
 
 numbers-hold-requires : tie.Need-numbers-hold-requires
 numbers-hold-requires c κs = search needs

@@ -9,7 +9,6 @@ use Rattle.writing.proofs.lines.put_level.Tie as tie
 use Rattle.writing.proofs.lines.put_level.Reads as reads
 use Rattle.writing.proofs.lines.put_level.Lts as lts
 use Rattle.plan.proofs.levels.wide.Reads as wide-reads
-use Rattle.writing.proofs.decision.total.Reads as total-reads
 use Rattle.writing.proofs.lines.put_row.Reads as put-row-reads
 
 slice-aggregate-total : tie.Need-slice-aggregate-total

@@ -1,12 +1,12 @@
--- `validity::positions::is_within` meets its contract: its two tests, on the bits of x as they read back, are that of `isWithin`.
+-- `ints::within::is_within` meets its contract: its two tests, on the bits of x as they read back, are that of `isWithin`.
 use mathlib.Core.Path.{_≡_}
 use borrow.Author.Needs.{needs}
 use mir.Syntax.{w64}
 use mir.Val.{toZ, ofZ}
 use Rattle.ints.proofs.Laws.{back}
-use Rattle.validity.proofs.Walks.{within-high, within-low}
-use Rattle.validity.proofs.positions.is_within.Statement.{statement}
-use Rattle.validity.proofs.positions.is_within.Tie as tie
+use Rattle.ints.proofs.Reach.{within-high, within-low}
+use Rattle.ints.proofs.within.is_within.Statement.{statement}
+use Rattle.ints.proofs.within.is_within.Tie as tie
 
 b-x : (c : tie.Start) → toZ w64 (ofZ w64 (c .args .x)) ≡ c .args .x
 b-x c = back (c .fits .x)

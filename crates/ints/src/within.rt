@@ -1,10 +1,10 @@
-// "a position outside ±2^40"
+// "Every position lies within ±2^40."
 ghost use mathlib.Core.Path.{_≡_};
-ghost use Rattle.passes.specs.Words.{isWithin, allWithin};
+ghost use Rattle.ints.specs.Reach.{isWithin, allWithin};
 
 const REACH: i64 = 1 << 40;
 
-fn is_within(x: i64) -> bool
+pub fn is_within(x: i64) -> bool
     ensures { λ r. ⌜ r ≡ isWithin x ⌝ }
 {
     -REACH <= x && x <= REACH

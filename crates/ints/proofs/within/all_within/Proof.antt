@@ -1,4 +1,4 @@
--- `refusal::all_within` meets its contract: whether all positions are within reach is whether those from the i-th on are.
+-- `ints::within::all_within` meets its contract: whether all positions are within reach is whether those from the i-th on are.
 use Prim.Native.Nat.{_≤_, _-_}
 use mathlib.Core.Path.{_≡_, refl, sym, _∙_}
 use native.Mathlib.Omega.{arith}
@@ -6,11 +6,11 @@ use borrow.Author.Tests.{not-true, not-false}
 use borrow.Author.Needs.{needs}
 use lib.ListN.{length, drop, getD}
 use lib.IntN.{pos}
 use Rattle.ints.proofs.Laws.{back′}
-use Rattle.place_run.specs.Call.{allWithin, isWithin}
-use Rattle.place_run.proofs.RefusalLaws.{within-step, within-end}
-use Rattle.place_run.proofs.refusal.all_within.Statement.{statement}
-use Rattle.place_run.proofs.refusal.all_within.Tie as tie
+use Rattle.ints.specs.Reach.{isWithin, allWithin}
+use Rattle.ints.proofs.Reach.{within-on, within-stop, within-end}
+use Rattle.ints.proofs.within.all_within.Statement.{statement}
+use Rattle.ints.proofs.within.all_within.Tie as tie
 
 abbrev Inv-loop : tie.InvT-loop
 Inv-loop positions i₀ i = (i ≤ length positions) × (allWithin (drop i positions) ≡ allWithin positions)
@@ -39,8 +39,7 @@ returns : tie.Need-returns Inv-loop μ-loop
 returns c =
     let xs = c .before .before .before .before .before .args .positions .now in
     let l = c .before .before .before .before .loop in
-    let stop = sym (is-one (c .before)) ∙ not-true _ (c .if1 .taken) in
-    sym (rw stop at (within-step xs (l .i) (omega arith))) ∙ l .inv .1
+    sym (within-stop xs (l .i) (omega arith) (sym (is-one (c .before)) ∙ not-true _ (c .if1 .taken))) ∙ l .inv .1
 
 add-i : tie.Need-add-i Inv-loop μ-loop
 add-i c = search needs
@@ -52,8 +51,7 @@ loop-again : tie.Need-loop-again Inv-loop μ-loop
 loop-again c =
     let xs = c .before .before .before .before .before .args .positions .now in
     let l = c .before .before .before .before .loop in
-    let on = sym (is-one (c .before)) ∙ not-false _ (c .if1 .left) in
-    (omega arith, sym (rw on at (within-step xs (l .i) (omega arith))) ∙ l .inv .1)
+    (omega arith, sym (within-on xs (l .i) (omega arith) (sym (is-one (c .before)) ∙ not-false _ (c .if1 .left))) ∙ l .inv .1)
 
 returns-2 : tie.Need-returns-2 Inv-loop μ-loop
 returns-2 c = sym (within-end (c .before .before .args .positions .now) (c .before .loop .i) (c .loop-test .left)) ∙ c .before .loop .inv .1
