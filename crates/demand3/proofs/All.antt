@@ -1,11 +1,13 @@
 -- A fact of every member of a list, and the test `every`. Assumes nothing.
 use mathlib.Core.Path.{_≡_, refl, sym, subst}
 use mathlib.Core.Bool.{Bool, true, false, cond}
+use mathlib.Core.Logic.{inl, inr}
 use mathlib.Core.List.{List, [], _∷_, _++_, reverse, reverse-cons, List·Memᴰ, List·Memᴰ·head, List·Memᴰ·tail}
 use Prim.Native.Nat.{ℕ, zero, suc, _<_}
 use native.Mathlib.Omega.{arith}
 use lib.ListN.{length, getD, take, drop}
 use Rattle.plan.specs.Checks.{every}
+use Rattle.plan.proofs.Sound.{Mem}
 
 pub no-true : {G : Type 0} → false ≡ true → G
 no-true e = absurd (subst (λ (t : Bool). cond t ⊥ (Unit {0})) e tt)
@@ -18,6 +20,11 @@ cond-both false u e = no-true e
 pub data All {A : Type 0} (Q : A → Type 0) : List A → Type 0 where
   all-nil : All Q []
   all-cons : {x : A} {xs : List A} → Q x → All Q xs → All Q (x ∷ xs)
+
+-- the same membership, as crate plan writes it
+pub member : {A : Type 0} {x : A} {xs : List A} → List·Memᴰ x xs → Mem x xs
+member (List·Memᴰ·head e) = inl e
+member (List·Memᴰ·tail m) = inr (member m)
 
 module _ {A : Type 0} where
   pub all-map : {Q R : A → Type 0} {xs : List A} → ((x : A) → Q x → R x) → All Q xs → All R xs

@@ -1,6 +1,6 @@
 -- How often each run is placed: an open run in passes 1 and 2; a bounded run with slack once, since placing settles it and pass 3 takes
 -- the rest; without slack never. Slack never changes, since vias never move. Assumes nothing.
-use mathlib.Core.Path.{_≡_, refl, _∙_, ap, subst}
+use mathlib.Core.Path.{_≡_, refl, _∙_, ap}
 use mathlib.Core.Bool.{Bool, true, false, cond, not, _||_}
 use mathlib.Core.List.{List, [], _∷_, _++_}
 use mathlib.Core.Option.{Option, none, some}
@@ -10,7 +10,7 @@ use lib.Dec.{eqb}
 use borrow.Author.Tests.{eq-eqb}
 use lib.IntN.{ℤ}
 use Rattle.ints.proofs.Laws.{if-ind}
-use Rattle.plan.specs.Plan.{PlanData, isVia}
+use Rattle.plan.specs.Plan.{PlanData}
 use Rattle.plan.specs.Checks.{some as any}
 use Rattle.preliminary.specs.Positions.{preliminary}
 use Rattle.passes.specs.Runs.{Run, isBounded, members}
@@ -19,7 +19,7 @@ use Rattle.passes.specs.Ready.{doubledSpan, exactlyApart, hasNoSlack, places, i
 use Rattle.passes.specs.Passes.{placed, after, isDue, visit}
 use Rattle.passes.specs.Words.{timesPlaced}
 use Rattle.demand3.proofs.All.{All, all-nil, all-cons}
-use Rattle.demand3.proofs.RunsOn.{LeftEnd, no-left, via-left, RightEnd, no-right, via-right, IsRun}
+use Rattle.demand3.proofs.RunsOn.{IsRun, left-via, right-via}
 use Rattle.demand3.proofs.Schedule.{Visit, visitOf, visitAll, visit-append, Other, Once}
 use Rattle.demand3.proofs.Trace.{stepOf, Reached}
 
@@ -98,18 +98,10 @@ same-slack xs ys d none b f g = refl
 same-slack xs ys d (some v) none f g = refl
 same-slack xs ys d (some v) (some w) f g = rw (f v refl, g w refl)
 
-left-via : {p : PlanData} {b : ℕ} {o : Option ℕ} {low first : ℕ} → LeftEnd p b o low first → (v : ℕ) → o ≡ some v → isVia p v ≡ true
-left-via (no-left e f) v z = let y : _≡_ {A = ℕ} 0 1 = cc in absurd (omega arith)
-left-via {p} (via-left {v = u} e f g t) v z = let y : u ≡ v = cc in subst (λ w. isVia p w ≡ true) y t
-
-right-via : {p : PlanData} {b : ℕ} {o : Option ℕ} {past high : ℕ} → RightEnd p b o past high → (v : ℕ) → o ≡ some v → isVia p v ≡ true
-right-via (no-right e f) v z = let y : _≡_ {A = ℕ} 0 1 = cc in absurd (omega arith)
-right-via {p} (via-right {v = u} e f g t) v z = let y : u ≡ v = cc in subst (λ w. isVia p w ≡ true) y t
-
 pub slack-still : {p : PlanData} {s : State} → Reached p s → {r : Run} → IsRun p r → hasNoSlack p (s .at) r ≡ hasNoSlack p (preliminary p) r
 unfolding hasNoSlack
 slack-still {p} {s} c {r} i = same-slack (s .at) (preliminary p) (doubledSpan p (members r)) (r .left) (r .right)
-    (λ v e. c .vias v (left-via (i .begins) v e)) (λ v e. c .vias v (right-via (i .ends) v e))
+    (λ v e. c .vias v (left-via i v e)) (λ v e. c .vias v (right-via i v e))
 
 -- ---- when a run is due
 pub due-open : (p : PlanData) (q : ℕ) (s : State) (r : Run) → isBounded r ≡ false → isDue p q s r ≡ not (eqb q 3)

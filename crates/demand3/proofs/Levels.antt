@@ -9,6 +9,7 @@ use borrow.Author.Tests.{ltb-true, ltb-false}
 use lib.ListN.{length, getD, take}
 use Rattle.ints.proofs.Laws.{if-ind, cases}
 use Rattle.plan.specs.Plan.{PlanData, numbers, levelsFrom, levelsOf, levelAt, levelIn, levelOf, Siblings, pairsOn, siblingsOf}
+use Rattle.plan.proofs.LevelLaws.{numbers-append}
 use Rattle.ints.specs.Lists.{sum}
 use Rattle.demand3.proofs.All.{All, all-nil, all-cons, all-append}
 
@@ -23,12 +24,6 @@ unfolding numbers
 get-numbers v zero i d h = absurd (omega arith)
 get-numbers v (suc n) zero d h = omega arith
 get-numbers v (suc n) (suc i) d h = omega (arith, get-numbers (v + 1) n i d (omega arith))
-
-pub numbers-append : (v a b : ℕ) → numbers v (a + b) ≡ numbers v a ++ numbers (v + a) b
-unfolding numbers
-numbers-append v zero b = let e : v ≡ v + 0 = omega arith in let f : zero + b ≡ b = omega arith in ap (numbers v) f ∙ ap (λ w. numbers w b) e
-numbers-append v (suc a) b = let e : v + 1 + a ≡ v + suc a = omega arith in let f : suc a + b ≡ suc (a + b) = omega arith in
-    ap (numbers v) f ∙ ap (λ ws. v ∷ ws) (numbers-append (v + 1) a b ∙ ap (λ w. numbers (v + 1) a ++ numbers w b) e)
 
 pub numbers-snoc : (v n w : ℕ) → v + n ≡ w → numbers v (suc n) ≡ numbers v n ++ w ∷ []
 unfolding numbers

@@ -104,11 +104,11 @@ nearest-more c n u r = record { vertex = r .vertex; from = omega (arith, r .from
 nearest-here : {p : PlanData} {t : Bool} (c n u : ℕ) {Q : ℕ → Type 0} → Q c → Joined p t c u → Nearest p t c (suc n) u Q
 nearest-here c n u h j = record { vertex = c; from = omega arith; to = omega arith; side = h; joined = j }
 
-or-cases : (a b : Option ℕ) (u : ℕ) → orElse a b ≡ some u → (a ≡ some u) ⊎ (b ≡ some u)
+pub or-cases : (a b : Option ℕ) (u : ℕ) → orElse a b ≡ some u → (a ≡ some u) ⊎ (b ≡ some u)
 or-cases none b u e = inr e
 or-cases (some w) b u e = inl e
 
-never : {G : Type 0} (u : ℕ) → _≡_ {A = Option ℕ} none (some u) → G
+pub never : {G : Type 0} (u : ℕ) → _≡_ {A = Option ℕ} none (some u) → G
 never u e = let z : _≡_ {A = ℕ} 0 1 = cc in absurd (omega arith)
 
 module _ {p : PlanData} (so : Sound p) (q bound : ℕ) where

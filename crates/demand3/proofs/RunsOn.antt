@@ -101,6 +101,22 @@ pub bounds : {p : PlanData} {r : Run} (i : IsRun p r) → Bounds p r (i .low) (i
 bounds {p} {r} i = let a = left-bounds (i .begins) in let b = right-bounds (i .ends) in let c = level-within p (r .level) in
     record { from = a .0; left = a .1; left1 = a .2; right = b .0; right1 = b .1; to = b .2; all = omega arith }
 
+-- the vertices beside it are vias
+left-end : {p : PlanData} {b : ℕ} {o : Option ℕ} {low first : ℕ} → LeftEnd p b o low first → (v : ℕ) → o ≡ some v → isVia p v ≡ true
+left-end (no-left e f) v z = let y : _≡_ {A = ℕ} 0 1 = cc in absurd (omega arith)
+left-end {p} (via-left {v = u} e f g t) v z = let y : u ≡ v = cc in subst (λ w. isVia p w ≡ true) y t
+
+right-end : {p : PlanData} {b : ℕ} {o : Option ℕ} {past high : ℕ} → RightEnd p b o past high → (v : ℕ) → o ≡ some v → isVia p v ≡ true
+right-end (no-right e f) v z = let y : _≡_ {A = ℕ} 0 1 = cc in absurd (omega arith)
+right-end {p} (via-right {v = u} e f g t) v z = let y : u ≡ v = cc in subst (λ w. isVia p w ≡ true) y t
+
+module _ {p : PlanData} {r : Run} (i : IsRun p r) (v : ℕ) where
+  pub left-via : r .left ≡ some v → isVia p v ≡ true
+  left-via e = left-end (i .begins) v e
+
+  pub right-via : r .right ≡ some v → isVia p v ≡ true
+  right-via e = right-end (i .ends) v e
+
 -- ---- its members, as numbers
 pub left-list : {p : PlanData} {b : ℕ} {o : Option ℕ} {low first : ℕ} (n : ℕ) → LeftEnd p b o low first → asList o ++ numbers first n ≡ numbers low (first - low + n)
 unfolding numbers

@@ -8,11 +8,12 @@ use lib.Dec.{eqb}
 use borrow.Author.Tests.{ne-eqb}
 use lib.ListN.{length, getD}
 use Rattle.plan.specs.Plan.{PlanData, numbers}
+use Rattle.plan.proofs.LevelLaws.{numbers-append}
 use Rattle.passes.specs.Runs.{Run, runsOn, noRun, runAt}
 use Rattle.passes.specs.State.{State}
 use Rattle.passes.specs.Passes.{visit, visitEach, pass, threePasses}
 use Rattle.demand3.proofs.All.{All, all-nil, all-cons, all-map, all-append, all-reverse}
-use Rattle.demand3.proofs.Levels.{numbers-append, all-numbers}
+use Rattle.demand3.proofs.Levels.{all-numbers}
 use Rattle.demand3.proofs.RunsOn.{IsRun, run-level, runs-are}
 
 pub record Visit : Type 0 where

@@ -30,7 +30,7 @@ unfolding sumOver
 sum-reverse f [] = refl
 sum-reverse f (l ∷ ls) = ap (sumOver f) (reverse-cons l ls) ∙ omega (arith, sum-append f (reverse ls) (l ∷ []), sum-reverse f ls)
 
-take-more : (ns : List ℕ) (k : ℕ) → sum (take (suc k) ns) ≡ sum (take k ns) + getD ns k 0
+pub take-more : (ns : List ℕ) (k : ℕ) → sum (take (suc k) ns) ≡ sum (take k ns) + getD ns k 0
 unfolding sum
 take-more [] zero = refl
 take-more [] (suc k) = refl

@@ -68,7 +68,7 @@ module _ {p : PlanData} (so : Sound p) where
   reached-all c (all-cons {x = w} i «is») = reached-all (reached-visit c (w .pass) i) «is»
 
 -- ---- the state at the start
-length-doubled : (p : PlanData) (v n : ℕ) → length (doubledOn p (numbers v n)) ≡ n
+pub length-doubled : (p : PlanData) (v n : ℕ) → length (doubledOn p (numbers v n)) ≡ n
 unfolding doubledOn numbers
 length-doubled p v zero = refl
 length-doubled p v (suc zero) = refl

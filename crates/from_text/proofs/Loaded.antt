@@ -8,15 +8,13 @@ use lib.ListN.{length, replicate, length-replicate}
 use Rattle.ints.specs.Lists.{concat, over}
 use Rattle.ints.proofs.Lists.{over-long}
 use Rattle.plan.specs.Plan.{PlanData, vertexCount}
-use Rattle.plan.specs.Limits.{maxLevels}
+use Rattle.plan.proofs.LimitLaws.{Limits}
+use Rattle.plan.proofs.Sound.{sound}
 use Rattle.text.specs.Reading.{accepted, reading}
-use Rattle.text.proofs.PlanOfText.{acceptable-of, read-acceptable}
-use Rattle.text.proofs.PlanLimits.{Limits}
+use Rattle.text.proofs.PlanOfText.{read-acceptable}
 use Rattle.text.proofs.Words.{never}
 use Rattle.reading.specs.Answer.{planOf, answerOf}
 use Rattle.writing.proofs.AgainLaws.{read-accepted}
-use Rattle.writing.proofs.Limits.{within-most}
-use Rattle.writing.proofs.LineLaws.{halves-long}
 use Rattle.passes.specs.Drawing.{drawingOf}
 use Rattle.report.specs.Lines.{reportLines}
 use Rattle.stored.proofs.Cuts.{PlanArrays}
@@ -39,11 +37,11 @@ filled xs n a h = over-long xs (replicate n a) (rw (length-replicate n a) h) ∙
 arrays : (p : PlanData) → Limits p → PlanArrays (planOf p)
 unfolding planOf
 arrays p l = record {
-  sizes = filled (p .sizes) _ _ (omega (arith, l .counted, within-most 1 maxLevels (p .levels) (l .levels)));
+  sizes = filled (p .sizes) _ _ (l .lists .levels);
   vias = filled (p .vias) _ _ (l .vertices);
-  halves = filled (p .halves) _ _ (omega (arith, l .vertices, halves-long (p .vias) (p .halves) (l .halves)));
+  halves = filled (p .halves) _ _ (omega (arith, l .vertices, l .halves-long));
   uppers = filled (p .uppers) _ _ (l .segments);
-  lowers = filled (p .lowers) _ _ (omega (arith, l .segments, l .ends));
+  lowers = filled (p .lowers) _ _ (omega (arith, l .segments, l .ends-long));
 }
 
 -- ---- a sheet whose lines are shown
@@ -80,7 +78,7 @@ module _ (s : Sheet) (text : List ℕ) (p : PlanData) (e : reading text ≡ acce
 
   pub holds-arrays : PlanArrays (loadedSheet p .plan)
   unfolding loadedSheet
-  holds-arrays = arrays p (acceptable-of p (read-acceptable text p e) .limits)
+  holds-arrays = arrays p (sound p (read-acceptable text p e) .limits)
 
   report-drawn : reportOf (draw (loadedSheet p) .sheet) ≡ concat (reportLines p (drawingOf p))
   unfolding reportOf

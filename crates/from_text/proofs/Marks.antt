@@ -6,8 +6,9 @@ use Prim.Native.Nat.{ℕ, _≤_}
 use native.Mathlib.Omega.{arith}
 use lib.Ieee.{Float}
 use Rattle.plan.specs.Plan.{PlanData}
+use Rattle.plan.proofs.Sound.{sound}
 use Rattle.text.specs.Reading.{Reading, accepted, refused, reading}
-use Rattle.text.proofs.PlanOfText.{acceptable-of, read-acceptable}
+use Rattle.text.proofs.PlanOfText.{read-acceptable}
 use Rattle.text.proofs.Words.{never}
 use Rattle.passes.specs.Drawing.{Drawing, drawingOf}
 use Rattle.marks.specs.Marks.{markCount, allNumbers}
@@ -68,6 +69,6 @@ marks-few text b n = go (reading text) refl
   where
     go : (g : Reading) → reading text ≡ g → marksOf g b .result ≡ gives n → n ≤ 3072
     go (accepted p) e h =
-        let l = acceptable-of p (read-acceptable text p e) .limits in
+        let l = sound p (read-acceptable text p e) .limits in
         omega (arith, l .vertices, l .segments, given (firstRefusal (test14 (allNumbers p (drawingOf p .final)) b ∷ [])) n (markCount p) h)
     go (refused k) e h = never (cc)

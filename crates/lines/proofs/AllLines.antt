@@ -4,14 +4,13 @@ use mathlib.Core.Bool.{false}
 use mathlib.Core.List.{List, [], _∷_, _++_, append-nil}
 use Prim.Native.Nat.{ℕ, zero, suc, _+_, _-_, _≤_, _<_}
 use native.Mathlib.Omega.{arith}
-use lib.Dec.{ltb}
 use lib.ListN.{length, getD, drop, length-replicate, drop-of-length-le}
 use lib.Seq.{drop-drop}
 use lib.IntN.{ℤ}
 use Rattle.ints.specs.Lists.{sum, concat}
-use Rattle.ints.proofs.Laws.{if-ind}
-use Rattle.plan.specs.Plan.{numbers, levelIn, levelOf, heightOf}
+use Rattle.plan.specs.Plan.{numbers, levelOf, heightOf}
 use Rattle.plan.specs.Graph.{Levelled}
+use Rattle.plan.proofs.LevelLaws.{level-low, level-most}
 use Rattle.writing.specs.Written.{Room, Wrote, Fronts}
 use Rattle.writing.proofs.Written.{front-of}
 use Rattle.ints.proofs.Lists.{concat-append, concat-one}
@@ -52,17 +51,6 @@ module _ (preliminary finals : List ℤ) where
   same-heights f g all n (suc count) h e =
       let here : n < all = omega arith in
       rw (e (vertexOfLine n) (in-order here), same-heights f g all (n + 1) count (omega arith) e)
-
--- a level by a table
-pub level-low : (ns : List ℕ) (v : ℕ) → 1 ≤ levelIn ns v
-unfolding levelIn
-level-low [] v = omega arith
-level-low (n ∷ ns) v = if-ind (ltb v n) 1 (suc (levelIn ns (v - n))) (λ l. 1 ≤ l) (λ e. omega arith) (λ e. omega arith)
-
-pub level-high : (ns : List ℕ) (v : ℕ) → levelIn ns v ≤ length ns + 1
-unfolding levelIn
-level-high [] v = omega arith
-level-high (n ∷ ns) v = if-ind (ltb v n) 1 (suc (levelIn ns (v - n))) (λ l. l ≤ suc (length ns) + 1) (λ e. omega arith) (λ e. omega (arith, level-high ns (v - n)))
 
 -- ---- placings
 module _ (passes levels counts vertices : List ℕ) (positions : List ℤ) where
@@ -135,7 +123,7 @@ module _ {spacing : ℕ} {sizes : List ℕ} {preliminary finals : List ℤ} {o :
     positions = r .positions;
     table = omega arith;
     low = λ v h. rw (t .each v (omega arith)) (level-low sizes v);
-    high = λ v h. rw (t .each v (omega arith)) (omega (arith, level-high sizes v, r .few));
+    high = λ v h. rw (t .each v (omega arith)) (omega (arith, level-most sizes v, r .few));
     room = rw lines-same (r .room);
   }
 

@@ -13,6 +13,7 @@ use Rattle.ints.proofs.Laws.{cases}
 use Rattle.ints.proofs.Reach.{within-size, within-get, within-at}
 use Rattle.plan.specs.Limits.{maxLevels, maxSpacing, maxOnLevel, maxVertices}
 use Rattle.plan.specs.Plan.{PlanData, vertexCount, numbers, levelIn, levelOf, heightOf}
+use Rattle.plan.proofs.LevelLaws.{level-most}
 use Rattle.text.specs.Decimal.{signed}
 use Rattle.text.proofs.DecimalLaws.{decimal-length}
 use Rattle.ints.proofs.Lists.{concat-append}
@@ -26,7 +27,6 @@ use Rattle.demand3.proofs.Levels.{all-numbers}
 use Rattle.lines.specs.Stored.{lineOf, placeLines, maxLine, maxReport}
 use Rattle.lines.proofs.Listed.{preliminary-within, final-within, boxes-within, few-placings, few-boxes}
 use Rattle.lines.proofs.ByNumber.{atLines, at-lines, lines-from}
-use Rattle.lines.proofs.AllLines.{level-high}
 
 -- A plan and a drawing that are within the limits, as far as lengths ask.
 pub record SmallPlacing (q : Placing) : Type 0 where
@@ -117,7 +117,7 @@ module _ {p : PlanData} {d : Drawing} (s : Small p d) where
   height-small : (v : ℕ) → heightOf p (levelOf p v) ≤ 640000
   unfolding levelOf heightOf
   height-small v =
-      let few : levelIn (p .sizes) v - 1 ≤ 64 = omega (arith, level-high (p .sizes) v, s .levels) in
+      let few : levelIn (p .sizes) v - 1 ≤ 64 = omega (arith, level-most (p .sizes) v, s .levels) in
       omega (arith, mul-le-mul-left (p .spacing) few, mul-le-mul-right 64 (s .spacing))
 
   each-at : All (λ (w : List ℕ). length w ≤ 47) (map (λ i. atLineOf p d (vertexOfLine i)) (numbers 0 (vertexCount p)))

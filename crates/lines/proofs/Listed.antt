@@ -11,12 +11,12 @@ use lib.ListN.{length, getD, take, drop, length-take, length-drop}
 use lib.Seq.{drop-cons, drop-drop, take-add, take-take}
 use lib.IntN.{ℤ}
 use Rattle.ints.specs.Lists.{sum}
+use Rattle.plan.proofs.TestLaws.{conj-at}
 use Rattle.passes.specs.Drawing.{BoxAt, Placing, Drawing, boxesWith}
 use Rattle.passes.specs.Stored.{placingsFrom}
 use Rattle.ints.specs.Reach.{allWithin}
 use Rattle.ints.proofs.Reach.{within-take, within-right}
 use Rattle.passes.specs.Words.{boxesListed, maxListed, drawingWithin}
-use Rattle.text.proofs.TestLaws.{conj-at}
 use Rattle.lines.specs.Stored.{placing, placingOf, drawingFrom, Stored}
 
 abbrev pub noPlacing : Placing

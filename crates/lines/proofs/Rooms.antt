@@ -9,16 +9,17 @@ use borrow.Author.Tests.{eqb-true}
 use lib.Dec.{eqb, leb}
 use lib.ListN.{length, length-map}
 use lib.IntN.{ℤ}
-use Rattle.plan.specs.Limits.{within, maxLevels, maxVertices, maxSpacing}
+use Rattle.plan.specs.Limits.{within, maxLevels, maxVertices}
 use Rattle.plan.specs.Plan.{PlanData, numbers}
 use Rattle.plan.specs.Checks.{every, some}
 use Rattle.plan.specs.Acceptable.{acceptable}
+use Rattle.plan.proofs.TestLaws.{conj-at}
+use Rattle.plan.proofs.LimitLaws.{within-most}
+use Rattle.plan.proofs.Sound.{sound as sound-plan}
 use Rattle.text.specs.Writing.{sameNumbers}
 use Rattle.text.proofs.SameData.{numbers-equal}
-use Rattle.text.proofs.TestLaws.{test, conj-at}
+use Rattle.text.proofs.TestLaws.{test}
 use Rattle.text.proofs.Words.{never}
-use Rattle.text.proofs.PlanOfText.{acceptable-of}
-use Rattle.writing.proofs.Limits.{within-most}
 use Rattle.passes.specs.Runs.{runsOf}
 use Rattle.passes.specs.Drawing.{BoxAt, Placing, Drawing}
 use Rattle.passes.specs.Words.{drawingWithin}
@@ -72,7 +73,7 @@ small p d a e =
     let part = conj-at (drawingWithin d) (every isPass (d .placings) ∷ every (isRunOfPlan p) (d .placings) ∷ []) e in
     record {
       vertices = so .vertices;
-      spacing = within-most 1 maxSpacing (p .spacing) (acceptable-of p a .limits .spacing);
+      spacing = sound-plan p a .limits .spacing-high;
       levels = omega (arith, so .sizes, so .levels);
       within = part 0;
       placings = all-map (λ q h. small-placing so q (h .0) (h .1)) (all-both (every-all isPass (d .placings) (part 1)) (every-all (isRunOfPlan p) (d .placings) (part 2)));

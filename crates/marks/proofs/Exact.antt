@@ -16,6 +16,7 @@ use lib.Ieee.Fits.{down-pos}
 use lib.Ieee.Exact.{HasValue, round-exact}
 use lib.Ieee.Back.{round-whole}
 use Rattle.plan.specs.Plan.{PlanData, vertexCount, isVia, halfWidth, levelIn, levelOf, heightOf}
+use Rattle.plan.proofs.LevelLaws.{level-most}
 use Rattle.passes.specs.State.{positionOf}
 use Rattle.marks.specs.declared.types.Point.{Point}
 use Rattle.marks.specs.declared.types.Mark.the-variants.{Box, Bend, Line}
@@ -23,7 +24,7 @@ use Rattle.marks.specs.Half.{point5, halfOf, wholeOf}
 use Rattle.marks.specs.Marks.{pointAt, upperEnd, lowerEnd, markOf}
 use Rattle.marks.specs.Exact.{StandsAt, Exact}
 use Rattle.marks.specs.Asked.{InReach}
-use Rattle.marks.proofs.Laws.{level-most, height-most, within-at}
+use Rattle.marks.proofs.Laws.{height-most, within-at}
 
 -- ---- the cast
 pub cast-holds : (x : ℤ) → natAbs x ≤ 2 ^ 40 → T (inFloat binary64 x)

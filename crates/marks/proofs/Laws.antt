@@ -1,30 +1,22 @@
 -- Bounds that the marks' numbers need, of a level, a height and a position; and a plan's marks by its lists. Assumes nothing.
 use mathlib.Core.Path.{_≡_}
 use mathlib.Core.Bool.{Bool, true, false, cond}
-use mathlib.Core.List.{List, [], _∷_}
-use Prim.Native.Nat.{ℕ, suc, _+_, _*_, _-_, _≤_, _<_}
+use mathlib.Core.List.{List}
+use Prim.Native.Nat.{ℕ, _*_, _-_, _≤_, _<_}
 use native.Mathlib.Nat.{mul-le-mul}
 use native.Mathlib.Omega.{arith}
 use borrow.Author.Tests.{lt-ltb, le-ltb}
-use lib.Dec.{ltb}
 use lib.ListN.{length, getD}
 use lib.IntN.{ℤ, natAbs}
-use Rattle.ints.proofs.Laws.{abs, if-ind}
+use Rattle.ints.proofs.Laws.{abs}
 use Rattle.ints.proofs.Reach.{within-at as size-at}
-use Rattle.plan.specs.Plan.{PlanData, levelIn, levelOf, heightOf}
+use Rattle.plan.specs.Plan.{PlanData, levelOf, heightOf}
 use Rattle.passes.specs.State.{positionOf}
 use Rattle.ints.specs.Reach.{reach, allWithin}
 use Rattle.marks.specs.declared.types.Mark.the-variants.{Box, Bend, Line}
 use Rattle.marks.specs.Half.{wholeOf}
 use Rattle.marks.specs.Marks.{markOf}
 use Rattle.marks.specs.Asked.{pointIn, DataOf}
-
-pub level-most : (ns : List ℕ) (v : ℕ) → levelIn ns v ≤ length ns + 1
-unfolding levelIn
-level-most [] v = omega arith
-level-most (n ∷ ns) v =
-    let more = level-most ns (v - n) in
-    if-ind (ltb v n) 1 (suc (levelIn ns (v - n))) (λ l. l ≤ suc (length ns) + 1) (λ t. omega arith) (λ t. omega arith)
 
 pub height-most : (s l : ℕ) → s ≤ 10000 → l ≤ 64 → s * l ≤ 640000
 height-most s l h k = mul-le-mul h k

@@ -1,14 +1,14 @@
 -- Where the via on the preceding level is that is joined to a via: on the level above, or in pass 2 on that below; and so where the
 -- table of marks is read, in each pass and on each level. Assumes nothing.
-use Prim.Native.Nat.{ℕ, zero, suc, _+_, _-_, _<_, _≤_}
-use mathlib.Core.Path.{_≡_, refl, sym, _∙_, ap, subst}
+use Prim.Native.Nat.{ℕ, suc, _+_, _-_, _<_, _≤_}
+use mathlib.Core.Path.{_≡_, sym, _∙_, ap, subst}
 use mathlib.Core.Bool.{true}
 use mathlib.Core.List.{List, [], _∷_}
 use mathlib.Core.Logic.{inl, inr}
 use mathlib.Core.Option.{none, some}
 use native.Mathlib.Omega.{arith}
 use borrow.Author.Tests.{eq-eqb, ne-eqb}
-use lib.ListN.{getD, take}
+use lib.ListN.{take}
 use Rattle.ints.specs.Lists.{sum}
 use Rattle.ints.proofs.Laws.{if-ind}
 use Rattle.plan.specs.Plan.{PlanData, isVia, levelOf}
@@ -20,7 +20,9 @@ use Rattle.run.proofs.Sorted.{and-make}
 use Rattle.passes.specs.Ready.{preceding, firstVia, joinedVia}
 use Rattle.demand3.proofs.Levels.{firstOn, sizeOn, On, level-on, has-level, HasLevel}
 use Rattle.demand3.proofs.Sound.{sound, via-vertex}
-use Rattle.moments.proofs.RunEnds.{same-some, never}
+use Rattle.demand3.proofs.ReadyVias.{never}
+use Rattle.demand3.proofs.Tally.{take-more}
+use Rattle.moments.proofs.RunEnds.{same-some}
 
 -- ---- inner segments
 inner-mem : (p : PlanData) (ss : List Segment) (s : Segment) → Mem s ss → isInner p s ≡ true → Mem s (innerIn p ss)
@@ -69,13 +71,6 @@ joined-to p q v w e = if-ind (isVia p v) (firstVia p (preceding p q v)) none (λ
     (λ t f. never w f) e
 
 -- ---- its level
-take-more : (ns : List ℕ) (k : ℕ) → sum (take (suc k) ns) ≡ sum (take k ns) + getD ns k 0
-unfolding sum
-take-more [] zero = refl
-take-more [] (suc k) = refl
-take-more (n ∷ ns) zero = omega arith
-take-more (n ∷ ns) (suc k) = omega (arith, take-more ns k)
-
 pub first-next : (p : PlanData) (l : ℕ) → 1 ≤ l → firstOn p (suc l) ≡ firstOn p l + sizeOn p l
 unfolding firstOn sizeOn
 first-next p l h = let e : suc l - 1 ≡ suc (l - 1) = omega arith in ap (λ (k : ℕ). sum (take k (p .sizes))) e ∙ take-more (p .sizes) (l - 1)

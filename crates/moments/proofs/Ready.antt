@@ -4,7 +4,7 @@ use Prim.Native.Nat.{ℕ, zero, suc, _+_, _-_, _<_, _≤_}
 use mathlib.Core.Path.{_≡_, refl, sym, _∙_, ap, subst}
 use mathlib.Core.Bool.{Bool, true, false, cond}
 use mathlib.Core.List.{List}
-use mathlib.Core.Logic.{_⊎_, inl, inr, ⊎-elim}
+use mathlib.Core.Logic.{⊎-elim}
 use mathlib.Core.Option.{Option, none, some}
 use native.Mathlib.Omega.{arith}
 use borrow.Author.Tests.{leb-true, eq-eqb, ne-eqb, eqb-true}
@@ -22,15 +22,16 @@ use Rattle.passes.specs.Ready.{joinedVia, orElse, nearestLeft, nearestRight, se
 use Rattle.demand3.proofs.All.{no-true}
 use Rattle.demand3.proofs.Levels.{firstOn, sizeOn, On, level-is, level-on, level-within}
 use Rattle.demand3.proofs.Sound.{Sound, sound, via-vertex}
-use Rattle.demand3.proofs.RunsOn.{IsRun}
+use Rattle.demand3.proofs.RunsOn.{IsRun, left-via, right-via}
 use Rattle.demand3.proofs.Edges.{left-at, right-at}
+use Rattle.demand3.proofs.ReadyVias.{or-cases, never}
 use Rattle.draw.specs.Joins.{noVertex, joinedAt, marksIn, readyBy, orNone}
 use Rattle.draw.proofs.Neighbours.{joined-is}
 use Rattle.draw.proofs.Nearest.{left-is, right-is}
 use Rattle.draw.proofs.Between.{none-between, same-between}
 use Rattle.draw.proofs.SettledMarks.{Unsettled, unmarked-settled, settled-unmarked}
 use Rattle.moments.specs.Moments.{Neighbouring, Tables}
-use Rattle.moments.proofs.RunEnds.{never, left-on, right-on, left-via, right-via}
+use Rattle.moments.proofs.RunEnds.{left-on, right-on}
 use Rattle.moments.proofs.JoinedLevels.{joined-to, joined-has, joined-many, joined-above, joined-below}
 
 -- ---- the via on the run's level, of the n from c on, that the nearest w is joined to
@@ -46,10 +47,6 @@ found-here c n w s j = record { via = c; from = omega arith; to = omega arith; s
 
 found-more : {p : PlanData} {q : ℕ} (c n w : ℕ) {Q : ℕ → Type 0} → Found p q (c + 1) n w Q → Found p q c (suc n) w Q
 found-more c n w g = record { via = g .via; from = omega (arith, g .from); to = omega (arith, g .to); side = g .side; joined = g .joined }
-
-or-cases : (a b : Option ℕ) (w : ℕ) → orElse a b ≡ some w → (a ≡ some w) ⊎ (b ≡ some w)
-or-cases none b w e = inr e
-or-cases (some u) b w e = inl e
 
 module _ (p : PlanData) (q bound : ℕ) where
   found-left : (c n w : ℕ) → nearestLeft p q bound (numbers c n) ≡ some w → Found p q c n w (λ v. v ≤ bound)

@@ -1,9 +1,9 @@
 -- The vias beside a run: where they stand, and that each via of a level is on the left of exactly one run. Assumes nothing.
 use Prim.Native.Nat.{ℕ, suc, _-_, _<_, _≤_}
-use mathlib.Core.Path.{_≡_, sym, _∙_, ap, subst}
+use mathlib.Core.Path.{_≡_, sym, _∙_, ap}
 use mathlib.Core.Bool.{true}
 use mathlib.Core.List.{List, _∷_}
-use mathlib.Core.Option.{Option, none, some}
+use mathlib.Core.Option.{Option, some}
 use native.Mathlib.Omega.{arith}
 use lib.ListN.{length, getD}
 use Rattle.ints.proofs.Laws.{cases}
@@ -11,22 +11,11 @@ use Rattle.plan.specs.Plan.{PlanData, isVia}
 use Rattle.passes.specs.Runs.{Run, noRun, runAt, runsOn}
 use Rattle.demand3.proofs.All.{no-true}
 use Rattle.demand3.proofs.Levels.{firstOn, On, level-on}
-use Rattle.demand3.proofs.RunsOn.{LeftEnd, no-left, via-left, RightEnd, no-right, via-right, RunsTo, last, next, IsRun, bounds, viasIn, level-runs, run-at, run-level}
+use Rattle.demand3.proofs.RunsOn.{RunsTo, last, next, IsRun, bounds, viasIn, level-runs, run-at, run-level}
 use Rattle.demand3.proofs.Edges.{left-at, right-at}
 
 pub same-some : (a b : ℕ) → some a ≡ some b → a ≡ b
 same-some a b e = cc
-
-pub never : {G : Type 0} (a : ℕ) → _≡_ {A = Option ℕ} none (some a) → G
-never a e = let z : _≡_ {A = ℕ} 0 1 = cc in absurd (omega arith)
-
-left-end : {p : PlanData} {b : ℕ} {o : Option ℕ} {low first : ℕ} → LeftEnd p b o low first → (a : ℕ) → o ≡ some a → isVia p a ≡ true
-left-end (no-left e f) a z = never a z
-left-end {p} (via-left {v = v} e f g t) a z = subst (λ u. isVia p u ≡ true) (same-some v a z) t
-
-right-end : {p : PlanData} {b : ℕ} {o : Option ℕ} {past high : ℕ} → RightEnd p b o past high → (a : ℕ) → o ≡ some a → isVia p a ≡ true
-right-end (no-right e f) a z = never a z
-right-end {p} (via-right {v = v} e f g t) a z = subst (λ u. isVia p u ≡ true) (same-some v a z) t
 
 module _ {p : PlanData} {r : Run} (i : IsRun p r) (a : ℕ) where
   pub left-on : r .left ≡ some a → On p (r .level) a
@@ -34,12 +23,6 @@ module _ {p : PlanData} {r : Run} (i : IsRun p r) (a : ℕ) where
 
   pub right-on : r .right ≡ some a → On p (r .level) a
   right-on e = let b = bounds i in let l = right-at a (i .ends) e in record { from = omega arith; to = omega arith }
-
-  pub left-via : r .left ≡ some a → isVia p a ≡ true
-  left-via e = left-end (i .begins) a e
-
-  pub right-via : r .right ≡ some a → isVia p a ≡ true
-  right-via e = right-end (i .ends) a e
 
 -- ---- the run on the right of a via
 pub one-right : {p : PlanData} {r r′ : Run} (i : IsRun p r) (j : IsRun p r′) (a : ℕ) → r .left ≡ some a → r′ .left ≡ some a → r ≡ r′

@@ -21,7 +21,7 @@ use Rattle.passes.specs.Ready.{equals, doubledSpan, exactlyApart, hasNoSlack, i
 use Rattle.demand3.proofs.All.{no-true, cond-both}
 use Rattle.demand3.proofs.Levels.{firstOn, sizeOn, On, has-level}
 use Rattle.demand3.proofs.Sound.{sound}
-use Rattle.demand3.proofs.RunsOn.{RightEnd, no-right, via-right, IsRun, bounds, members-are}
+use Rattle.demand3.proofs.RunsOn.{RightEnd, no-right, via-right, IsRun, bounds, members-are, left-via, right-via}
 use Rattle.demand3.proofs.Edges.{left-at, right-at}
 use Rattle.demand3.proofs.Trace.{start, start-apart}
 use Rattle.draw.specs.Tables.{total, nextVia, isLoose, looseFrom, startsLoose, along, levelwise}
@@ -29,7 +29,7 @@ use Rattle.draw.proofs.LevelLaws.{along-length, levelwise-get}
 use Rattle.draw.proofs.RowLaws.{total-same}
 use Rattle.draw.proofs.RunLaws.{next as next-via}
 use Rattle.draw.proofs.SettledMarks.{BoundedAt, Unsettled}
-use Rattle.moments.proofs.RunEnds.{left-on, left-via, right-via, right-of}
+use Rattle.moments.proofs.RunEnds.{left-on, right-of}
 
 -- ---- a table written level by level
 levelwise-length : {A : Type 0} (f : ℕ → ℕ → A) (v : ℕ) (ns : List ℕ) → length (levelwise f v ns) ≡ sum ns

@@ -13,6 +13,7 @@ use Rattle.ints.proofs.Laws.{cases}
 use Rattle.run.proofs.Sorted.{and-make}
 use Rattle.plan.specs.Plan.{PlanData, numbers}
 use Rattle.plan.specs.Acceptable.{acceptable}
+use Rattle.plan.proofs.Sound.{sound as sound-plan}
 use Rattle.passes.specs.State.{State, positionOf}
 use Rattle.passes.specs.Passes.{boundAt, distanceFrom, boxesAt, placed}
 use Rattle.demand3.proofs.All.{All}
@@ -33,7 +34,7 @@ use Rattle.placing.proofs.LevelEnds.{last-none}
 use Rattle.placing.proofs.Boxes.{near-is, counts-are, rows-rise, rows-inside, sum-rows, boxes-are}
 use Rattle.placing.proofs.Sides.{LeftIs, left-is, RightIs, right-is, right-last}
 use Rattle.demand3.proofs.DrawingWithin.{within-lies}
-use Rattle.placing.proofs.Tests.{part-within, map-within, all-distances, gap-low}
+use Rattle.placing.proofs.Tests.{part-within, map-within, all-distances}
 
 five : (a b c d e : Bool) → a ≡ true → b ≡ true → c ≡ true → d ≡ true → e ≡ true → a && b && c && d && e ≡ true
 five a b c d e f g h i j = rw (f, g, h, i, j)
@@ -129,7 +130,7 @@ module _ (p : PlanData) (ok : acceptable p ≡ true) (past : List Visit) (w : Vi
       all-far = all-distances distances (λ k h. let v = i .low + k in let d = side-of i v (omega arith) (omega (arith, distances-long)) in
           let e : getD distances k 0 ≡ getD (s .apart) v 0 = distance k (omega (arith, distances-long, b .right1, r .past)) in
           let l = past-lies p ok past (w ∷ coming) whole in (
-            omega (arith, inv .wide v d, gap-low p ok),
+            omega (arith, inv .wide v d, sound-plan p ok .limits .gap-low),
             omega (arith, inv .spaced v d, l .at v .left, l .at (suc v) .right),
           ))
 

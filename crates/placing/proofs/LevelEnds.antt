@@ -13,14 +13,8 @@ use Rattle.demand3.proofs.All.{all-nil, all-cons}
 use Rattle.demand3.proofs.Levels.{firstOn, sizeOn, level-on}
 use Rattle.demand3.proofs.RunsOn.{IsRun, bounds}
 use Rattle.demand3.proofs.Schedule.{ToRuns, Visit, visitAll}
-use Rattle.demand3.proofs.Trace.{start}
+use Rattle.demand3.proofs.Trace.{length-doubled, start}
 use Rattle.demand3.proofs.Frame.{pair-still, visit-keeps}
-
-length-doubled : (p : PlanData) (v n : ℕ) → length (doubledOn p (numbers v n)) ≡ n
-unfolding doubledOn numbers
-length-doubled p v zero = refl
-length-doubled p v (suc zero) = refl
-length-doubled p v (suc (suc n)) = ap suc (length-doubled p (v + 1) (suc n))
 
 doubled-last : (p : PlanData) (v n i : ℕ) → suc i ≡ n → getD (doubledOn p (numbers v n)) i 0 ≡ 0
 unfolding doubledOn numbers

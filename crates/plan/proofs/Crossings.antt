@@ -1,7 +1,7 @@
 -- Check 6 by one walk: where checks 3 and 4 hold, two inner segments cross exactly if the lower end of some inner segment is
 -- less than that of the inner segment before it. Segments are sorted by upper end, so of two that cross the one with the
 -- upper end on the left comes first. And each goes one level down, so lower ends that fall are on one level. Assumes nothing.
-use Prim.Native.Nat.{ℕ, suc, _+_, _-_, _<_, _≤_}
+use Prim.Native.Nat.{ℕ, _+_, _-_, _<_, _≤_}
 use mathlib.Core.Path.{_≡_, refl, sym}
 use mathlib.Core.Bool.{Bool, true, false, cond, not, _&&_}
 use mathlib.Core.List.{List, [], _∷_}
@@ -13,24 +13,10 @@ use Rattle.plan.specs.Plan.{PlanData, vertexCount, levelIn, levelOf}
 use Rattle.plan.specs.Segments.{Segment, segmentsOf, isInner, innerIn, innerSegments}
 use Rattle.plan.specs.Checks.{every, some, goesOneDown, check3, comesBefore, rising, check4, crosses, check6}
 use Rattle.plan.specs.Graph.{lowersRise}
+use Rattle.plan.proofs.LevelLaws.{level-low}
+use Rattle.plan.proofs.TestLaws.{and-left, and-right, cond-left, cond-right}
 
 -- ---- Bool
-pub and-left : (a b : Bool) → (a && b) ≡ true → a ≡ true
-and-left true b h = refl
-and-left false b h = h
-
-pub and-right : (a b : Bool) → (a && b) ≡ true → b ≡ true
-and-right true b h = h
-and-right false b h = let z : _≡_ {A = ℕ} 0 1 = cc in absurd (omega arith)
-
-pub cond-left : (c x : Bool) → cond c x false ≡ true → c ≡ true
-cond-left true x h = refl
-cond-left false x h = h
-
-pub cond-right : (c x : Bool) → cond c x false ≡ true → x ≡ true
-cond-right true x h = h
-cond-right false x h = let z : _≡_ {A = ℕ} 0 1 = cc in absurd (omega arith)
-
 not-same : (x y : Bool) → (x ≡ false → y ≡ true) → (y ≡ true → x ≡ false) → not x ≡ y
 not-same true true f g = sym (g refl)
 not-same true false f g = refl
@@ -139,17 +125,12 @@ module _ (p : PlanData) where
       if-ind (isInner p s) (s ∷ innerIn p ss) (innerIn p ss) (λ l. Pairs R l) (λ e. pairs-more (inner-all h) (inner-pairs k)) (λ e. inner-pairs k)
 
 -- ---- levels
-level-above : (ns : List ℕ) (v : ℕ) → 1 ≤ levelIn ns v
-unfolding levelIn
-level-above [] v = omega arith
-level-above (n ∷ ns) v = if-ind (ltb v n) 1 (suc (levelIn ns (v - n))) (λ k. 1 ≤ k) (λ e. omega arith) (λ e. omega arith)
-
 pub level-rises : (ns : List ℕ) (v w : ℕ) → v ≤ w → levelIn ns v ≤ levelIn ns w
 unfolding levelIn
 level-rises [] v w h = omega arith
 level-rises (n ∷ ns) v w h = cases n v
     (λ k. rw (le-ltb v n k, le-ltb w n (omega arith)) (omega (arith, level-rises ns (v - n) (w - n) (omega arith))))
-    (λ k. rw (lt-ltb v n k) (level-above (n ∷ ns) w))
+    (λ k. rw (lt-ltb v n k) (level-low (n ∷ ns) w))
 
 -- ---- two segments that cross, of two in order
 module _ (p : PlanData) where

@@ -12,7 +12,7 @@ use Rattle.plan.specs.Plan.{PlanData, vertexCount, levelOf}
 use Rattle.plan.specs.Segments.{Segment, segmentsFrom, segmentsOf, innerIn, innerSegments}
 use Rattle.plan.specs.Checks.{every, some, goesOneDown, check3, check4, isThrough, check5, crosses, check6}
 use Rattle.plan.specs.Graph.{graphOf, segment, Within, InLimits, firstFailed}
-use Rattle.plan.proofs.Crossings.{and-left, and-right, cond-left, cond-right}
+use Rattle.plan.proofs.TestLaws.{and-left, and-right, cond-left, cond-right}
 
 -- ---- every end is a vertex
 module _ (p : PlanData) where

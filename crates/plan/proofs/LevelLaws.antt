@@ -1,16 +1,30 @@
--- Laws of `filled` and `levelIn`, as a walk over the levels meets them. Assumes nothing.
+-- Laws of `numbers`, `filled` and `levelIn`, these as a walk over the levels meets them. Assumes nothing.
 use Prim.Native.Nat.{ℕ, zero, suc, _+_, _-_, _<_, _≤_, min}
 use mathlib.Core.Path.{_≡_, refl, sym, _∙_, ap}
-use mathlib.Core.List.{List}
+use mathlib.Core.List.{List, [], _∷_, _++_}
 use native.Mathlib.Nat.{zero-add}
 use native.Mathlib.Omega.{arith}
 use native.Mathlib.Numerals.{add-one}
-use borrow.Author.Tests.{lt-ltb, le-ltb}
+use borrow.Author.Tests.{lt-ltb, le-ltb, ltb-false}
+use lib.Dec.{ltb}
 use lib.ListN.{length, getD, drop, set, length-set, drop-of-length-le}
 use lib.Seq.{drop-cons, getD-set-same, getD-set-other}
-use Rattle.ints.proofs.Laws.{cases}
-use Rattle.plan.specs.Plan.{levelIn}
+use Rattle.ints.specs.Lists.{sum}
+use Rattle.ints.proofs.Laws.{if-ind, cases}
+use Rattle.plan.specs.Plan.{numbers, levelIn}
 use Rattle.plan.specs.Graph.{filled}
+
+-- ---- numbers
+pub numbers-append : (v a b : ℕ) → numbers v (a + b) ≡ numbers v a ++ numbers (v + a) b
+unfolding numbers
+numbers-append v zero b =
+    let e : 0 + b ≡ b = omega arith in
+    let f : v + 0 ≡ v = omega arith in
+    rw (e, f)
+numbers-append v (suc a) b =
+    let e : suc a + b ≡ suc (a + b) = omega arith in
+    let f : v + suc a ≡ v + 1 + a = omega arith in
+    rw (e, f, numbers-append (v + 1) a b)
 
 -- ---- filled
 pub filled-none : (xs : List ℕ) (at n l : ℕ) → n ≡ 0 → filled xs at n l ≡ xs
@@ -39,6 +53,25 @@ filled-in xs at (suc n) l v h k m = cases v at
     (λ e. let same : v ≡ at = omega arith in
     filled-before (set xs at l) (at + 1) n l v (omega arith) ∙ ap (λ (i : ℕ). getD (set xs at l) i 0) same ∙ getD-set-same xs at l 0 (omega arith))
     (λ e. filled-in (set xs at l) (at + 1) n l v (omega arith) (omega arith) (rw length-set m))
+
+-- ---- levelIn, of any number and of a vertex
+pub level-low : (ns : List ℕ) (v : ℕ) → 1 ≤ levelIn ns v
+unfolding levelIn
+level-low [] v = omega arith
+level-low (n ∷ ns) v = if-ind (ltb v n) 1 (suc (levelIn ns (v - n))) (λ l. 1 ≤ l) (λ t. omega arith) (λ t. omega arith)
+
+pub level-most : (ns : List ℕ) (v : ℕ) → levelIn ns v ≤ length ns + 1
+unfolding levelIn
+level-most [] v = omega arith
+level-most (n ∷ ns) v =
+    let more = level-most ns (v - n) in
+    if-ind (ltb v n) 1 (suc (levelIn ns (v - n))) (λ l. l ≤ suc (length ns) + 1) (λ t. omega arith) (λ t. omega arith)
+
+pub level-high : (ns : List ℕ) (v : ℕ) → v < sum ns → levelIn ns v ≤ length ns
+unfolding levelIn sum
+level-high [] v h = absurd (omega arith)
+level-high (n ∷ ns) v h = if-ind (ltb v n) 1 (suc (levelIn ns (v - n))) (λ l. l ≤ suc (length ns)) (λ t. omega arith)
+    (λ t. let k = ltb-false v n t in let j = level-high ns (v - n) (omega arith) in omega arith)
 
 -- ---- levelIn, below the first i levels
 module _ (ns : List ℕ) (i v : ℕ) where

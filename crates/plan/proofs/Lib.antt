@@ -1,4 +1,6 @@
 pub mod Open
+pub mod TestLaws
+pub mod LimitLaws
 pub mod LevelLaws
 pub mod SegmentLaws
 pub mod CountLaws

@@ -1,41 +1,27 @@
 -- What the checks say of a plan that passes them, as plain facts: its limits, its levels, and its inner segments. Assumes nothing.
 use mathlib.Core.Path.{_≡_, refl, sym, _∙_, ap}
 use mathlib.Core.Logic.{_⊎_, inl, inr}
-use mathlib.Core.Bool.{Bool, true, false, cond, _&&_, true≢false, false≢true}
+use mathlib.Core.Bool.{Bool, true, false, cond, _&&_, true≢false}
 use mathlib.Core.List.{List, [], _∷_, _++_}
-use Prim.Native.Nat.{ℕ, zero, suc, _+_, _-_, _≤_, _<_}
+use Prim.Native.Nat.{ℕ, zero, suc, _+_, _≤_, _<_}
 use native.Mathlib.Omega.{arith}
-use lib.Dec.{ltb, leb, eqb}
-use lib.ListN.{length, getD}
-use borrow.Author.Tests.{ltb-true, ltb-false, leb-true, eqb-true, lt-ltb, eq-eqb, not-true}
+use lib.Dec.{ltb, eqb}
+use lib.ListN.{length}
+use borrow.Author.Tests.{ltb-true, eqb-true, lt-ltb, eq-eqb, not-true}
 use Rattle.ints.proofs.Laws.{if-ind, cases}
-use Rattle.plan.specs.Plan.{PlanData, vertexCount, isVia, halfWidth, distance, numbers, levelIn, levelOf}
+use Rattle.plan.specs.Plan.{PlanData, vertexCount, isVia, distance, numbers, levelOf}
 use Rattle.plan.specs.Segments.{Segment, segmentsOf, aboveIn, belowIn, isInner, innerIn, innerSegments}
-use Rattle.plan.specs.Limits.{within}
 use Rattle.plan.specs.Checks.{every, some, goesOneDown, check3, rising, check4, check5, isThrough, crosses, check6}
-use Rattle.ints.specs.Lists.{sum}
-use Rattle.plan.specs.Acceptable.{halfHolds, halvesHold, limitsHold, acceptable}
+use Rattle.plan.specs.Graph.{Within}
+use Rattle.plan.specs.Acceptable.{limitsHold, acceptable}
+use Rattle.plan.proofs.TestLaws.{and-left, and-right, cond-left, cond-right, conj-at}
+use Rattle.plan.proofs.LimitLaws.{Limits, limits}
+use Rattle.plan.proofs.GraphLaws.{within-of, same-3}
 
 -- ---- members of a list
 abbrev pub Mem : {A : Type 0} → A → List A → Type 0
 Mem x [] = ⊥
 Mem x (y ∷ ys) = (x ≡ y) ⊎ Mem x ys
-
-pub and-left : (a b : Bool) → a && b ≡ true → a ≡ true
-and-left true b e = refl
-and-left false b e = e
-
-pub and-right : (a b : Bool) → a && b ≡ true → b ≡ true
-and-right true b e = e
-and-right false b e = absurd (false≢true e)
-
-cond-left : (a b : Bool) → cond a b false ≡ true → a ≡ true
-cond-left true b e = refl
-cond-left false b e = e
-
-cond-right : (a b : Bool) → cond a b false ≡ true → b ≡ true
-cond-right true b e = e
-cond-right false b e = absurd (false≢true e)
 
 or-left : (a b : Bool) → cond a true b ≡ false → a ≡ false
 or-left true b e = e
@@ -95,82 +81,8 @@ numbers-mem a zero v n = absurd n
 numbers-mem a (suc m) v (inl e) = omega arith
 numbers-mem a (suc m) v (inr n) = omega (arith, numbers-mem (a + 1) m v n)
 
--- ---- limits
-half-le : (b : Bool) (h : ℕ) → halfHolds b h ≡ true → h ≤ 200
-half-le true h e = omega (arith, eqb-true h 0 e)
-half-le false h e = leb-true h 200 (and-right (leb 1 h) (leb h 200) e)
-
-halves-le : (vs : List Bool) (hs : List ℕ) (v : ℕ) → halvesHold vs hs ≡ true → getD hs v 0 ≤ 200
-unfolding halvesHold
-halves-le [] [] v e = omega arith
-halves-le [] (h ∷ hs) v e = absurd (false≢true e)
-halves-le (b ∷ vs) [] v e = absurd (false≢true e)
-halves-le (b ∷ vs) (h ∷ hs) zero e = half-le b h (cond-left (halfHolds b h) (halvesHold vs hs) e)
-halves-le (b ∷ vs) (h ∷ hs) (suc v) e = halves-le vs hs v (cond-right (halfHolds b h) (halvesHold vs hs) e)
-
-pub record Limits (p : PlanData) : Type 0 where
-  pub levels-low : 1 ≤ p .levels
-  pub levels-high : p .levels ≤ 64
-  pub gap-high : p .gap ≤ 100
-  pub sizes-long : length (p .sizes) ≡ p .levels
-  pub sizes-sum : sum (p .sizes) ≡ vertexCount p
-  pub vertices : vertexCount p ≤ 1024
-  pub halves-high : (v : ℕ) → halfWidth p v ≤ 200
-
-record Parts (a b c d e f : Bool) : Type 0 where
-  pub a-is : a ≡ true
-  pub b-is : b ≡ true
-  pub c-is : c ≡ true
-  pub d-is : d ≡ true
-  pub e-is : e ≡ true
-  pub f-is : f ≡ true
-
-parts : (a b x c y d e f z w : Bool) → a && b && x && c && y && d && e && f && z && w ≡ true → Parts a b c d e f
-parts a b x c y d e f z w q =
-    let q8 = and-left (a && b && x && c && y && d && e && f) z (and-left (a && b && x && c && y && d && e && f && z) w q) in
-    let q7 = and-left (a && b && x && c && y && d && e) f q8 in
-    let q6 = and-left (a && b && x && c && y && d) e q7 in
-    let q4 = and-left (a && b && x && c) y (and-left (a && b && x && c && y) d q6) in
-    let q2 = and-left (a && b) x (and-left (a && b && x) c q4) in
-    record {
-      a-is = and-left a b q2;
-      b-is = and-right a b q2;
-      c-is = and-right (a && b && x) c q4;
-      d-is = and-right (a && b && x && c && y) d q6;
-      e-is = and-right (a && b && x && c && y && d) e q7;
-      f-is = and-right (a && b && x && c && y && d && e) f q8;
-    }
-
-limits : (p : PlanData) → limitsHold p ≡ true → Limits p
-unfolding limitsHold
-limits p q =
-    let r = parts (within 1 64 (p .levels)) (within 1 100 (p .gap)) (within 1 10000 (p .spacing)) (eqb (length (p .sizes)) (p .levels))
-    (every (within 1 64) (p .sizes)) (eqb (sum (p .sizes)) (vertexCount p)) (leb (vertexCount p) 1024) (halvesHold (p .vias) (p .halves))
-    (eqb (length (p .lowers)) (length (p .uppers))) (leb (length (p .uppers)) 2048) q in
-    record {
-      levels-low = leb-true 1 (p .levels) (and-left (leb 1 (p .levels)) (leb (p .levels) 64) (r .a-is));
-      levels-high = leb-true (p .levels) 64 (and-right (leb 1 (p .levels)) (leb (p .levels) 64) (r .a-is));
-      gap-high = leb-true (p .gap) 100 (and-right (leb 1 (p .gap)) (leb (p .gap) 100) (r .b-is));
-      sizes-long = eqb-true (length (p .sizes)) (p .levels) (r .c-is);
-      sizes-sum = eqb-true (sum (p .sizes)) (vertexCount p) (r .d-is);
-      vertices = leb-true (vertexCount p) 1024 (r .e-is);
-      halves-high = λ v. halves-le (p .vias) (p .halves) v (r .f-is);
-    }
-
 pub distance-high : (p : PlanData) → Limits p → (v w : ℕ) → distance p v w ≤ 500
 distance-high p l v w = omega (arith, l .halves-high v, l .halves-high w)
-
--- ---- levels
-pub level-low : (ns : List ℕ) (v : ℕ) → 1 ≤ levelIn ns v
-unfolding levelIn
-level-low [] v = omega arith
-level-low (n ∷ ns) v = if-ind (ltb v n) 1 (suc (levelIn ns (v - n))) (λ l. 1 ≤ l) (λ t. omega arith) (λ t. omega arith)
-
-pub level-high : (ns : List ℕ) (v : ℕ) → v < sum ns → levelIn ns v ≤ length ns
-unfolding levelIn sum
-level-high [] v h = absurd (omega arith)
-level-high (n ∷ ns) v h = if-ind (ltb v n) 1 (suc (levelIn ns (v - n))) (λ l. l ≤ suc (length ns)) (λ t. omega arith)
-    (λ t. let k = ltb-false v n t in let j = level-high ns (v - n) (omega arith) in omega arith)
 
 -- ---- segments
 module _ (p : PlanData) where
@@ -227,6 +139,8 @@ mem-below (t ∷ ss) u v m = if-ind (eqb (t .upper) u) (t .lower ∷ belowIn ss 
 -- ---- a plan that passes the checks
 pub record Sound (p : PlanData) : Type 0 where
   pub limits : Limits p
+  -- every end of a segment is a vertex
+  pub ends : Within (p .vias) (p .uppers) (p .lowers)
   pub down : (s : Segment) → Mem s (segmentsOf p) → Down p s
   pub sorted : rising (segmentsOf p) ≡ true
   -- a via has one neighbour above and one below
@@ -269,15 +183,16 @@ uncross p c s t m n e h =
 pub sound : (p : PlanData) → acceptable p ≡ true → Sound p
 unfolding acceptable innerSegments check4
 sound p q =
-    let a = limitsHold p in let b = check3 p in let c = check4 p in let d = check5 p in let e = check6 p in
-    let q4 = and-left (a && b && c && d) e q in let q3 = and-left (a && b && c) d q4 in let q2 = and-left (a && b) c q3 in
-    let goes′ = goes p (and-right a b q2) in
+    let test = conj-at (limitsHold p) (check3 p ∷ check4 p ∷ check5 p ∷ check6 p ∷ []) q in
+    let within = limits p (test 0) in
+    let goes′ = goes p (test 1) in
     let place = inner-in p (segmentsOf p) in
-    let via = one-each p (and-right (a && b && c) d q4) in
+    let via = one-each p (test 3) in
     record {
-      limits = limits p (and-left a b q2);
+      limits = within;
+      ends = within-of (p .sizes) (p .vias) (p .uppers) (p .lowers) (within .lists) (sym (same-3 p) ∙ test 1);
       down = goes′;
-      sorted = and-right (a && b) c q3;
+      sorted = test 2;
       through = via;
       inner-down = λ s m. goes′ s (place s m .0);
       inner-vias = λ s m. (and-left (isVia p (s .upper)) (isVia p (s .lower)) (place s m .1), and-right (isVia p (s .upper)) (isVia p (s .lower)) (place s m .1));
@@ -287,5 +202,5 @@ sound p q =
       one-down = λ s t m n k. mem-one (belowIn (segmentsOf p) (s .upper)) (s .lower) (t .lower)
           (via (s .upper) (goes′ s (place s m .0) .upper-in) (and-left (isVia p (s .upper)) (isVia p (s .lower)) (place s m .1)) .1)
           (below-mem (segmentsOf p) s (place s m .0)) (rw k (below-mem (segmentsOf p) t (place t n .0)));
-      uncrossed = uncross p (and-right (a && b && c && d) e q);
+      uncrossed = uncross p (test 4);
     }

@@ -9,18 +9,18 @@ use lib.IntN.{ℤ, pos, negsuc}
 use Rattle.ints.specs.Ints.{size, SizedTo}
 use Rattle.ints.specs.Lists.{concat}
 use Rattle.plan.specs.Plan.{numbers}
+use Rattle.plan.proofs.LevelLaws.{numbers-append}
 use Rattle.text.specs.Bytes.{bytes}
 use Rattle.text.specs.Decimal.{decimal, signed}
 use Rattle.text.proofs.DecimalLaws.{decimal-length}
 use Rattle.writing.specs.Written.{Room, Wrote}
 use Rattle.writing.proofs.Written.{wrote-none, wrote-long, and-then, and-both, room-after}
 use Rattle.ints.proofs.Lists.{concat-append, concat-one}
-use Rattle.writing.proofs.LineLaws.{numbers-add}
 use Rattle.position_lines.specs.Lines.{positionLine, linesTo}
 
 numbers-last : (v n : ℕ) → numbers v (n + 1) ≡ numbers v n ++ (v + n) ∷ []
 unfolding numbers
-numbers-last v n = numbers-add v n 1
+numbers-last v n = numbers-append v n 1
 
 module _ (xs : List ℤ) where
   abbrev line : ℕ → List ℕ

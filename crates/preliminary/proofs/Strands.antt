@@ -9,7 +9,8 @@ use native.Mathlib.Omega.{arith}
 use Rattle.plan.specs.Plan.{PlanData, vertexCount, isVia, levelOf}
 use Rattle.plan.specs.Segments.{Segment, aboveIn, belowIn, innerSegments}
 use Rattle.plan.specs.Strands.{topFrom, chainFrom, strandIn, follow}
-use Rattle.plan.proofs.Sound.{Mem, Sound, Joined, mem-above, mem-below, above-mem, below-mem, level-low, level-high}
+use Rattle.plan.proofs.Sound.{Mem, Sound, Joined, mem-above, mem-below, above-mem, below-mem}
+use Rattle.plan.proofs.LevelLaws.{level-low, level-high}
 
 -- the topmost vertex of v's strand, and the strand
 abbrev pub topOf : PlanData → ℕ → ℕ
@@ -69,7 +70,7 @@ module _ (p : PlanData) (S : Sound p) where
     joined = j;
   }
 
-  link-up : (u u′ v : ℕ) → Link p u v → Link p u′ v → u ≡ u′
+  pub link-up : (u u′ v : ℕ) → Link p u v → Link p u′ v → u ≡ u′
   link-up u u′ v l m = sym (l .joined .above-is) ∙ S .one-up (l .joined .segment) (m .joined .segment) (l .joined .listed) (m .joined .listed) (l .joined .below-is ∙ sym (m .joined .below-is)) ∙ m .joined .above-is
 
   pub link-down : (u v v′ : ℕ) → Link p u v → Link p u v′ → v ≡ v′
@@ -95,7 +96,7 @@ module _ (p : PlanData) (S : Sound p) where
   link-below u v l = rw (l .joined .above-is, l .joined .below-is) at (below-mem (innerSegments p) (l .joined .segment) (l .joined .listed))
 
   -- ---- tops
-  top-none : (m v : ℕ) → aboveIn (innerSegments p) v ≡ [] → topFrom (innerSegments p) m v ≡ v
+  pub top-none : (m v : ℕ) → aboveIn (innerSegments p) v ≡ [] → topFrom (innerSegments p) m v ≡ v
   unfolding topFrom
   top-none zero v e = refl
   top-none (suc m) v e = rw e (top-none m v e)

@@ -9,8 +9,9 @@ use borrow.Author.Tests.{lt-ltb, le-ltb}
 use lib.Dec.{eqb}
 use lib.ListN.{length}
 use lib.Ieee.{Float}
+use Rattle.plan.proofs.TestLaws.{conj-at}
 use Rattle.text.proofs.Words.{never}
-use Rattle.text.proofs.TestLaws.{_and_, conj-at}
+use Rattle.text.proofs.TestLaws.{_and_}
 use Rattle.passes.specs.Drawing.{drawingOf}
 use Rattle.passes.specs.Demand3.{Demand3}
 use Rattle.marks.specs.Marks.{markOf}

@@ -13,7 +13,7 @@ use Rattle.plan.specs.Segments.{segmentsOf, aboveIn, belowIn, innerSegments}
 use Rattle.plan.specs.Strands.{firstOr}
 use Rattle.plan.proofs.Sound.{Sound, mem-above, mem-below, above-mem, below-mem}
 use Rattle.plan.proofs.Crossings.{level-rises}
-use Rattle.preliminary.proofs.Strands.{Link, link, link-down}
+use Rattle.preliminary.proofs.Strands.{Link, link, link-up, link-down}
 use Rattle.strands.specs.Strands.{StrandLists, Strung}
 use Rattle.strands.proofs.StrandLaws.{Mutual, strung}
 use Rattle.starting.proofs.Ends.{below-ends, above-ends}
@@ -32,11 +32,6 @@ module _ (p : PlanData) (S : Sound p) where
   pub link-rises : (u v : ℕ) → Link p u v → u < v
   unfolding levelOf
   link-rises u v l = cases v u (λ h. absurd (omega (arith, l .down, level-rises (p .sizes) v u h))) (λ h. h)
-
-  link-up : (u u′ v : ℕ) → Link p u v → Link p u′ v → u ≡ u′
-  link-up u u′ v l m = sym (l .joined .above-is)
-      ∙ S .one-up (l .joined .segment) (m .joined .segment) (l .joined .listed) (m .joined .listed) (l .joined .below-is ∙ sym (m .joined .below-is))
-      ∙ m .joined .above-is
 
   module _ (next prev top : List ℕ) (L : StrandLists (p .vias) (p .uppers) (p .lowers) next prev top) where
     next-is : (v : ℕ) → v < vertexCount p → getD next v 0 ≡ firstOr 2048 (belowIn (innerSegments p) v)
@@ -75,7 +70,7 @@ module _ (p : PlanData) (S : Sound p) where
       where
         go : Over p prev v → getD prev v 0 ≡ u
         go (first e q) = absurd (rw (l .joined .below-is, e) at (above-mem (innerSegments p) (l .joined .segment) (l .joined .listed)))
-        go (over w ws e q m) = q ∙ link-up w u v m l
+        go (over w ws e q m) = q ∙ link-up p S w u v m l
 
     -- a link that leads to a vertex is an inner segment
     next-link : (v : ℕ) → v < vertexCount p → getD next v 0 < vertexCount p → Link p v (getD next v 0)

@@ -7,11 +7,11 @@ use Prim.Native.Nat.{ℕ, zero, suc, _+_, _≤_, _<_}
 use native.Mathlib.Omega.{arith}
 use lib.ListN.{length, getD}
 use Rattle.plan.specs.Plan.{PlanData, vertexCount, levelOf}
-use Rattle.plan.specs.Segments.{aboveIn, innerSegments}
+use Rattle.plan.specs.Segments.{innerSegments}
 use Rattle.plan.specs.Strands.{topFrom, chainFrom, strandIn}
 use Rattle.plan.specs.Acceptable.{acceptable}
 use Rattle.plan.proofs.Sound.{Sound, sound}
-use Rattle.preliminary.proofs.Strands.{low, high}
+use Rattle.preliminary.proofs.Strands.{low, high, top-none}
 use Rattle.strands.specs.Links.{chain}
 use Rattle.strands.specs.Strands.{StrandsBy, StrandLists}
 use Rattle.positions.specs.Sides.{PlanOf}
@@ -19,11 +19,6 @@ use Rattle.strands.proofs.ChainLaws.{along-end, chain-on}
 use Rattle.starting.proofs.LinkLaws.{Under, Over, link-rises, under-of, over-of, mutual-links, lists-strung}
 
 module _ (p : PlanData) (S : Sound p) (next prev top : List ℕ) (L : StrandLists (p .vias) (p .uppers) (p .lowers) next prev top) where
-  top-stays : (m v : ℕ) → aboveIn (innerSegments p) v ≡ [] → topFrom (innerSegments p) m v ≡ v
-  unfolding topFrom
-  top-stays zero v e = refl
-  top-stays (suc m) v e = rw e (top-stays m v e)
-
   top-is : (m v : ℕ) → v < vertexCount p → levelOf p v ≤ m → topFrom (innerSegments p) m v ≡ getD top v 0
   unfolding topFrom
   top-is zero v h k = absurd (omega (arith, low p S v))
@@ -33,7 +28,7 @@ module _ (p : PlanData) (S : Sound p) (next prev top : List ℕ) (L : StrandList
       inside = omega (arith, L .up .long)
 
       go : ((u : ℕ) → u < vertexCount p → levelOf p u ≤ m → topFrom (innerSegments p) m u ≡ getD top u 0) → Over p prev v → topFrom (innerSegments p) (suc m) v ≡ getD top v 0
-      go f (Over.first e q) = rw e (top-stays m v e ∙ sym (L .tops .first v inside (omega (arith, S .limits .vertices))))
+      go f (Over.first e q) = rw e (top-none p S m v e ∙ sym (L .tops .first v inside (omega (arith, S .limits .vertices))))
       go f (Over.over u us e q l) = rw e (f u (l .upper-in) (omega (arith, l .down)) ∙ ap (λ (x : ℕ). getD top x 0) (sym q) ∙ sym (L .tops .more v inside (rw q (link-rises p S u v l))))
 
   chain-last : (v : ℕ) → v < vertexCount p → getD next v 0 ≡ 2048 → chain next v ≡ v ∷ []

@@ -10,7 +10,7 @@ use lib.IntN.{ℤ, pos}
 use Rattle.plan.specs.Limits.{maxVertices}
 use Rattle.plan.specs.Plan.{PlanData}
 use Rattle.plan.specs.declared.data.Plan.{Plan}
-use Rattle.text.proofs.PlanOfText.{acceptable-of}
+use Rattle.plan.proofs.Sound.{sound}
 use Rattle.writing.proofs.AgainLaws.{stored-of}
 use Rattle.passes.specs.Drawing.{drawingOf}
 use Rattle.passes.specs.Stored.{padded}
@@ -30,7 +30,7 @@ pub plan-lists : (p : Plan) (c : Counts) → isPlanWith p c ≡ true
 plan-lists p c h =
     let s = stored-of p (c .vertices) (c .segments) h in
     record {
-      levelsAre = sym (acceptable-of (planWith p c) (s .plan) .limits .counted);
+      levelsAre = sym (sound (planWith p c) (s .plan) .limits .sizes-long);
       gapIs = refl;
       sizesAre = refl;
       viasAre = refl;

@@ -13,7 +13,7 @@ use Rattle.ints.specs.Lists.{sum, concat}
 use Rattle.plan.specs.Limits.{maxVertices, maxSegments}
 use Rattle.plan.specs.declared.data.Plan.{Plan}
 use Rattle.plan.specs.Acceptable.{acceptable}
-use Rattle.text.proofs.TestLaws.{conj-at}
+use Rattle.plan.proofs.TestLaws.{conj-at}
 use Rattle.writing.specs.Written.{Fronts}
 use Rattle.writing.proofs.AgainLaws.{stored-of}
 use Rattle.ints.specs.Reach.{allWithin}

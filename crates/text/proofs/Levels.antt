@@ -10,6 +10,7 @@ use lib.Seq.{sets}
 use Rattle.ints.specs.Lists.{concat}
 use Rattle.ints.proofs.Lists.{concat-append, concat-one}
 use Rattle.plan.specs.Checks.{every}
+use Rattle.plan.proofs.TestLaws.{and-left, and-right}
 use Rattle.text.specs.Bytes.{bytes}
 use Rattle.text.specs.Parser.{Got, got, nothing, Rule, then, again, word, many}
 use Rattle.text.specs.Form.{Vertex, levelLine}
@@ -20,7 +21,7 @@ use Rattle.text.specs.declared.form.Row.{Row}
 use Rattle.text.proofs.Words.{never}
 use Rattle.text.proofs.Lines.{then-then}
 use Rattle.text.proofs.Repeats.{Reached, reached-none, reached-more, reached-end}
-use Rattle.text.proofs.Stores.{sets-append, sets-more, every-more, both-first, both-second}
+use Rattle.text.proofs.Stores.{sets-append, sets-more, every-more}
 
 -- ---- one line
 -- "at least one" vertex, and the line's end
@@ -69,7 +70,7 @@ module _ (s : List ℕ) (at first : ℕ) (r : Row) (vias : List Bool) (halves : 
     onward = omega (arith, R .onward);
     fit = e ∙ rw (R .counted, R .fit);
     vias-stored = R .vias-stored;
-    halves-stored = λ t. R .halves-stored (both-second (leb (r .count) 64) (r .fit) (sym e ∙ t));
+    halves-stored = λ t. R .halves-stored (and-right (leb (r .count) 64) (r .fit) (sym e ∙ t));
   }
 
 -- ---- all lines
@@ -130,7 +131,7 @@ module _ (s : List ℕ) (from : ℕ) (sizes₀ : List ℕ) (vias₀ : List Bool)
           vias-stored = L .vias-stored ∙ rw (R .vias-stored) (sym (stored-more (λ v. v .via) vias₀ vertices (R .rows) (L .vertices) (R .vertices-are)));
           halves-stored = λ e.
               let b : (fit && r .fit) ≡ true = sym f ∙ e in
-              L .halves-stored (both-second fit (r .fit) b) ∙ rw (R .halves-stored (both-first fit (r .fit) b)) (sym (stored-more (λ v. v .half) halves₀ vertices (R .rows) (L .vertices) (R .vertices-are)));
+              L .halves-stored (and-right fit (r .fit) b) ∙ rw (R .halves-stored (and-left fit (r .fit) b)) (sym (stored-more (λ v. v .half) halves₀ vertices (R .rows) (L .vertices) (R .vertices-are)));
           sizes-long = rw (p, length-set) (R .sizes-long);
           vias-long = lv ∙ R .vias-long;
           halves-long = lh ∙ R .halves-long;

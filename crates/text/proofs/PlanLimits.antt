@@ -14,55 +14,19 @@ use Rattle.plan.specs.Plan.{PlanData, vertexCount, levelOf}
 use Rattle.plan.specs.Segments.{Segment, segmentsFrom, segmentsOf}
 use Rattle.plan.specs.Limits.{within, maxLevels, maxGap, maxSpacing, maxOnLevel, maxVertices, maxSegments}
 use Rattle.plan.specs.Checks.{every, goesOneDown, check3}
-use Rattle.plan.specs.Acceptable.{halvesHold, limitsHold}
+use Rattle.plan.specs.Acceptable.{limitsHold}
+use Rattle.plan.proofs.TestLaws.{and-left, and-right, conj-at}
+use Rattle.plan.proofs.LimitLaws.{LimitTests, within-most}
 use Rattle.text.specs.Form.{Vertex, Lines}
 use Rattle.text.specs.Reading.{halfInLimit, rowInLimit, check2, stored}
-use Rattle.text.proofs.Stores.{both-first, both-second}
-use Rattle.text.proofs.TestLaws.{_and_, conj-at, every-so, every-and}
+use Rattle.text.proofs.TestLaws.{_and_, every-so, every-and}
 use Rattle.text.proofs.DecimalLaws.{fits}
 use Rattle.text.proofs.WrittenLines.{vertexOk, segmentOk}
 use Rattle.text.proofs.WrittenForm.{LinesOk}
 use Rattle.text.proofs.PlanLines.{verticesFrom, vertices-of, halves-hold, rowsFrom, rows-of, sizes-hold, order-holds, uppers-again, linesFrom, lines-stored}
 
 -- ---- the limits of data
-pub record Limits (p : PlanData) : Type 0 where
-  pub levels : within 1 maxLevels (p .levels) ≡ true
-  pub gap : within 1 maxGap (p .gap) ≡ true
-  pub spacing : within 1 maxSpacing (p .spacing) ≡ true
-  pub counted : length (p .sizes) ≡ p .levels
-  pub sizes : every (within 1 maxOnLevel) (p .sizes) ≡ true
-  pub summed : sum (p .sizes) ≡ length (p .vias)
-  pub vertices : length (p .vias) ≤ maxVertices
-  pub halves : halvesHold (p .vias) (p .halves) ≡ true
-  pub ends : length (p .lowers) ≡ length (p .uppers)
-  pub segments : length (p .uppers) ≤ maxSegments
-
--- the tests of `limitsHold` after the first
-abbrev furtherLimits : PlanData → List Bool
-furtherLimits p =
-    within 1 maxGap (p .gap) ∷ within 1 maxSpacing (p .spacing)
-    ∷ eqb (length (p .sizes)) (p .levels) ∷ every (within 1 maxOnLevel) (p .sizes) ∷ eqb (sum (p .sizes)) (vertexCount p)
-    ∷ leb (vertexCount p) maxVertices ∷ halvesHold (p .vias) (p .halves)
-    ∷ eqb (length (p .lowers)) (length (p .uppers)) ∷ leb (length (p .uppers)) maxSegments ∷ []
-
-pub limits-of : (p : PlanData) → limitsHold p ≡ true → Limits p
-unfolding limitsHold
-limits-of p h =
-    let test = conj-at (within 1 maxLevels (p .levels)) (furtherLimits p) h in
-    record {
-      levels = test 0;
-      gap = test 1;
-      spacing = test 2;
-      counted = eqb-true (length (p .sizes)) (p .levels) (test 3);
-      sizes = test 4;
-      summed = eqb-true (sum (p .sizes)) (vertexCount p) (test 5);
-      vertices = leb-true (vertexCount p) maxVertices (test 6);
-      halves = test 7;
-      ends = eqb-true (length (p .lowers)) (length (p .uppers)) (test 8);
-      segments = leb-true (length (p .uppers)) maxSegments (test 9);
-    }
-
-pub limits-hold : (p : PlanData) → Limits p → limitsHold p ≡ true
+pub limits-hold : (p : PlanData) → LimitTests p → limitsHold p ≡ true
 unfolding limitsHold
 limits-hold p h =
     h .levels and h .gap and h .spacing
@@ -109,7 +73,7 @@ check2-holds l h =
     and le-leb (sum (map length (l .rows))) maxVertices (h .vertices) and le-leb (length (l .segments)) maxSegments (h .segments)
 
 -- ---- lines that were read, within the limits, store data within the limits
-pub stored-limits : (l : Lines) → LinesOk l → LineLimits l → Limits (stored l)
+pub stored-limits : (l : Lines) → LinesOk l → LineLimits l → LimitTests (stored l)
 unfolding stored
 stored-limits l ok h =
     let all = concat (l .rows) in
@@ -131,9 +95,9 @@ stored-limits l ok h =
 
 -- ---- and the lines of data within the limits can be read, and are within the limits
 within-fits : (lo hi n : ℕ) → hi < 100000 → within lo hi n ≡ true → fits n ≡ true
-within-fits lo hi n l h = let k = leb-true n hi (both-second (leb lo n) (leb n hi) h) in lt-ltb n 100000 (omega arith)
+within-fits lo hi n l h = lt-ltb n 100000 (omega (arith, within-most lo hi n h))
 
-module _ (p : PlanData) (h : Limits p) where
+module _ (p : PlanData) (h : LimitTests p) where
   pub lines-stored-again : stored (linesFrom p) ≡ p
   lines-stored-again = lines-stored p (h .halves) (h .summed) (h .ends)
 
@@ -146,7 +110,7 @@ module _ (p : PlanData) (h : Limits p) where
         levels = within-fits 1 maxLevels (p .levels) (omega arith) (h .levels);
         gap = within-fits 1 maxGap (p .gap) (omega arith) (h .gap);
         spacing = within-fits 1 maxSpacing (p .spacing) (omega arith) (h .spacing);
-        rows = r .hold (ltb 0) vertexOk (every-so (within 1 maxOnLevel) (ltb 0) (λ n e. both-first (leb 1 n) (leb n maxOnLevel) e) (p .sizes) (h .sizes)) (v .ok);
+        rows = r .hold (ltb 0) vertexOk (every-so (within 1 maxOnLevel) (ltb 0) (λ n e. and-left (leb 1 n) (leb n maxOnLevel) e) (p .sizes) (h .sizes)) (v .ok);
         segments = s;
       }
 
@@ -161,7 +125,7 @@ module _ (p : PlanData) (h : Limits p) where
         gap = h .gap;
         spacing = h .spacing;
         counted = sym (length-map (rowsFrom (p .sizes) (verticesFrom (p .vias) (p .halves))) length) ∙ ap length (r .sizes-again) ∙ h .counted;
-        rows = r .hold few halfInLimit (every-so (within 1 maxOnLevel) few (λ n e. both-second (leb 1 n) (leb n maxOnLevel) e) (p .sizes) (h .sizes)) (v .in-limit);
+        rows = r .hold few halfInLimit (every-so (within 1 maxOnLevel) few (λ n e. and-right (leb 1 n) (leb n maxOnLevel) e) (p .sizes) (h .sizes)) (v .in-limit);
         vertices = rw (r .sizes-again) (omega (arith, h .summed, h .vertices));
         segments = omega (arith, h .segments, length-map (segmentsFrom (p .uppers) (p .lowers)) (λ s. s .upper), ap length (uppers-again (p .uppers) (p .lowers) (h .ends)));
       }
@@ -186,6 +150,6 @@ ends-ok ss e = every-so endsBelow segmentOk ok ss e
   where
     ok : (s : Segment) → endsBelow s ≡ true → segmentOk s ≡ true
     ok s h =
-        let a = ltb-true (s .upper) maxVertices (both-first (ltb (s .upper) maxVertices) (ltb (s .lower) maxVertices) h) in
-        let b = ltb-true (s .lower) maxVertices (both-second (ltb (s .upper) maxVertices) (ltb (s .lower) maxVertices) h) in
+        let a = ltb-true (s .upper) maxVertices (and-left (ltb (s .upper) maxVertices) (ltb (s .lower) maxVertices) h) in
+        let b = ltb-true (s .lower) maxVertices (and-right (ltb (s .upper) maxVertices) (ltb (s .lower) maxVertices) h) in
         lt-ltb (s .upper) 100000 (omega arith) and lt-ltb (s .lower) 100000 (omega arith)

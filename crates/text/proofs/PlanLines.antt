@@ -15,10 +15,10 @@ use Rattle.plan.specs.Segments.{segmentsFrom, segmentsOf}
 use Rattle.plan.specs.Limits.{maxHalfWidth}
 use Rattle.plan.specs.Checks.{every}
 use Rattle.plan.specs.Acceptable.{halfHolds, halvesHold}
+use Rattle.plan.proofs.TestLaws.{and-left, and-right}
 use Rattle.text.specs.Form.{Vertex, Lines}
 use Rattle.text.specs.Reading.{halfInLimit, stored}
 use Rattle.text.proofs.Words.{never}
-use Rattle.text.proofs.Stores.{both-first, both-second}
 use Rattle.text.proofs.TestLaws.{test, _and_, every-one, every-cons, every-append, every-both}
 use Rattle.text.proofs.WrittenLines.{vertexOk}
 
@@ -31,7 +31,7 @@ verticesFrom (v ∷ vs) (h ∷ hs) = record { via = v; half = h } ∷ verticesFr
 -- A vertex has its half-width if it can be read and is within the limit.
 half-vertex : (v : Bool) (h : ℕ) → halfHolds v h ≡ true → (vertexOk (record { via = v; half = h }) ≡ true) × (halfInLimit (record { via = v; half = h }) ≡ true)
 half-vertex true h e = (e, refl)
-half-vertex false h e = let l = leb-true h maxHalfWidth (both-second (leb 1 h) (leb h maxHalfWidth) e) in (lt-ltb h 100000 (omega arith), e)
+half-vertex false h e = let l = leb-true h maxHalfWidth (and-right (leb 1 h) (leb h maxHalfWidth) e) in (lt-ltb h 100000 (omega arith), e)
 
 vertex-half : (v : Bool) (h : ℕ) → vertexOk (record { via = v; half = h }) ≡ true → halfInLimit (record { via = v; half = h }) ≡ true → halfHolds v h ≡ true
 vertex-half true h e k = e
@@ -110,14 +110,14 @@ module _ (c : ℕ → Bool) (t : Vertex → Bool) where
   sizes-hold [] e = refl
   sizes-hold (row ∷ rows) e =
       let a = every-one (rowHolds c t) row rows e in
-      every-cons c (length row) (map length rows) (both-first (c (length row)) (every t row) (a .0)) (sizes-hold rows (a .1))
+      every-cons c (length row) (map length rows) (and-left (c (length row)) (every t row) (a .0)) (sizes-hold rows (a .1))
 
   pub order-holds : (rows : List (List Vertex)) → every (rowHolds c t) rows ≡ true → every t (concat rows) ≡ true
   unfolding every concat
   order-holds [] e = refl
   order-holds (row ∷ rows) e =
       let a = every-one (rowHolds c t) row rows e in
-      every-append t row (concat rows) (both-second (c (length row)) (every t row) (a .0)) (order-holds rows (a .1))
+      every-append t row (concat rows) (and-right (c (length row)) (every t row) (a .0)) (order-holds rows (a .1))
 
 -- ---- segments
 pub uppers-again : («as» bs : List ℕ) → length bs ≡ length «as» → map (λ s. s .upper) (segmentsFrom «as» bs) ≡ «as»

@@ -15,22 +15,24 @@ use Rattle.plan.specs.Plan.{PlanData}
 use Rattle.plan.specs.Segments.{segmentsOf}
 use Rattle.plan.specs.Checks.{every, check3, check4, check5, check6}
 use Rattle.plan.specs.Acceptable.{limitsHold, acceptable}
+use Rattle.plan.proofs.TestLaws.{conj-at}
+use Rattle.plan.proofs.LimitLaws.{LimitTests, limit-tests}
 use Rattle.text.specs.Form.{Lines, formOf}
 use Rattle.text.specs.Reading.{maxBytes, check2, stored, Reading, accepted, refused, checkedPlan, checkedLines, reading}
 use Rattle.text.specs.Writing.{textOf, readsAs, isPlanOfText}
 use Rattle.text.proofs.Words.{never}
-use Rattle.text.proofs.TestLaws.{test, _and_, conj-at}
+use Rattle.text.proofs.TestLaws.{test, _and_}
 use Rattle.text.proofs.WrittenForm.{formText, form-reads, form-writes}
 use Rattle.text.proofs.StoredText.{stored-text}
 use Rattle.text.proofs.PlanLines.{linesFrom}
-use Rattle.text.proofs.PlanLimits.{Limits, limits-of, limits-hold, check2-of, check2-holds, stored-limits, lines-stored-again, lines-ok, lines-limits, endsBelow, ends-below, ends-ok}
+use Rattle.text.proofs.PlanLimits.{limits-hold, check2-of, check2-holds, stored-limits, lines-stored-again, lines-ok, lines-limits, endsBelow, ends-below, ends-ok}
 use Rattle.text.proofs.TextLength.{form-short}
 use Rattle.text.proofs.SameData.{data-equal, data-same}
 
 -- ---- from data to a text and back
 -- what an acceptable plan passes
 pub record Acceptable (p : PlanData) : Type 0 where
-  pub limits : Limits p
+  pub limits : LimitTests p
   pub three : check3 p ≡ true
   pub four : check4 p ≡ true
   pub five : check5 p ≡ true
@@ -40,7 +42,7 @@ pub acceptable-of : (p : PlanData) → acceptable p ≡ true → Acceptable p
 unfolding acceptable
 acceptable-of p h =
     let test = conj-at (limitsHold p) (check3 p ∷ check4 p ∷ check5 p ∷ check6 p ∷ []) h in
-    record { limits = limits-of p (test 0); three = test 1; four = test 2; five = test 3; six = test 4 }
+    record { limits = limit-tests p (test 0); three = test 1; four = test 2; five = test 3; six = test 4 }
 
 pub acceptable-holds : (p : PlanData) → Acceptable p → acceptable p ≡ true
 unfolding acceptable
@@ -49,7 +51,7 @@ acceptable-holds p h = limits-hold p (h .limits) and h .three and h .four and h 
 ends : (p : PlanData) → Acceptable p → every endsBelow (segmentsOf p) ≡ true
 ends p a = ends-below p (a .limits .vertices) (a .three)
 
-text-form : (p : PlanData) → Limits p → textOf p ≡ formText (linesFrom p)
+text-form : (p : PlanData) → LimitTests p → textOf p ≡ formText (linesFrom p)
 text-form p l = ap textOf (sym (lines-stored-again p l)) ∙ stored-text (linesFrom p)
 
 -- "A text of an acceptable plan has at most 43,546 bytes"

@@ -7,13 +7,14 @@ use native.Mathlib.Omega.{arith}
 use lib.ListN.{length, drop, set, length-set}
 use lib.Seq.{sets}
 use Rattle.plan.specs.Checks.{every}
+use Rattle.plan.proofs.TestLaws.{and-left, and-right}
 use Rattle.text.specs.Parser.{got, nothing}
 use Rattle.text.specs.Form.{Vertex}
 use Rattle.text.specs.Reading.{halfInLimit}
 use Rattle.text.specs.Scanned.{vertex}
 use Rattle.text.specs.Filled.{viasOf, halvesOf, FindsRow}
 use Rattle.text.proofs.Repeats.{Reached, reached-none, reached-more, reached-end}
-use Rattle.text.proofs.Stores.{sets-more, every-more, both-first, both-second}
+use Rattle.text.proofs.Stores.{sets-more, every-more}
 
 pub record RowSoFar (s : List ℕ) (from first : ℕ) (vias₀ : List Bool) (halves₀ : List ℕ) (vias : List Bool) (halves : List ℕ) (at count : ℕ) (fit : Bool) : Type 0 where
   pub vertices : List Vertex
@@ -41,7 +42,7 @@ module _ (s : List ℕ) (from first : ℕ) (vias₀ : List Bool) (halves₀ : Li
       vias-stored = p ∙ rw (R .vias-stored) (sym (sets-more (λ x. x .via) vias₀ first count (R .vertices) v (R .reached .counted)));
       halves-stored = λ t.
           let b : (fit && halfInLimit v) ≡ true = sym f ∙ t in
-          q ∙ rw (R .halves-stored (both-first fit (halfInLimit v) b), k (both-second fit (halfInLimit v) b)) (sym (sets-more (λ x. x .half) halves₀ first count (R .vertices) v (R .reached .counted)));
+          q ∙ rw (R .halves-stored (and-left fit (halfInLimit v) b), k (and-right fit (halfInLimit v) b)) (sym (sets-more (λ x. x .half) halves₀ first count (R .vertices) v (R .reached .counted)));
       vias-long = rw (p, length-set) (R .vias-long);
       halves-long = rw (q, length-set) (R .halves-long);
     }

@@ -6,9 +6,10 @@ use Prim.Native.Nat.{ℕ}
 use borrow.Author.Tests.{eqb-true, eq-eqb}
 use lib.Dec.{eqb}
 use Rattle.plan.specs.Plan.{PlanData}
+use Rattle.plan.proofs.TestLaws.{conj-at}
 use Rattle.text.specs.Writing.{sameNumbers, sameKinds, sameData}
 use Rattle.text.proofs.Words.{never}
-use Rattle.text.proofs.TestLaws.{test, _and_, conj-at}
+use Rattle.text.proofs.TestLaws.{test, _and_}
 
 pub numbers-equal : (ms ns : List ℕ) → sameNumbers ms ns ≡ true → ms ≡ ns
 unfolding sameNumbers

@@ -8,7 +8,6 @@ use lib.ListN.{length, set, length-map}
 use lib.Seq.{sets, sets-eq}
 use Rattle.ints.specs.Lists.{over}
 use Rattle.plan.specs.Checks.{every}
-use Rattle.text.proofs.Words.{never}
 
 module _ {A : Type 0} where
   pub sets-append : (l : List A) (i : ℕ) (xs ys : List A) → sets l i (xs ++ ys) ≡ sets (sets l i xs) (i + length xs) ys
@@ -37,15 +36,6 @@ module _ {A : Type 0} where
       both : (b : Bool) → cond b (every t xs && t x) false ≡ cond b (every t xs) false && t x
       both true = refl
       both false = refl
-
--- both of two tests
-pub both-first : (a b : Bool) → (a && b) ≡ true → a ≡ true
-both-first true b h = refl
-both-first false b h = h
-
-pub both-second : (a b : Bool) → (a && b) ≡ true → b ≡ true
-both-second true b h = h
-both-second false b h = never h
 
 pub not-both : (a b : Bool) → b ≡ false → (a && b) ≡ false
 not-both true b h = h

@@ -2,11 +2,8 @@
 use mathlib.Core.Path.{_≡_, refl}
 use mathlib.Core.Bool.{Bool, true, false, _&&_}
 use mathlib.Core.List.{List, [], _∷_, _++_}
-use Prim.Native.Nat.{ℕ, zero, suc}
-use lib.ListN.{getD}
 use Rattle.plan.specs.Checks.{every}
 use Rattle.text.proofs.Words.{never}
-use Rattle.text.proofs.Stores.{both-first, both-second}
 
 -- by cases of a test
 pub test : {X : Type 0} (c : Bool) → (c ≡ true → X) → (c ≡ false → X) → X
@@ -17,18 +14,6 @@ test false f g = g refl
 infixl 35 _and_
 pub _and_ : {a b : Bool} → a ≡ true → b ≡ true → (a && b) ≡ true
 e and f = rw (e, f)
-
--- and each of them, if all hold
-abbrev pub conj : Bool → List Bool → Bool
-conj a [] = a
-conj a (b ∷ bs) = conj (a && b) bs
-
-pub conj-at : (a : Bool) (bs : List Bool) → conj a bs ≡ true → (i : ℕ) → getD (a ∷ bs) i true ≡ true
-conj-at a [] h zero = h
-conj-at a [] h (suc i) = refl
-conj-at a (b ∷ bs) h zero = both-first a b (conj-at (a && b) bs h zero)
-conj-at a (b ∷ bs) h (suc zero) = both-second a b (conj-at (a && b) bs h zero)
-conj-at a (b ∷ bs) h (suc (suc i)) = conj-at (a && b) bs h (suc i)
 
 -- ---- tests of every member
 module _ {A : Type 0} (t : A → Bool) where

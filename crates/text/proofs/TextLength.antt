@@ -5,25 +5,23 @@ use mathlib.Core.Bool.{Bool, true, false}
 use mathlib.Core.List.{List, [], _∷_, map}
 use Prim.Native.Nat.{ℕ, _+_, _*_, _≤_}
 use native.Mathlib.Omega.{arith}
-use borrow.Author.Tests.{leb-true, ltb-true}
+use borrow.Author.Tests.{ltb-true}
 use lib.Dec.{ltb, leb}
 use lib.ListN.{length, length-append}
 use Rattle.ints.specs.Lists.{sum, concat}
 use Rattle.plan.specs.Segments.{Segment}
-use Rattle.plan.specs.Limits.{within, maxLevels, maxGap, maxSpacing, maxHalfWidth, maxOnLevel, maxVertices}
+use Rattle.plan.specs.Limits.{maxLevels, maxGap, maxSpacing, maxHalfWidth, maxOnLevel, maxVertices}
 use Rattle.plan.specs.Checks.{every}
+use Rattle.plan.proofs.TestLaws.{and-left, and-right}
+use Rattle.plan.proofs.LimitLaws.{within-most}
 use Rattle.text.specs.Form.{Vertex, Lines}
 use Rattle.text.specs.Reading.{halfInLimit, rowInLimit}
 use Rattle.text.specs.Writing.{segmentLineOf}
-use Rattle.text.proofs.Stores.{both-first, both-second}
 use Rattle.text.proofs.TestLaws.{every-one}
 use Rattle.text.proofs.DecimalLaws.{decimal-length}
 use Rattle.text.proofs.WrittenLines.{vertexText, rowText}
 use Rattle.text.proofs.WrittenForm.{headText, formText}
 use Rattle.text.proofs.PlanLimits.{LineLimits, endsBelow}
-
-within-most : (lo hi n : ℕ) → within lo hi n ≡ true → n ≤ hi
-within-most lo hi n h = leb-true n hi (both-second (leb lo n) (leb n hi) h)
 
 vertex-short : (v : Vertex) → halfInLimit v ≡ true → length (vertexText v) ≤ 10
 unfolding vertexText
@@ -45,7 +43,7 @@ unfolding concat sum rowText
 rows-short [] e = omega arith
 rows-short (vs ∷ rows) e =
     let k = every-one rowInLimit vs rows e in
-    let v = vertices-short vs (both-second (leb (length vs) maxOnLevel) (every halfInLimit vs) (k .0)) in
+    let v = vertices-short vs (and-right (leb (length vs) maxOnLevel) (every halfInLimit vs) (k .0)) in
     simp length-append (omega (arith, rows-short rows (k .1)))
 
 segments-short : (ss : List Segment) → every endsBelow ss ≡ true → length (concat (map segmentLineOf ss)) ≤ 16 * length ss
@@ -53,8 +51,8 @@ unfolding concat segmentLineOf
 segments-short [] e = omega arith
 segments-short (s ∷ ss) e =
     let k = every-one endsBelow s ss e in
-    let a = ltb-true (s .upper) maxVertices (both-first (ltb (s .upper) maxVertices) (ltb (s .lower) maxVertices) (k .0)) in
-    let b = ltb-true (s .lower) maxVertices (both-second (ltb (s .upper) maxVertices) (ltb (s .lower) maxVertices) (k .0)) in
+    let a = ltb-true (s .upper) maxVertices (and-left (ltb (s .upper) maxVertices) (ltb (s .lower) maxVertices) (k .0)) in
+    let b = ltb-true (s .lower) maxVertices (and-right (ltb (s .upper) maxVertices) (ltb (s .lower) maxVertices) (k .0)) in
     let la = decimal-length 3 (s .upper) (omega arith) in
     let lb = decimal-length 3 (s .lower) (omega arith) in
     simp length-append (omega (arith, segments-short ss (k .1)))

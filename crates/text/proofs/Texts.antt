@@ -13,6 +13,7 @@ use Rattle.ints.proofs.Lists.{concat-length}
 use Rattle.plan.specs.Limits.{maxLevels}
 use Rattle.plan.specs.Segments.{Segment}
 use Rattle.plan.specs.Checks.{every}
+use Rattle.plan.proofs.TestLaws.{and-right}
 use Rattle.text.specs.Bytes.{bytes}
 use Rattle.text.specs.Parser.{got, nothing, Rule, then, word, many, number}
 use Rattle.text.specs.Form.{Vertex, Lines, levelLine, segmentLine, planText, whole, formOf}
@@ -26,7 +27,7 @@ use Rattle.text.specs.declared.form.Scanned.{Scanned}
 use Rattle.text.proofs.Words.{word-is}
 use Rattle.text.proofs.Lines.{then-then, then-same, number-then}
 use Rattle.text.proofs.Repeats.{many-done}
-use Rattle.text.proofs.Stores.{sets-over, both-second}
+use Rattle.text.proofs.Stores.{sets-over}
 use Rattle.text.proofs.PlanLimits.{check2-of}
 
 -- ---- the form
@@ -108,7 +109,7 @@ module _ (s : List ℕ) (sizes : List ℕ) (vias : List Bool) (halves uppers low
     unfolding stored
     lines-kept o a b c d g t =
         let F = check2-of found-lines t in
-        let top = leb-true (h .levels) maxLevels (both-second (leb 1 (h .levels)) (leb (h .levels) maxLevels) (F .levels)) in
+        let top = leb-true (h .levels) maxLevels (and-right (leb 1 (h .levels)) (leb (h .levels) maxLevels) (F .levels)) in
         let all = concat-length (R .rows) in
         record {
           levels = a;

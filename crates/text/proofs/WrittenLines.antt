@@ -11,13 +11,13 @@ use lib.ListN.{length}
 use Rattle.ints.specs.Lists.{concat}
 use Rattle.plan.specs.Segments.{Segment}
 use Rattle.plan.specs.Checks.{every}
+use Rattle.plan.proofs.TestLaws.{and-left, and-right}
 use Rattle.text.specs.Bytes.{bytes}
 use Rattle.text.specs.Decimal.{decimal}
 use Rattle.text.specs.Parser.{Got, got, nothing, Rule, orElse, either, word, many, number}
 use Rattle.text.specs.Form.{Vertex, box, via, levelLine, segmentLine}
 use Rattle.text.specs.Writing.{segmentLineOf}
 use Rattle.text.proofs.Words.{never, word-is}
-use Rattle.text.proofs.Stores.{both-first, both-second}
 use Rattle.text.proofs.TestLaws.{_and_, every-one, every-cons}
 use Rattle.text.proofs.ParserLaws.{then-both, then-got, then-word, before, parts-3, parts-5, Reads, Writes, many-reads, many-writes}
 use Rattle.text.proofs.DecimalLaws.{fits, then-number, number-written}
@@ -103,8 +103,8 @@ module _ (n : ℕ) where
   unfolding levelLine rowText concat
   level-reads [] t ok = never ok
   level-reads (v ∷ vs) t ok =
-      let all = both-second (ltb 0 (length (v ∷ vs))) (every vertexOk (v ∷ vs)) (both-first (rowOk (v ∷ vs)) (leb (length (v ∷ vs)) n) ok) in
-      let few = leb-true (length (v ∷ vs)) n (both-second (rowOk (v ∷ vs)) (leb (length (v ∷ vs)) n) ok) in
+      let all = and-right (ltb 0 (length (v ∷ vs))) (every vertexOk (v ∷ vs)) (and-left (rowOk (v ∷ vs)) (leb (length (v ∷ vs)) n) ok) in
+      let few = leb-true (length (v ∷ vs)) n (and-right (rowOk (v ∷ vs)) (leb (length (v ∷ vs)) n) ok) in
       let k = every-one vertexOk v vs all in
       let more = concat (map vertexText vs) in
       ap (levelLine n) (row-parts (bytes "(level") (vertexText v) more (bytes ")\n") t)
@@ -139,9 +139,9 @@ segment-reads s t ok =
     let b = decimal (s .lower) in
     ap segmentLine (parts-5 (bytes "(seg ") a (bytes " ") b (bytes ")\n") t)
     ∙ then-word (bytes "(seg ") (a ++ (bytes " " ++ (b ++ (bytes ")\n" ++ t)))) _
-    ∙ then-number (s .upper) (bytes " " ++ (b ++ (bytes ")\n" ++ t))) _ (both-first (fits (s .upper)) (fits (s .lower)) ok) refl
+    ∙ then-number (s .upper) (bytes " " ++ (b ++ (bytes ")\n" ++ t))) _ (and-left (fits (s .upper)) (fits (s .lower)) ok) refl
     ∙ then-word (bytes " ") (b ++ (bytes ")\n" ++ t)) _
-    ∙ then-number (s .lower) (bytes ")\n" ++ t) _ (both-second (fits (s .upper)) (fits (s .lower)) ok) refl
+    ∙ then-number (s .lower) (bytes ")\n" ++ t) _ (and-right (fits (s .upper)) (fits (s .lower)) ok) refl
     ∙ then-word (bytes ")\n") t _
 
 pub segment-writes : Writes segmentLine segmentLineOf segmentOk

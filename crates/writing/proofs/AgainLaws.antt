@@ -14,21 +14,22 @@ use Rattle.plan.specs.Limits.{maxLevels, maxVertices, maxSegments}
 use Rattle.plan.specs.Stored.{planData}
 use Rattle.plan.specs.Acceptable.{acceptable}
 use Rattle.plan.specs.declared.data.Plan.{Plan}
+use Rattle.plan.proofs.TestLaws.{conj-at}
+use Rattle.plan.proofs.LimitLaws.{Limits}
+use Rattle.plan.proofs.Sound.{sound}
 use Rattle.text.specs.Reading.{Reading, accepted, refused, reading}
 use Rattle.text.specs.Writing.{textOf, isPlanOfText}
 use Rattle.reading.specs.Answer.{planOf, answerOf}
 use Rattle.reading.specs.declared.Answer.the-variants.{Accepted, Refused}
 use Rattle.reading.specs.declared.ReadText.{ReadText}
-use Rattle.text.proofs.TestLaws.{test, conj-at}
+use Rattle.text.proofs.TestLaws.{test}
 use Rattle.text.proofs.DecimalLaws.{decimal-length}
-use Rattle.text.proofs.PlanLimits.{Limits}
-use Rattle.text.proofs.PlanOfText.{plan-of-text, acceptable-of, text-short, written-read, read-acceptable}
+use Rattle.text.proofs.PlanOfText.{plan-of-text, text-short, written-read, read-acceptable}
 use Rattle.writing.specs.Data.{isStoredPlan, maxText}
 use Rattle.writing.specs.Again.{refusedLine, writtenAgain, textIfShort, rewritten, Leaves}
 use Rattle.writing.specs.Written.{Fronts}
 use Rattle.writing.specs.declared.again.Rewritten.the-variants.{Written, Refused as Not, Short}
-use Rattle.writing.proofs.Limits.{within-most, stored-is}
-use Rattle.writing.proofs.LineLaws.{halves-long}
+use Rattle.writing.proofs.Limits.{stored-is}
 
 -- ---- a stored plan that is that of a text
 pub record StoredPlan (p : Plan) (v e : ℕ) : Type 0 where
@@ -43,7 +44,7 @@ stored-of p v e h =
     let test = conj-at (leb v maxVertices) (leb e maxSegments ∷ isPlanOfText (planData p v e) ∷ []) h in
     let a : acceptable (planData p v e) ≡ true = sym (plan-of-text (planData p v e)) ∙ test 2 in
     record {
-      levels = within-most 1 maxLevels (p .levels) (acceptable-of (planData p v e) a .limits .levels);
+      levels = sound (planData p v e) a .limits .levels-high;
       vertices = leb-true v maxVertices (test 0);
       segments = leb-true e maxSegments (test 1);
       plan = a;
@@ -56,11 +57,11 @@ front xs o n e = take-at xs (drop (length xs) o) n e
 stored-data : (p : PlanData) → Limits p → planData (planOf p) (length (p .vias)) (length (p .uppers)) ≡ p
 unfolding planOf
 stored-data p l =
-    let s = front (p .sizes) (replicate maxLevels 0) (p .levels) (l .counted) in
+    let s = front (p .sizes) (replicate maxLevels 0) (p .levels) (l .sizes-long) in
     let v = front (p .vias) (replicate maxVertices false) (length (p .vias)) refl in
-    let h = front (p .halves) (replicate maxVertices 0) (length (p .vias)) (halves-long (p .vias) (p .halves) (l .halves)) in
+    let h = front (p .halves) (replicate maxVertices 0) (length (p .vias)) (l .halves-long) in
     let a = front (p .uppers) (replicate maxSegments 0) (length (p .uppers)) refl in
-    let b = front (p .lowers) (replicate maxSegments 0) (length (p .uppers)) (l .ends) in
+    let b = front (p .lowers) (replicate maxSegments 0) (length (p .uppers)) (l .ends-long) in
     rw (s, v, h, a, b)
 
 -- a plan that was read, stored with the data of the reading, and its text
@@ -73,7 +74,7 @@ pub record Again (s : List ℕ) (p : Plan) (v e : ℕ) : Type 0 where
 plan-again : (s : List ℕ) (p : PlanData) → reading s ≡ accepted p → Again s (planOf p) (length (p .vias)) (length (p .uppers))
 plan-again s p e =
     let a = read-acceptable s p e in
-    let l = acceptable-of p a .limits in
+    let l = sound p a .limits in
     let same = stored-data p l in
     record {
       stored = stored-is (planOf p) (length (p .vias)) (length (p .uppers)) (l .vertices) (l .segments) ∙ ap acceptable same ∙ a;

@@ -11,31 +11,28 @@ use Rattle.ints.specs.Lists.{sum}
 use Rattle.plan.specs.Plan.{PlanData}
 use Rattle.plan.specs.Limits.{within, maxLevels, maxGap, maxSpacing, maxOnLevel, maxVertices, maxSegments}
 use Rattle.plan.specs.Checks.{every, check3, check4, check5, check6}
-use Rattle.plan.specs.Graph.{InLimits, firstFailed}
+use Rattle.plan.specs.Graph.{firstFailed}
 use Rattle.plan.specs.Stored.{planData}
 use Rattle.plan.specs.Acceptable.{halvesHold, limitsHold, acceptable}
 use Rattle.plan.specs.declared.data.Plan.{Plan}
 use Rattle.plan.proofs.GraphLaws.{graph, same-first}
+use Rattle.plan.proofs.TestLaws.{conj-at}
+use Rattle.plan.proofs.LimitLaws.{LimitTests, limit-tests, within-most}
 use Rattle.text.specs.Writing.{isPlanOfText}
-use Rattle.text.proofs.Words.{never}
-use Rattle.text.proofs.Stores.{both-first, both-second}
-use Rattle.text.proofs.TestLaws.{test, conj-at}
-use Rattle.text.proofs.PlanLimits.{Limits, limits-of, limits-hold}
+use Rattle.text.proofs.TestLaws.{test}
+use Rattle.text.proofs.PlanLimits.{limits-hold}
 use Rattle.text.proofs.PlanOfText.{plan-of-text}
 use Rattle.writing.specs.Data.{isStoredPlan}
 
 abbrev pub numbersHold : ℕ → ℕ → ℕ → Bool
 numbersHold k g s = within 1 maxLevels k && within 1 maxGap g && within 1 maxSpacing s
 
-pub within-most : (lo hi n : ℕ) → within lo hi n ≡ true → n ≤ hi
-within-most lo hi n h = leb-true n hi (both-second (leb lo n) (leb n hi) h)
-
 pub few-levels : (k g s : ℕ) → numbersHold k g s ≡ true → k ≤ maxLevels
 few-levels k g s h = within-most 1 maxLevels k (conj-at (within 1 maxLevels k) (within 1 maxGap g ∷ within 1 maxSpacing s ∷ []) h 0)
 
 module _ (p : PlanData) where
-  pub limits-not : (Limits p → ⊥) → limitsHold p ≡ false
-  limits-not f = test (limitsHold p) (λ h. absurd (f (limits-of p h))) (λ h. h)
+  pub limits-not : (LimitTests p → ⊥) → limitsHold p ≡ false
+  limits-not f = test (limitsHold p) (λ h. absurd (f (limit-tests p h))) (λ h. h)
 
   pub limits-many : maxVertices < length (p .vias) → leb (length (p .vias)) maxVertices ≡ limitsHold p
   limits-many h = lt-leb (length (p .vias)) maxVertices h ∙ sym (limits-not (λ l. omega (arith, l .vertices)))
@@ -60,14 +57,6 @@ module _ (p : PlanData) where
         segments = leb-true (length (p .uppers)) maxSegments l;
       })))
       (λ l. l ∙ sym (limits-not (λ m. let many = leb-false (length (p .uppers)) maxSegments l in omega (arith, m .segments))))
-
-  pub limits-within : Limits p → InLimits (p .sizes) (p .vias) (p .uppers) (p .lowers)
-  limits-within l = record {
-    levels = omega (arith, l .counted, within-most 1 maxLevels (p .levels) (l .levels));
-    vertices = l .vertices;
-    segments = l .segments;
-    ends = sym (l .ends);
-  }
 
   pub accept-not : limitsHold p ≡ false → acceptable p ≡ false
   unfolding acceptable

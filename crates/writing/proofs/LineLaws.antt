@@ -12,10 +12,9 @@ use Rattle.ints.proofs.Lists.{map-getD, concat-append, concat-one}
 use Rattle.plan.specs.Plan.{PlanData, numbers, levelsFrom, levelsOf}
 use Rattle.plan.specs.Segments.{segmentsFrom, segmentsOf}
 use Rattle.plan.specs.Graph.{segment}
-use Rattle.plan.specs.Acceptable.{halfHolds, halvesHold, acceptable}
+use Rattle.plan.specs.Acceptable.{acceptable}
+use Rattle.plan.proofs.LevelLaws.{numbers-append}
 use Rattle.text.specs.Writing.{planLine, vertexWords, levelLineOf, segmentLineOf, lastLine, linesOf, textOf}
-use Rattle.text.proofs.Words.{never}
-use Rattle.text.proofs.TestLaws.{test}
 use Rattle.writing.specs.Written.{Room, Wrote, Fronts}
 use Rattle.writing.specs.Data.{verticesOf, numbersOf, rowWords, wordsOf, lineOf, levelVertices, LineRoom}
 use Rattle.writing.proofs.Written.{and-then, wrote-none, wrote-long, front-of}
@@ -30,17 +29,6 @@ concat-part ls n =
     omega (arith, ap length e ∙ length-append (concat (take n ls)) (concat (drop n ls)))
 
 -- ---- the vertices of a level
-pub numbers-add : (v a b : ℕ) → numbers v (a + b) ≡ numbers v a ++ numbers (v + a) b
-unfolding numbers
-numbers-add v zero b =
-    let e : 0 + b ≡ b = omega arith in
-    let f : v + 0 ≡ v = omega arith in
-    rw (e, f)
-numbers-add v (suc a) b =
-    let e : suc a + b ≡ suc (a + b) = omega arith in
-    let f : v + suc a ≡ v + 1 + a = omega arith in
-    rw (e, f, numbers-add (v + 1) a b)
-
 numbers-one : (v : ℕ) → numbers v 1 ≡ v ∷ []
 unfolding numbers
 numbers-one v = refl
@@ -54,13 +42,13 @@ module _ (p : PlanData) where
   row-append a b = rw (map-append (vertexWords p) a b) (concat-append (map (vertexWords p) a) (map (vertexWords p) b))
 
   pub row-more : (v n : ℕ) → rowWords p (numbers v (n + 1)) ≡ rowWords p (numbers v n) ++ vertexWords p (v + n)
-  row-more v n = rw (numbers-add v n 1, numbers-one, row-append) (ap (λ (l : List ℕ). rowWords p (numbers v n) ++ l) (concat-one (vertexWords p (v + n))))
+  row-more v n = rw (numbers-append v n 1, numbers-one, row-append) (ap (λ (l : List ℕ). rowWords p (numbers v n) ++ l) (concat-one (vertexWords p (v + n))))
 
   pub row-part : (v n m : ℕ) → n ≤ m → length (rowWords p (numbers v n)) ≤ length (rowWords p (numbers v m))
   row-part v n m h =
       let e : n + (m - n) ≡ m = omega arith in
       let f : rowWords p (numbers v m) ≡ rowWords p (numbers v n) ++ rowWords p (numbers (v + n) (m - n)) =
-      ap (λ (k : ℕ). rowWords p (numbers v k)) (sym e) ∙ ap (rowWords p) (numbers-add v n (m - n)) ∙ row-append (numbers v n) (numbers (v + n) (m - n)) in
+      ap (λ (k : ℕ). rowWords p (numbers v k)) (sym e) ∙ ap (rowWords p) (numbers-append v n (m - n)) ∙ row-append (numbers v n) (numbers (v + n) (m - n)) in
       omega (arith, ap length f ∙ length-append (rowWords p (numbers v n)) (rowWords p (numbers (v + n) (m - n))))
 
 pub words-of : (vias : List Bool) (halves : List ℕ) (v : ℕ) → wordsOf (getD vias v false) (getD halves v 0) ≡ vertexWords (verticesOf vias halves) v
@@ -179,13 +167,6 @@ module _ (p : PlanData) where
   pub plan-same : planLine p ≡ planLine (numbersOf (p .levels) (p .gap) (p .spacing))
   unfolding planLine
   plan-same = refl
-
-pub halves-long : (vias : List Bool) (halves : List ℕ) → halvesHold vias halves ≡ true → length halves ≡ length vias
-unfolding halvesHold
-halves-long [] [] e = refl
-halves-long [] (h ∷ hs) e = never e
-halves-long (v ∷ vs) [] e = never e
-halves-long (v ∷ vs) (h ∷ hs) e = test (halfHolds v h) (λ k. ap suc (halves-long vs hs (rw k at e))) (λ k. never (rw k at e))
 
 -- ---- the whole text
 module _ (p : PlanData) where

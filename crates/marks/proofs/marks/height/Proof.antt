@@ -4,7 +4,8 @@ use mathlib.Core.Path.{_≡_, ap}
 use borrow.Author.Needs.{needs}
 use native.Mathlib.Omega.{arith}
 use Rattle.plan.specs.Plan.{levelIn, levelOf, heightOf}
-use Rattle.marks.proofs.Laws.{level-most, height-most}
+use Rattle.plan.proofs.LevelLaws.{level-most}
+use Rattle.marks.proofs.Laws.{height-most}
 use Rattle.marks.proofs.marks.height.Statement.{statement}
 use Rattle.marks.proofs.marks.height.Tie as tie
 

@@ -1,5 +1,5 @@
-use Rattle.writing.proofs.Limits.{limits-within, accept-not, accept-first}
-use Rattle.text.proofs.PlanLimits.{limits-of}
+use Rattle.writing.proofs.Limits.{accept-not, accept-first}
+use Rattle.plan.proofs.LimitLaws.{limits}
 use borrow.Author.Tests.{not-true, not-false}
 use mathlib.Core.Path.{_≡_, refl, sym, _∙_}
 use borrow.Author.Needs.{needs}
@@ -17,7 +17,7 @@ returns : tie.Need-returns
 returns c = sym (accept-not _ (sym (c .before .limits-hold .ensures) ∙ not-true _ (c .if1 .taken)))
 
 check-plan-requires : tie.Need-check-plan-requires
-check-plan-requires c κs = limits-within _ (limits-of _ (sym (c .before .limits-hold .ensures) ∙ not-false _ (c .if1 .left)))
+check-plan-requires c κs = limits _ (sym (c .before .limits-hold .ensures) ∙ not-false _ (c .if1 .left)) .lists
 
 returns-2 : tie.Need-returns-2
 returns-2 c = accept-first _ _ (sym (c .before .before .limits-hold .ensures) ∙ not-false _ (c .before .if1 .left)) (c .check-plan .ensures)

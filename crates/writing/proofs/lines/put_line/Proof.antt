@@ -1,9 +1,8 @@
-use Rattle.writing.proofs.LineLaws.{line-0, line-l, line-segment, line-last, halves-long}
+use Rattle.writing.proofs.LineLaws.{line-0, line-l, line-segment, line-last}
 use Rattle.writing.proofs.Written.{wrote-long}
-use Rattle.writing.proofs.Limits.{limits-within}
 use Rattle.writing.specs.Data.{dataOf}
-use Rattle.text.proofs.PlanOfText.{acceptable-of}
-use Rattle.text.proofs.PlanLimits.{Limits}
+use Rattle.plan.proofs.Sound.{sound}
+use Rattle.plan.proofs.LimitLaws.{Limits}
 use Rattle.plan.specs.Plan.{PlanData}
 use native.Mathlib.Omega.{arith}
 use mathlib.Core.Path.{_≡_, refl, sym, _∙_}
@@ -21,7 +20,7 @@ abbrev plan : tie.Start → PlanData
 plan c = dataOf (c .args .levels) (c .args .gap) (c .args .spacing) (c .args .sizes .now) (c .args .vias .now) (c .args .halves .now) (c .args .uppers .now) (c .args .lowers .now)
 
 limits : (c : tie.Start) → Limits (plan c)
-limits c = acceptable-of (plan c) (c .pre .plan) .limits
+limits c = sound (plan c) (c .pre .plan) .limits
 
 put-plan-requires : tie.Need-put-plan-requires
 put-plan-requires c κs = rw (line-0 (plan (c .before .before .before .before .before .before .before .before)) (c .before .before .before .before .before .before .before .before .args .n) (c .before .if1 .taken)) at (c .before .before .before .before .before .before .before .before .pre .room)
@@ -37,10 +36,10 @@ sub-put-level c = search needs
 
 put-level-requires : tie.Need-put-level-requires
 put-level-requires c κs = record {
-  levels = limits-within (plan (c .before .before .before .before .before .before .before .before .before)) (limits (c .before .before .before .before .before .before .before .before .before)) .levels;
+  levels = limits (c .before .before .before .before .before .before .before .before .before) .lists .levels;
   level = omega (arith, c .before .before .if1 .left, c .before .if2 .taken);
-  vertices = limits (c .before .before .before .before .before .before .before .before .before) .summed;
-  half = halves-long (c .before .before .before .before .before .before .before .before .before .args .vias .now) (c .before .before .before .before .before .before .before .before .before .args .halves .now) (limits (c .before .before .before .before .before .before .before .before .before) .halves);
+  vertices = limits (c .before .before .before .before .before .before .before .before .before) .sizes-sum;
+  half = limits (c .before .before .before .before .before .before .before .before .before) .halves-long;
   room = rw (line-l (plan (c .before .before .before .before .before .before .before .before .before)) (c .before .before .before .before .before .before .before .before .before .args .n) (c .before .before .if1 .left) (c .before .if2 .taken)) at (c .before .before .before .before .before .before .before .before .before .pre .room);
 }
 
@@ -66,28 +65,28 @@ mul-put-segment-2 : tie.Need-mul-put-segment-2
 mul-put-segment-2 c = search needs
 
 shared-slice-read-put-segment-2 : tie.Need-shared-slice-read-put-segment-2
-shared-slice-read-put-segment-2 c = omega (arith, limits (c .before .before .before .before .before .before .before .before .before .before .before .before) .ends, c .before .before .before .if3 .taken)
+shared-slice-read-put-segment-2 c = omega (arith, limits (c .before .before .before .before .before .before .before .before .before .before .before .before) .ends-long, c .before .before .before .if3 .taken)
 
 put-segment-requires : tie.Need-put-segment-requires
-put-segment-requires c κs = rw (line-segment (plan (c .before .before .before .before .before .before .before .before .before .before .before .before)) (c .before .before .before .before .before .before .before .before .before .before .before .before .args .n) (c .before .before .before .before .if2 .left) (limits (c .before .before .before .before .before .before .before .before .before .before .before .before) .ends) (c .before .before .before .if3 .taken)) at (c .before .before .before .before .before .before .before .before .before .before .before .before .pre .room)
+put-segment-requires c κs = rw (line-segment (plan (c .before .before .before .before .before .before .before .before .before .before .before .before)) (c .before .before .before .before .before .before .before .before .before .before .before .before .args .n) (c .before .before .before .before .if2 .left) (limits (c .before .before .before .before .before .before .before .before .before .before .before .before) .ends-long) (c .before .before .before .if3 .taken)) at (c .before .before .before .before .before .before .before .before .before .before .before .before .pre .room)
 
 same-length-3 : tie.Need-same-length-3
 same-length-3 c = wrote-long (c .before .before .put-segment .ensures)
 
 returns-3 : tie.Need-returns-3
-returns-3 c = rw (line-segment (plan (c .before .before .before .before .before .before .before .before .before .before .before .before .before .before .before)) (c .before .before .before .before .before .before .before .before .before .before .before .before .before .before .before .args .n) (c .before .before .before .before .before .before .before .if2 .left) (limits (c .before .before .before .before .before .before .before .before .before .before .before .before .before .before .before) .ends) (c .before .before .before .before .before .before .if3 .taken)) (c .before .before .put-segment .ensures)
+returns-3 c = rw (line-segment (plan (c .before .before .before .before .before .before .before .before .before .before .before .before .before .before .before)) (c .before .before .before .before .before .before .before .before .before .before .before .before .before .before .before .args .n) (c .before .before .before .before .before .before .before .if2 .left) (limits (c .before .before .before .before .before .before .before .before .before .before .before .before .before .before .before) .ends-long) (c .before .before .before .before .before .before .if3 .taken)) (c .before .before .put-segment .ensures)
 
 slice-aggregate-put-word : tie.Need-slice-aggregate-put-word
 slice-aggregate-put-word c = refl
 
 put-word-requires : tie.Need-put-word-requires
-put-word-requires c κs = rw (line-last (plan (c .before .before .before .before .before .before .before .before .before .before .before)) (c .before .before .before .before .before .before .before .before .before .before .before .args .n) (c .before .before .before .if2 .left) (limits (c .before .before .before .before .before .before .before .before .before .before .before) .ends) (c .before .before .if3 .left) (c .before .before .before .before .before .before .before .before .before .before .before .pre .line)) at (c .before .before .before .before .before .before .before .before .before .before .before .pre .room)
+put-word-requires c κs = rw (line-last (plan (c .before .before .before .before .before .before .before .before .before .before .before)) (c .before .before .before .before .before .before .before .before .before .before .before .args .n) (c .before .before .before .if2 .left) (limits (c .before .before .before .before .before .before .before .before .before .before .before) .ends-long) (c .before .before .if3 .left) (c .before .before .before .before .before .before .before .before .before .before .before .pre .line)) at (c .before .before .before .before .before .before .before .before .before .before .before .pre .room)
 
 same-length-4 : tie.Need-same-length-4
 same-length-4 c = wrote-long (c .before .before .put-word .ensures)
 
 returns-4 : tie.Need-returns-4
-returns-4 c = rw (line-last (plan (c .before .before .before .before .before .before .before .before .before .before .before .before .before .before)) (c .before .before .before .before .before .before .before .before .before .before .before .before .before .before .args .n) (c .before .before .before .before .before .before .if2 .left) (limits (c .before .before .before .before .before .before .before .before .before .before .before .before .before .before) .ends) (c .before .before .before .before .before .if3 .left) (c .before .before .before .before .before .before .before .before .before .before .before .before .before .before .pre .line)) (c .before .before .put-word .ensures)
+returns-4 c = rw (line-last (plan (c .before .before .before .before .before .before .before .before .before .before .before .before .before .before)) (c .before .before .before .before .before .before .before .before .before .before .before .before .before .before .args .n) (c .before .before .before .before .before .before .if2 .left) (limits (c .before .before .before .before .before .before .before .before .before .before .before .before .before .before) .ends-long) (c .before .before .before .before .before .if3 .left) (c .before .before .before .before .before .before .before .before .before .before .before .before .before .before .pre .line)) (c .before .before .put-word .ensures)
 
 pub put-line-spec : {M : Type 1} → statement M
 put-line-spec =

@@ -1,8 +1,7 @@
 use Rattle.writing.proofs.LineLaws.{lines-count, text-none, text-more, text-room, text-all}
-use Rattle.writing.proofs.Limits.{limits-within}
 use Rattle.writing.specs.Data.{dataOf}
 use Rattle.writing.specs.Written.{Wrote}
-use Rattle.text.proofs.PlanOfText.{acceptable-of}
+use Rattle.plan.proofs.Sound.{sound}
 use Rattle.text.specs.Writing.{linesOf}
 use Rattle.plan.specs.Graph.{InLimits}
 use Rattle.plan.specs.Plan.{PlanData}
@@ -24,10 +23,10 @@ abbrev plan : tie.Start Inv-loop μ-loop → PlanData
 plan c = dataOf (c .args .levels) (c .args .gap) (c .args .spacing) (c .args .sizes .now) (c .args .vias .now) (c .args .halves .now) (c .args .uppers .now) (c .args .lowers .now)
 
 few : (c : tie.Start Inv-loop μ-loop) → InLimits (c .args .sizes .now) (c .args .vias .now) (c .args .uppers .now) (c .args .lowers .now)
-few c = limits-within (plan c) (acceptable-of (plan c) (c .pre .0) .limits)
+few c = sound (plan c) (c .pre .0) .limits .lists
 
 count : (c : tie.Start Inv-loop μ-loop) → length (linesOf (plan c)) ≡ length (c .args .sizes .now) + length (c .args .uppers .now) + 2
-count c = lines-count (plan c) (acceptable-of (plan c) (c .pre .0) .limits .ends)
+count c = lines-count (plan c) (sound (plan c) (c .pre .0) .limits .ends-long)
 
 add-lines : tie.Need-add-lines Inv-loop μ-loop
 add-lines c = omega (arith, few (c .before .before .before .before .before .before))
