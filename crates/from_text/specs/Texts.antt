@@ -1,4 +1,4 @@
--- What becomes of a text: its report, and its marks, in a lent buffer.
+-- What becomes of a text: its report in a lent buffer.
 use mathlib.Core.List.{List, [], _∷_}
 use Prim.Native.Nat.{ℕ}
 use Rattle.ints.specs.Lists.{concat}
