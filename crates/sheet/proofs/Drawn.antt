@@ -1,7 +1,7 @@
 -- What draw leaves: the drawing of the definitions, with every promised property; every line and every mark, and all; drawn again it
 -- stays as it is. `PlanArrays` says that the plan's arrays are as long as a stored plan's are.
-use mathlib.Core.Path.{_≡_, refl, sym, _∙_, ap}
-use mathlib.Core.Bool.{Bool, true, false, cond, not, _&&_}
+use mathlib.Core.Path.{_≡_, refl, ap}
+use mathlib.Core.Bool.{Bool, true, false, cond, not}
 use mathlib.Core.List.{List, [], _∷_}
 use Prim.Native.Nat.{ℕ, _*_, _≤_, _<_}
 use native.Mathlib.Omega.{arith}

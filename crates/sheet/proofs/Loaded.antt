@@ -1,12 +1,12 @@
 -- What load leaves is never refused 13: it can be drawn, and until then line and mark are refused 12.
-use mathlib.Core.Path.{_≡_, refl, sym, _∙_, ap}
+use mathlib.Core.Path.{_≡_, refl, sym, ap}
 use mathlib.Core.Bool.{true}
 use mathlib.Core.List.{List}
 use Prim.Native.Nat.{ℕ}
 use lib.ListN.{length}
 use lib.Ieee.{Float}
 use Rattle.plan.specs.Plan.{PlanData, vertexCount}
-use Rattle.text.specs.Reading.{Reading, accepted, refused, reading}
+use Rattle.text.specs.Reading.{accepted, refused, reading}
 use Rattle.reading.specs.Answer.{answerOf}
 use Rattle.writing.proofs.AgainLaws.{read-accepted}
 use Rattle.sheet.specs.declared.types.Sheet.{Sheet}

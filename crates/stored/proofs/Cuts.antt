@@ -1,13 +1,13 @@
 -- The arrays of a plan and of its drawing, and the parts of them that the counts cut off.
-use mathlib.Core.Path.{_≡_, sym, _∙_}
+use mathlib.Core.Path.{_≡_}
 use mathlib.Core.Bool.{true}
-use Prim.Native.Nat.{ℕ, _≤_}
+use Prim.Native.Nat.{_≤_}
 use native.Mathlib.Omega.{arith}
 use lib.ListN.{length}
 use Rattle.plan.specs.Limits.{maxLevels, maxVertices, maxSegments}
 use Rattle.plan.specs.declared.data.Plan.{Plan}
 use Rattle.passes.specs.Words.{maxListed}
-use Rattle.writing.proofs.AgainLaws.{StoredPlan, stored-of}
+use Rattle.writing.proofs.AgainLaws.{stored-of}
 use Rattle.stored.specs.declared.types.Drawing.{Drawing as Arrays}
 use Rattle.stored.specs.declared.types.Counts.{Counts}
 use Rattle.stored.specs.Parts.{isPlanWith}

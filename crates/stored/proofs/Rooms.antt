@@ -1,12 +1,12 @@
 -- What the lines and the marks of a drawing that is not refused ask for is there: the parts of its arrays that the counts cut off.
-use mathlib.Core.Path.{_≡_, refl, sym, _∙_, ap}
-use mathlib.Core.Bool.{true, _&&_}
+use mathlib.Core.Path.{_≡_, refl, sym, _∙_}
+use mathlib.Core.Bool.{true}
 use mathlib.Core.List.{List, [], _∷_}
 use Prim.Native.Nat.{ℕ, _+_, _*_, _≤_, _<_}
 use native.Mathlib.Omega.{arith}
 use borrow.Author.Tests.{leb-true}
 use lib.Dec.{leb}
-use lib.ListN.{length, getD, take}
+use lib.ListN.{length, take}
 use lib.Seq.{length-take-le}
 use lib.Ieee.{Float}
 use Rattle.ints.specs.Lists.{sum, concat}
@@ -16,11 +16,10 @@ use Rattle.plan.specs.Acceptable.{acceptable}
 use Rattle.plan.proofs.TestLaws.{conj-at}
 use Rattle.writing.specs.Written.{Fronts}
 use Rattle.writing.proofs.AgainLaws.{stored-of}
-use Rattle.ints.specs.Reach.{allWithin}
 use Rattle.passes.specs.Words.{maxListed}
 use Rattle.report.specs.Lines.{reportLines}
 use Rattle.report.specs.Valid.{isDrawing}
-use Rattle.lines.specs.Stored.{planPart, drawingFrom, lineOf, Stored, LineRoom, ReportRoom, maxLine, maxReport}
+use Rattle.lines.specs.Stored.{planPart, lineOf, Stored, LineRoom, ReportRoom, maxLine, maxReport}
 use Rattle.lines.proofs.ByNumber.{HasPart, same-lines}
 use Rattle.lines.proofs.Listed.{final-within}
 use Rattle.lines.proofs.Rooms.{line-room, report-room, drawing-within}

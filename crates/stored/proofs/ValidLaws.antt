@@ -1,13 +1,11 @@
 -- 13 of the drawing, as the program tests it.
 use mathlib.Core.Path.{_≡_, sym, _∙_}
-use mathlib.Core.Bool.{Bool, true, false, _&&_}
-use Prim.Native.Nat.{ℕ, _≤_, _<_}
+use mathlib.Core.Bool.{Bool, true, false}
+use Prim.Native.Nat.{_≤_, _<_}
 use native.Mathlib.Omega.{arith}
 use borrow.Author.Tests.{le-leb, lt-leb}
 use lib.ListN.{length, take}
 use lib.Seq.{length-take-le}
-use Rattle.ints.specs.Lists.{sum}
-use Rattle.plan.specs.Stored.{planData}
 use Rattle.plan.specs.declared.data.Plan.{Plan}
 use Rattle.passes.specs.Words.{maxListed}
 use Rattle.validity.specs.Stored.{isStoredDrawing, OfPlan, StoredLevels, StoredList}

@@ -2,7 +2,7 @@
 use mathlib.Core.List.{List, [], map}
 use Prim.Native.Nat.{ℕ}
 use lib.ListN.{length, take}
-use lib.IntN.{ℤ, pos}
+use lib.IntN.{pos}
 use Rattle.plan.specs.Limits.{maxVertices}
 use Rattle.passes.specs.Drawing.{BoxAt, Placing, Drawing}
 use Rattle.passes.specs.Words.{boxesListed, maxListed}

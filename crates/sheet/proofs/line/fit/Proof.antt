@@ -1,5 +1,5 @@
 -- `sheet::line::fit` meets its contract: by the buffer's length.
-use mathlib.Core.Path.{_≡_, refl}
+use mathlib.Core.Path.{refl}
 use native.Mathlib.Omega.{arith}
 use borrow.Author.Needs.{needs}
 use Rattle.writing.proofs.Written.{front-of}

@@ -1,5 +1,5 @@
 -- `sheet::line::line` meets its contract: refused or not by 11 to 13.
-use mathlib.Core.Path.{_≡_, refl, sym, _∙_}
+use mathlib.Core.Path.{refl}
 use borrow.Author.Needs.{needs}
 use Rattle.sheet.proofs.ShowLaws.{holds, line-refused, line-shown, writes}
 use Rattle.sheet.proofs.line.line.Statement.{statement}

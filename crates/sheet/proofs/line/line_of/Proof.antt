@@ -1,6 +1,6 @@
 -- `sheet::line::line_of` meets its contract: there are few lines, none is longer than the local buffer, and what stands there is
 -- the line.
-use mathlib.Core.Path.{_≡_, refl, sym}
+use mathlib.Core.Path.{refl, sym}
 use native.Mathlib.Omega.{arith}
 use borrow.Author.Needs.{needs}
 use lib.Seq.{length-take-le}

@@ -1,5 +1,5 @@
 -- `sheet::load::load` meets its contract: by what reading the text answered.
-use mathlib.Core.Path.{_≡_, refl, sym}
+use mathlib.Core.Path.{refl}
 use borrow.Author.Needs.{needs}
 use Rattle.sheet.proofs.LoadLaws.{load-accepted, load-refused, leaves}
 use Rattle.sheet.proofs.load.load.Statement.{statement}

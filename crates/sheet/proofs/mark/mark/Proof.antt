@@ -1,5 +1,5 @@
 -- `sheet::mark::mark` meets its contract: refused or not by 11 to 13.
-use mathlib.Core.Path.{_≡_, refl, sym, _∙_}
+use mathlib.Core.Path.{sym, _∙_}
 use borrow.Author.Needs.{needs}
 use Rattle.sheet.proofs.ShowLaws.{holds, mark-refused, mark-shown}
 use Rattle.sheet.proofs.mark.mark.Statement.{statement}

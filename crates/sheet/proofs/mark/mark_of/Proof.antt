@@ -1,5 +1,5 @@
 -- `sheet::mark::mark_of` meets its contract: by the number of marks.
-use mathlib.Core.Path.{_≡_, sym, _∙_, ap}
+use mathlib.Core.Path.{sym, _∙_, ap}
 use native.Mathlib.Omega.{arith}
 use borrow.Author.Needs.{needs}
 use Rattle.sheet.specs.Results.{gives}

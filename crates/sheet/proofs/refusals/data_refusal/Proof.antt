@@ -1,5 +1,5 @@
 -- `sheet::refusals::data_refusal` meets its contract: by the two tests.
-use mathlib.Core.Path.{_≡_, sym, _∙_}
+use mathlib.Core.Path.{sym, _∙_}
 use borrow.Author.Needs.{needs}
 use borrow.Author.Tests.{not-true, not-false}
 use Rattle.sheet.proofs.DataLaws.{no-plan, no-drawing, both}

@@ -1,5 +1,4 @@
 -- `sheet::refusals::draw_refusal` meets its contract: by the stage.
-use mathlib.Core.Path.{_≡_, sym, _∙_}
 use borrow.Author.Needs.{needs}
 use Rattle.sheet.specs.Results.{firstRefusal}
 use Rattle.sheet.specs.Inner.{planRefusal, drawRefusal}

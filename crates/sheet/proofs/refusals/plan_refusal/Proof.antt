@@ -1,5 +1,5 @@
 -- `sheet::refusals::plan_refusal` meets its contract: by the test.
-use mathlib.Core.Path.{_≡_, sym, _∙_}
+use mathlib.Core.Path.{sym, _∙_}
 use borrow.Author.Needs.{needs}
 use Rattle.sheet.proofs.DataLaws.{refuses-plan, takes-plan}
 use Rattle.sheet.proofs.refusals.plan_refusal.Statement.{statement}

@@ -1,5 +1,5 @@
 -- `sheet::whole::report` meets its contract: refused or not by 11 to 13.
-use mathlib.Core.Path.{_≡_, refl, sym, _∙_}
+use mathlib.Core.Path.{refl}
 use borrow.Author.Needs.{needs}
 use Rattle.sheet.proofs.ShowLaws.{holds, report-refused, report-shown, writes}
 use Rattle.sheet.proofs.whole.report.Statement.{statement}

@@ -1,5 +1,5 @@
 -- `sheet::whole::report_copied` meets its contract: no report is longer than the local buffer, and what stands there is the report.
-use mathlib.Core.Path.{_≡_, refl, sym}
+use mathlib.Core.Path.{sym}
 use borrow.Author.Needs.{needs}
 use lib.Seq.{length-take-le}
 use Rattle.lines.specs.Stored.{maxReport}

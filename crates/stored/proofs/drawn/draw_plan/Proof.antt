@@ -5,7 +5,7 @@ use native.Mathlib.Omega.{arith}
 use borrow.Author.Needs.{needs}
 use lib.ListN.{length, take, replicate}
 use lib.Seq.{length-take-le}
-use lib.IntN.{ℤ, pos}
+use lib.IntN.{pos}
 use Rattle.stored.specs.Parts.{planWith}
 use Rattle.stored.proofs.Cuts.{PlanArrays, PlanCut, plan-cut}
 use Rattle.stored.proofs.ReadBack.{preliminary-of, final-of}

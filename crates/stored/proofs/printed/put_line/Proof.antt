@@ -1,5 +1,5 @@
 -- `stored::printed::put_line` meets its contract: the arrays are as long as what the counts cut off, and those parts hold the line.
-use mathlib.Core.Path.{_≡_, sym, _∙_}
+use mathlib.Core.Path.{sym}
 use native.Mathlib.Omega.{arith}
 use borrow.Author.Needs.{needs}
 use lib.Seq.{length-take-le}

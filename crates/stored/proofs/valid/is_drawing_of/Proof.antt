@@ -1,6 +1,6 @@
 -- `stored::valid::is_drawing_of` meets its contract: the arrays are as long as what the counts cut off, and of those parts
 -- `is_drawing` decides.
-use mathlib.Core.Path.{_≡_, sym, _∙_}
+use mathlib.Core.Path.{sym}
 use Prim.Native.Nat.{_≤_}
 use native.Mathlib.Omega.{arith}
 use borrow.Author.Needs.{needs}
