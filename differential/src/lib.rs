@@ -1,8 +1,5 @@
-//! The proved libraries behind safe wrappers.
+//! The proved library behind safe wrappers.
 
 pub mod measure;
 pub mod proved;
-pub mod proved_draw;
-pub mod proved_positions;
-pub mod sheet;
 pub mod vectors;

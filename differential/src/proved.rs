@@ -1,6 +1,17 @@
-//! The exported functions of the proved libraries. A slice passes as a pointer and then a length.
+//! The exported functions of the proved library `c_calls`, which `vamzsolik.h` declares for C. A slice passes as a pointer and then a
+//! length.
 
+use reference::marks::{Mark, Point};
 use reference::requests::Request;
+
+/// No report has more bytes.
+pub const MAX_REPORT: usize = 119_834;
+
+/// Numbers of a mark in a buffer.
+pub const NUMBERS: usize = 5;
+
+/// No plan has more marks.
+pub const MAX_MARKS: usize = 1_024 + 2_048;
 
 extern "C" {
     #[allow(clippy::too_many_arguments)]
@@ -22,9 +33,13 @@ extern "C" {
         answer_len: usize,
     ) -> u32;
 
-    fn read_c(text: *const u8, text_len: usize) -> u32;
-
     fn reread_c(text: *const u8, text_len: usize, out: *mut u8, out_len: usize) -> i64;
+
+    fn report_c(text: *const u8, text_len: usize, out: *mut u8, out_len: usize) -> i64;
+
+    fn marks_c(text: *const u8, text_len: usize, out: *mut f64, out_len: usize) -> i64;
+
+    fn draw_c(text: *const u8, text_len: usize, out: *mut i64, out_len: usize) -> i64;
 }
 
 /// The proved place-run: 0 if accepted, 8 if refused. The request's own answer buffer stays; `answer` is written.
@@ -51,16 +66,56 @@ pub fn place_run(q: &Request, answer: &mut [i64]) -> u32 {
     }
 }
 
-/// The proved reader: 0 if the text is accepted, else the number of its refusal.
-pub fn read(text: &[u8]) -> u32 {
-    // The function reads the lent slice alone, within its length.
-    unsafe { read_c(text.as_ptr(), text.len()) }
+fn answer(code: i64) -> Result<usize, u32> {
+    usize::try_from(code).map_err(|_| code.unsigned_abs() as u32)
 }
 
 /// The proved reader and writer: how many bytes of the plan's text were written into the buffer. Else the number of the
 /// refusal, 14 if the buffer is too short, and the buffer is as it was.
 pub fn reread(text: &[u8], out: &mut [u8]) -> Result<usize, u32> {
     // The function reads and writes the lent slices alone, within their lengths.
-    let code = unsafe { reread_c(text.as_ptr(), text.len(), out.as_mut_ptr(), out.len()) };
-    usize::try_from(code).map_err(|_| code.unsigned_abs() as u32)
+    answer(unsafe { reread_c(text.as_ptr(), text.len(), out.as_mut_ptr(), out.len()) })
+}
+
+/// Writes the report of a plan's text into the buffer: how many bytes it has. Else as for `reread`.
+pub fn write_report(text: &[u8], out: &mut [u8]) -> Result<usize, u32> {
+    // The function reads and writes the lent slices alone, within their lengths.
+    answer(unsafe { report_c(text.as_ptr(), text.len(), out.as_mut_ptr(), out.len()) })
+}
+
+/// Writes the marks of a plan's drawing into the buffer, five numbers each: how many marks there are. Else as for `reread`.
+pub fn write_marks(text: &[u8], out: &mut [f64]) -> Result<usize, u32> {
+    // The function reads and writes the lent slices alone, within their lengths.
+    answer(unsafe { marks_c(text.as_ptr(), text.len(), out.as_mut_ptr(), out.len()) })
+}
+
+/// Preliminary and final positions, one after the other, at the front of `out`: how many vertices there are, or the refusal's
+/// number below 0.
+pub fn draw(text: &[u8], out: &mut [i64]) -> i64 {
+    // The function reads and writes the lent slices alone, within their lengths.
+    unsafe { draw_c(text.as_ptr(), text.len(), out.as_mut_ptr(), out.len()) }
+}
+
+/// The report of a plan's text, or the number of its refusal.
+pub fn report(text: &[u8]) -> Result<Vec<u8>, u32> {
+    let mut out = vec![0; MAX_REPORT];
+    let length = write_report(text, &mut out)?;
+    out.truncate(length);
+    Ok(out)
+}
+
+/// The marks of a plan's drawing, or the number of the text's refusal.
+pub fn marks(text: &[u8]) -> Result<Vec<Mark>, u32> {
+    let mut out = vec![0.0; NUMBERS * MAX_MARKS];
+    let count = write_marks(text, &mut out)?;
+    Ok(out.chunks_exact(NUMBERS).take(count).map(mark).collect())
+}
+
+fn mark(numbers: &[f64]) -> Mark {
+    let (p, q) = (Point { x: numbers[1], y: numbers[2] }, Point { x: numbers[3], y: numbers[4] });
+    match numbers[0] {
+        0.0 => Mark::Box(p, q.x),
+        1.0 => Mark::Bend(p),
+        _ => Mark::Line(p, q),
+    }
 }

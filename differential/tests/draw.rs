@@ -1,6 +1,6 @@
 //! The proved draw against the reference: on random plans of every kind, on all vectors, and on a thread's stack.
 
-use differential::proved_draw;
+use differential::proved;
 use differential::vectors::plans;
 use reference::{generate, passes, text};
 use std::fs;
@@ -31,7 +31,7 @@ fn expected(plan_text: &[u8], length: usize) -> (i64, Vec<i64>) {
 /// Compares on a buffer of this length; whether the plan was drawn.
 fn compare(plan_text: &[u8], length: usize, name: &str) -> bool {
     let mut buffer = vec![BEFORE; length];
-    let answer = proved_draw::draw(plan_text, &mut buffer);
+    let answer = proved::draw(plan_text, &mut buffer);
     let (expected_answer, expected_buffer) = expected(plan_text, length);
     assert_eq!(answer, expected_answer, "{name}");
     assert!(buffer == expected_buffer, "{name}: other positions");

@@ -1,7 +1,7 @@
 //! The proved report and marks of a text against the reference's: on random texts of every kind, at the edges, on all vectors, in
 //! buffers of any length, and on a thread's stack.
 
-use differential::sheet::{self, MAX_REPORT, NUMBERS};
+use differential::proved::{self, MAX_REPORT, NUMBERS};
 use differential::vectors::plans;
 use reference::edges::edges;
 use reference::generate::generate;
@@ -32,12 +32,12 @@ fn compare(name: &str, plan_text: &[u8]) -> bool {
     let expected = expected(plan_text);
     let (lines, numbers) = expected.clone().unwrap_or_default();
     let mut out = vec![OLD; lines.len() + BEYOND];
-    let answer = sheet::write_report(plan_text, &mut out);
+    let answer = proved::write_report(plan_text, &mut out);
     assert_eq!(answer, expected.as_ref().map(|(lines, _)| lines.len()).map_err(|&number| number), "{name}");
     assert!(out[..lines.len()] == lines, "{name}: another report");
     assert!(out[lines.len()..].iter().all(|&byte| byte == OLD), "{name}");
     let mut out = vec![OLD_NUMBER; numbers.len() + BEYOND];
-    let answer = sheet::write_marks(plan_text, &mut out);
+    let answer = proved::write_marks(plan_text, &mut out);
     assert_eq!(answer, expected.as_ref().map(|_| numbers.len() / NUMBERS).map_err(|&number| number), "{name}");
     let same = |(a, b): (&f64, &f64)| a.to_bits() == b.to_bits();
     assert!(out.iter().zip(&numbers).all(same), "{name}: other marks");
@@ -84,7 +84,7 @@ fn vectors() {
     for plan in plans() {
         let plan_text = fs::read(&plan).expect("a plan");
         compare(&plan.display().to_string(), &plan_text);
-        let lines = sheet::report(&plan_text).unwrap_or_else(report::refused);
+        let lines = proved::report(&plan_text).unwrap_or_else(report::refused);
         assert!(lines == fs::read(plan.with_extension("report")).expect("a report"), "{}", plan.display());
     }
 }
@@ -96,19 +96,19 @@ fn short_buffers() {
         let (lines, numbers) = expected(&plan_text).expect("an acceptable plan");
         for length in [0, 1, lines.len() / 2, lines.len() - 1] {
             let mut out = vec![OLD; length];
-            assert_eq!(sheet::write_report(&plan_text, &mut out), Err(SHORT));
+            assert_eq!(proved::write_report(&plan_text, &mut out), Err(SHORT));
             assert!(out.iter().all(|&byte| byte == OLD));
         }
-        assert_eq!(sheet::write_report(&plan_text, &mut vec![OLD; lines.len()]), Ok(lines.len()));
+        assert_eq!(proved::write_report(&plan_text, &mut vec![OLD; lines.len()]), Ok(lines.len()));
         for length in [0, 1, numbers.len() / 2, numbers.len() - 1] {
             let mut out = vec![OLD_NUMBER; length];
-            assert_eq!(sheet::write_marks(&plan_text, &mut out), Err(SHORT));
+            assert_eq!(proved::write_marks(&plan_text, &mut out), Err(SHORT));
             assert!(out.iter().all(|&number| number == OLD_NUMBER));
         }
-        assert_eq!(sheet::write_marks(&plan_text, &mut vec![0.0; numbers.len()]), Ok(numbers.len() / NUMBERS));
+        assert_eq!(proved::write_marks(&plan_text, &mut vec![0.0; numbers.len()]), Ok(numbers.len() / NUMBERS));
     }
-    assert_eq!(sheet::write_report(b"", &mut []), Err(1));
-    assert_eq!(sheet::write_marks(b"", &mut []), Err(1));
+    assert_eq!(proved::write_report(b"", &mut []), Err(1));
+    assert_eq!(proved::write_marks(b"", &mut []), Err(1));
 }
 
 #[test]
@@ -116,9 +116,9 @@ fn marks_of_a_text() {
     for seed in 0..300 {
         let plan_text = generate("medium", seed).expect("a kind");
         let plan = text::read(&plan_text).expect("an acceptable plan");
-        assert_eq!(sheet::marks(&plan_text), Ok(marks::marks(&plan, &passes::draw(&plan))));
+        assert_eq!(proved::marks(&plan_text), Ok(marks::marks(&plan, &passes::draw(&plan))));
     }
-    assert_eq!(sheet::marks(b""), Err(1));
+    assert_eq!(proved::marks(b""), Err(1));
 }
 
 #[test]

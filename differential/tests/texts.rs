@@ -18,7 +18,6 @@ const BEYOND: usize = 24;
 fn compare(name: &str, bytes: &[u8]) -> usize {
     let expected = text::read(bytes).map(|plan| text::write(&plan));
     let number = expected.as_ref().err().copied().unwrap_or(0);
-    assert_eq!(proved::read(bytes), number, "{name}");
     let mut out = vec![OLD; bytes.len() + BEYOND];
     let answer = proved::reread(bytes, &mut out);
     let written = expected.clone().unwrap_or_default();

@@ -5,10 +5,13 @@
 //! - [`preliminary`] gives every vertex its preliminary position;
 //! - [`place_run`] places one run: [`half_steps`] is the definition, [`jumps`] the fast way to the same outcome;
 //! - [`passes`] goes over the levels three times, places their runs and lists the placings;
-//! - [`report`] prints the drawing, and reads a printed one; [`marks`] gives it as points for a screen.
+//! - [`report`] prints the drawing, and reads a printed one; [`marks`] gives it as points for a screen;
+//! - [`sheet`] has the calls on a sheet with their refusals, [`stored`] what its record holds; [`script`] answers scripts of
+//!   such calls.
 //!
 //! Beside them: [`generate`] makes random plan texts, [`edges`] those at the edge of each check, [`readings`] lists texts with
-//! what reading them gives, [`requests`] makes requests for place-run, and [`check`] judges a finished drawing by what was promised of it, without following the method.
+//! what reading them gives, [`requests`] makes requests for place-run, [`scripts`] random scripts, and [`check`] judges a
+//! finished drawing by what was promised of it, without following the method.
 //!
 //! Positions are whole half steps throughout, except inside [`preliminary`], where the two placements are in steps.
 //! Vertices, levels and lines count from 0; printed levels and passes count from 1.
@@ -27,12 +30,20 @@ pub mod marks;
 pub mod passes;
 pub mod place_run;
 pub mod plan;
+mod poke;
+mod pokes;
 pub mod preliminary;
 pub mod random;
 pub mod readings;
 pub mod report;
 pub mod requests;
+mod run_line;
+pub mod script;
+pub mod scripts;
+pub mod sheet;
+pub mod stored;
 pub mod text;
+mod words;
 
 /// The number of a refusal, as document 01 counts them.
 pub type Refusal = u32;
@@ -53,6 +64,16 @@ pub mod refusal {
     pub const VIA: Refusal = 5;
     /// Two inner segments cross.
     pub const CROSSING: Refusal = 6;
+    /// There is no such line or mark.
+    pub const NO_SUCH: Refusal = 7;
     /// What was handed to place-run is not a run.
     pub const RUN: Refusal = 8;
+    /// The sheet is empty.
+    pub const EMPTY: Refusal = 11;
+    /// The sheet is not drawn.
+    pub const NOT_DRAWN: Refusal = 12;
+    /// The sheet's plan is that of no text, or its drawing none of that plan.
+    pub const NO_PLAN: Refusal = 13;
+    /// The buffer is shorter than the line.
+    pub const SHORT_BUFFER: Refusal = 14;
 }

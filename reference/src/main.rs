@@ -1,19 +1,16 @@
-//! The commands; each reads a plan text from standard input, except those that make texts.
+//! The commands; each reads a plan text or a script from standard input, except those that make such.
 
 use std::fs;
 use std::io::{self, Read, Write};
 use std::path::{Path, PathBuf};
 use std::process::ExitCode;
 
-use reference::plan::Plan;
 use reference::random::Random;
 use reference::requests::{self, Request};
-use reference::{check, generate, passes, preliminary, readings, report, text};
+use reference::{check, generate, passes, readings, report, script, scripts, text};
 
 const USAGE: &str = "\
 reference report < PLAN          the report, or (refused N)
-reference preliminary < PLAN     (at n p) for each vertex, or (refused N)
-reference reread < PLAN          the plan's text again, or (refused N)
 reference steps < PLAN           how many half steps all joins of the draw take; 0 if refused
 reference check [REPORT] < PLAN  judges the report, its own or that in the file: ok or (refused N), or each
                                  promise that fails
@@ -21,20 +18,17 @@ reference gen KIND SEED          a random plan text
 reference vectors DIR            compares the report of every NAME.plan with NAME.report
 reference requests COUNT         cases 3 to 7 and COUNT random requests for place-run, a line each
 reference outcomes COUNT         what place-run answers to them, a line each
-reference texts DIR COUNT        plan texts, each after a line with its length: those at the edges of the checks, the
-                                 short plans in the folder, COUNT random damaged ones
-reference readings DIR COUNT     what reading them gives, a line each: (accepted LENGTH) or (refused N)
 reference inputs DIR COUNT       plan texts, each after a line with its length: those at the edges of the checks, all plans
                                  in the folder, COUNT random ones of each kind
 reference reports DIR COUNT      their reports, one after another
+reference script < SCRIPT        the answer to each command, a line each
+reference scripts COUNT SEED     COUNT random scripts from that seed on, as one, each after a remark with its seed
+reference answers DIR START      compares the answers to every NAME.script whose name starts so with NAME.answers
 KIND: small medium wide deep vias max tangled damaged
 ";
 
 /// Most characters in the line of a request that is listed.
 const MOST_IN_LINE: usize = 300;
-
-/// Most bytes of a plan in a folder that is listed.
-const MOST_IN_PLAN: usize = 2_000;
 
 fn main() -> ExitCode {
     let arguments: Vec<String> = std::env::args_os().skip(1).map(|word| word.to_string_lossy().into_owned()).collect();
@@ -54,8 +48,6 @@ fn main() -> ExitCode {
 fn run(words: &[&str]) -> io::Result<bool> {
     match words {
         ["report"] => print(&report::answer(&input()?)),
-        ["preliminary"] => print(&of_plan(&input()?, |plan| report::preliminary_lines(&preliminary::positions(plan)))),
-        ["reread"] => print(&of_plan(&input()?, text::write)),
         ["steps"] => print(format!("{}\n", steps(&input()?)).as_bytes()),
         ["check"] => check(None),
         ["check", file] => check(Some(&fs::read(file)?)),
@@ -63,10 +55,11 @@ fn run(words: &[&str]) -> io::Result<bool> {
         ["vectors", folder] => vectors(Path::new(folder)),
         ["requests", count] => print(lines(number(count)?, |q| q.to_string()).as_bytes()),
         ["outcomes", count] => print(lines(number(count)?, Request::outcome_line).as_bytes()),
-        ["texts", folder, count] => print(&listed(folder, count, readings::with_length)?),
-        ["readings", folder, count] => print(&listed(folder, count, readings::outcome)?),
         ["inputs", folder, count] => print(&of_every_kind(folder, count, readings::with_length)?),
         ["reports", folder, count] => print(&of_every_kind(folder, count, report::answer)?),
+        ["script"] => print(&script::answers(&whole_input()?)),
+        ["scripts", count, seed] => print(scripts::scripts(number(count)?, number(seed)?).as_bytes()),
+        ["answers", folder, start] => answers(Path::new(folder), start),
         _ => Err(wrong(USAGE)),
     }
 }
@@ -88,19 +81,17 @@ fn input() -> io::Result<Vec<u8>> {
     Ok(bytes)
 }
 
+fn whole_input() -> io::Result<Vec<u8>> {
+    let mut bytes = Vec::new();
+    io::stdin().lock().read_to_end(&mut bytes)?;
+    Ok(bytes)
+}
+
 fn print(bytes: &[u8]) -> io::Result<bool> {
     let mut out = io::stdout().lock();
     out.write_all(bytes)?;
     out.flush()?;
     Ok(true)
-}
-
-/// What is to be said of a plan, or its refusal.
-fn of_plan(bytes: &[u8], say: impl FnOnce(&Plan) -> Vec<u8>) -> Vec<u8> {
-    match text::read(bytes) {
-        Ok(plan) => say(&plan),
-        Err(number) => report::refused(number),
-    }
 }
 
 fn steps(bytes: &[u8]) -> u64 {
@@ -144,15 +135,7 @@ fn lines(count: u64, say: impl Fn(&Request) -> String) -> String {
     requests::cases().into_iter().chain(short).map(|q| say(&q) + "\n").collect()
 }
 
-/// What is to be said of plan texts: those at the edges of the checks, the short ones in a folder, and random ones.
-fn listed(folder: &str, count: &str, say: impl Fn(&[u8]) -> Vec<u8>) -> io::Result<Vec<u8>> {
-    let mut given = texts_in(folder)?;
-    given.retain(|text| text.len() <= MOST_IN_PLAN);
-    let texts = readings::texts(given, usize::try_from(number(count)?).unwrap_or(0));
-    Ok(texts.iter().flat_map(|text| say(text)).collect())
-}
-
-/// The same of those at the edges, all in a folder, and random ones of each kind.
+/// What is to be said of plan texts: those at the edges of the checks, all in a folder, and random ones of each kind.
 fn of_every_kind(folder: &str, count: &str, say: impl Fn(&[u8]) -> Vec<u8>) -> io::Result<Vec<u8>> {
     let texts = readings::of_every_kind(texts_in(folder)?, number(count)?);
     Ok(texts.iter().flat_map(|text| say(text)).collect())
@@ -160,29 +143,40 @@ fn of_every_kind(folder: &str, count: &str, say: impl Fn(&[u8]) -> Vec<u8>) -> i
 
 /// The plan texts in a folder, by name.
 fn texts_in(folder: &str) -> io::Result<Vec<Vec<u8>>> {
-    plans(Path::new(folder))?.iter().map(fs::read).collect()
+    files(Path::new(folder), "plan")?.iter().map(fs::read).collect()
 }
 
-/// The files NAME.plan in a folder, by name.
-fn plans(folder: &Path) -> io::Result<Vec<PathBuf>> {
-    let files: Vec<PathBuf> = fs::read_dir(folder)?.map(|entry| Ok(entry?.path())).collect::<io::Result<_>>()?;
-    let mut plans: Vec<PathBuf> = files.into_iter().filter(|file| file.extension() == Some("plan".as_ref())).collect();
-    plans.sort();
-    Ok(plans)
+/// The files NAME.`extension` in a folder, by name.
+fn files(folder: &Path, extension: &str) -> io::Result<Vec<PathBuf>> {
+    let all: Vec<PathBuf> = fs::read_dir(folder)?.map(|entry| Ok(entry?.path())).collect::<io::Result<_>>()?;
+    let mut files: Vec<PathBuf> = all.into_iter().filter(|file| file.extension() == Some(extension.as_ref())).collect();
+    files.sort();
+    Ok(files)
 }
 
 /// Whether all reports in a folder are those of the plans beside them; names those that are not.
 fn vectors(folder: &Path) -> io::Result<bool> {
-    let plans = plans(folder)?;
+    compare(&files(folder, "plan")?, "report", report::answer)
+}
+
+/// Whether all answers in a folder are those to the scripts beside them, of those scripts whose names start so.
+fn answers(folder: &Path, start: &str) -> io::Result<bool> {
+    let mut scripts = files(folder, "script")?;
+    scripts.retain(|script| script.file_name().is_some_and(|name| name.to_string_lossy().starts_with(start)));
+    compare(&scripts, "answers", script::answers)
+}
+
+/// Whether the file with that extension beside each file holds what is to be said of it; names those where it does not.
+fn compare(files: &[PathBuf], extension: &str, say: impl Fn(&[u8]) -> Vec<u8>) -> io::Result<bool> {
     let mut result = String::new();
     let mut differ = 0;
-    for plan in &plans {
-        let report = fs::read(plan.with_extension("report"))?;
-        if report::answer(&fs::read(plan)?) != report {
-            result += &format!("{} differs\n", plan.display());
+    for file in files {
+        let expected = fs::read(file.with_extension(extension))?;
+        if say(&fs::read(file)?) != expected {
+            result += &format!("{} differs\n", file.display());
             differ += 1;
         }
     }
-    result += &format!("{} of {} agree\n", plans.len() - differ, plans.len());
+    result += &format!("{} of {} agree\n", files.len() - differ, files.len());
     print(result.as_bytes()).map(|_| differ == 0)
 }

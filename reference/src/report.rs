@@ -51,15 +51,6 @@ fn push_placing(report: &mut Vec<u8>, placing: &Placing, boxes: &[(usize, i64)])
     report.extend_from_slice(b")\n");
 }
 
-/// One line `(at n p)` for each vertex: its number and preliminary position.
-pub fn preliminary_lines(preliminary: &[i64]) -> Vec<u8> {
-    let mut lines = Vec::new();
-    for (v, &position) in preliminary.iter().enumerate() {
-        push_line(&mut lines, b"(at", &[printed(v), position]);
-    }
-    lines
-}
-
 /// The number by which a vertex is printed.
 fn printed(v: usize) -> i64 {
     v as i64

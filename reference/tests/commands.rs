@@ -33,8 +33,6 @@ fn prints(words: &[&str], input: &[u8], output: &[u8]) {
 #[test]
 fn an_accepted_plan() {
     prints(&["report"], CASE_1, CASE_1_REPORT);
-    prints(&["preliminary"], CASE_1, b"(at 0 -8)\n(at 1 8)\n(at 2 -5)\n(at 3 5)\n(at 4 0)\n");
-    prints(&["reread"], CASE_1, CASE_1);
     prints(&["check"], CASE_1, b"ok\n");
     prints(&["steps"], CASE_1, b"3\n");
 }
@@ -49,7 +47,7 @@ fn steps_are_those_of_the_joins() {
 
 #[test]
 fn a_refused_text() {
-    for command in ["report", "preliminary", "reread", "check"] {
+    for command in ["report", "check"] {
         prints(&[command], b"(plan 1 101 1)\n(level (box 1))\n(end)\n", b"(refused 2)\n");
         prints(&[command], b"", b"(refused 1)\n");
         prints(&[command], &[0xff; 100_000], b"(refused 1)\n");
@@ -107,18 +105,12 @@ fn vectors_are_compared() {
 }
 
 #[test]
-fn texts_and_their_readings() {
+fn texts_and_their_reports() {
     let folder = env::temp_dir().join(format!("reference-{}.texts", process::id()));
     fs::create_dir_all(&folder).expect("a folder");
     fs::write(folder.join("a.plan"), CASE_1).expect("a file");
     fs::write(folder.join("b.plan"), [b' '; 3_000]).expect("a file");
     let name = folder.to_str().expect("a name");
-    let (code, texts) = run(&["texts", name, "0"], b"");
-    assert_eq!((code, texts.ends_with(&[b"122\n", CASE_1].concat())), (WELL, true));
-    let (code, readings) = run(&["readings", name, "0"], b"");
-    assert_eq!((code, readings.ends_with(b"(accepted 122)\n")), (WELL, true));
-    let lines = |count| run(&["readings", name, count], b"").1.iter().filter(|&&byte| byte == b'\n').count();
-    assert_eq!(lines("5"), lines("0") + 5);
     let (code, inputs) = run(&["inputs", name, "0"], b"");
     assert_eq!((code, inputs.ends_with(&[b"122\n", CASE_1, b"3000\n", &[b' '; 3_000]].concat())), (WELL, true));
     let (code, reports) = run(&["reports", name, "0"], b"");
@@ -127,13 +119,35 @@ fn texts_and_their_readings() {
 }
 
 #[test]
+fn scripts_and_their_answers() {
+    prints(&["script"], b"stage 1\n", b"ok empty\n");
+    let (code, scripts) = run(&["scripts", "3", "7"], b"");
+    assert_eq!((code, String::from_utf8_lossy(&scripts)), (WELL, reference::scripts::scripts(3, 7).into()));
+    let starts: Vec<&[u8]> =
+        scripts.split(|&byte| byte == b'\n').filter(|line| line.starts_with(b"# script ")).collect();
+    assert_eq!(starts, [b"# script 7", b"# script 8", b"# script 9"]);
+    let folder = env::temp_dir().join(format!("reference-{}.scripts", process::id()));
+    fs::create_dir_all(&folder).expect("a folder");
+    for name in ["a-1", "b-1"] {
+        fs::write(folder.join(name).with_extension("script"), b"stage 1\n").expect("a file");
+        fs::write(folder.join(name).with_extension("answers"), b"ok empty\n").expect("a file");
+    }
+    let name = folder.to_str().expect("a name");
+    prints(&["answers", name, "a"], b"", b"1 of 1 agree\n");
+    prints(&["answers", name, ""], b"", b"2 of 2 agree\n");
+    fs::write(folder.join("b-1.answers"), b"ok\n").expect("a file");
+    prints(&["answers", name, "a"], b"", b"1 of 1 agree\n");
+    assert_eq!(run(&["answers", name, "b"], b"").0, BROKEN);
+    fs::remove_dir_all(&folder).expect("the folder");
+}
+
+#[test]
 fn wrong_requests() {
-    let wrong: [&[&str]; 20] = [
+    let wrong: [&[&str]; 18] = [
         &[],
         &[""],
         &["draw"],
         &["report", "x"],
-        &["reread", "x"],
         &["gen"],
         &["gen", "small"],
         &["gen", "small", "x"],
@@ -144,11 +158,15 @@ fn wrong_requests() {
         &["gen", "small", "1", "2"],
         &["vectors"],
         &["vectors", "no such folder"],
-        &["texts", "no such folder", "1"],
-        &["readings", ".", "x"],
+        &["inputs", ".", "x"],
         &["inputs", "."],
         &["reports", "no such folder", "1"],
         &["check", "no such file"],
+        &["script", "x"],
+        &["scripts", "1"],
+        &["scripts", "1", "x"],
+        &["answers", "."],
+        &["answers", "no such folder", "e"],
     ];
     for words in wrong {
         let (code, printed) = run(words, CASE_1);

@@ -1,8 +1,8 @@
 // Reads a plan text from standard input and prints all report lines, or the one line `(refused N)`.
-use from_text::print::print;
 use libc::STDIN_FILENO;
 use libc::STDOUT_FILENO;
-use stored::printed::MAX_REPORT;
+use sheet_show::fit::MAX_REPORT;
+use text_report::print::print;
 
 fn main() {
     let mut text = [0u8; 65537];

@@ -17,12 +17,12 @@ use Rattle.plan.specs.Segments.{Segment, segmentsOf, aboveIn, belowIn, above, b
 use Rattle.plan.specs.Strands.{firstOr, follow, topFrom, chainFrom, strandIn, strandOf}
 use Rattle.passes.specs.State.{State, positionOf}
 use Rattle.passes.specs.Words.{rise, bendsBetween, bendsAt, bendCount, strandBendsTwice, bendsAtMostTwice}
-use Rattle.demand3.proofs.All.{all-every}
-use Rattle.demand3.proofs.Levels.{all-numbers}
-use Rattle.demand3.proofs.Sound.{Sound}
+use Rattle.plan.proofs.All.{all-every}
+use Rattle.plan.proofs.Levels.{all-numbers}
+use Rattle.pass_laws.proofs.Sound.{Sound}
 use Rattle.demand3.proofs.Upright.{inner-mem, inner-same}
-use Rattle.demand3.proofs.Trace.{Reached}
-use Rattle.demand3.proofs.Preliminary.{Preliminary}
+use Rattle.pass_laws.proofs.Trace.{Reached}
+use Rattle.pass_laws.proofs.Preliminary.{Preliminary}
 
 abbrev pub segment : ℕ → ℕ → Segment
 segment u v = record { upper = u; lower = v }

@@ -9,7 +9,7 @@ use borrow.Author.Tests.{eqb-true}
 use lib.ListN.{length}
 use lib.IntN.{ℤ}
 use Rattle.run.specs.Words.{sidewaysLength}
-use Rattle.run.proofs.Sorted.{and-left}
+use Rattle.ints.proofs.Tests.{and-left}
 use Rattle.plan.specs.Plan.{PlanData}
 use Rattle.plan.specs.Segments.{segmentsOf}
 use Rattle.passes.specs.Runs.{Run, members}
@@ -18,15 +18,14 @@ use Rattle.passes.specs.Passes.{boxesAt, placed}
 use Rattle.passes.specs.Drawing.{traceOf}
 use Rattle.passes.specs.Words.{runOf, before, stepAt, distancesThen, farApart, isPlacementThen, sidewaysSum, sidewaysThen}
 use Rattle.passes.specs.Demand3.{Best}
-use Rattle.demand3.proofs.Sound.{Sound}
-use Rattle.demand3.proofs.Spaced.{isPlacementIn, inForce, standing, placement-is}
-use Rattle.demand3.proofs.Placing.{placed-optimal, placed-length, boxes-length}
-use Rattle.demand3.proofs.Schedule.{schedule}
-use Rattle.demand3.proofs.Trace.{start}
-use Rattle.demand3.proofs.Moments.{Moment, then, step, final-trace, step-is, before-is, visit-run, reached-then, run-is}
-use Rattle.demand3.proofs.Distances.{force-then}
+use Rattle.pass_laws.proofs.Sound.{Sound}
+use Rattle.pass_laws.proofs.Spaced.{isPlacementIn, inForce, standing, placement-is}
+use Rattle.pass_laws.proofs.Placing.{placed-optimal, placed-length, boxes-length}
+use Rattle.pass_laws.specs.inner.Schedule.{schedule, start}
+use Rattle.pass_laws.proofs.Moments.{Moment, then, step, final-trace, step-is, before-is, visit-run, reached-then, run-is}
+use Rattle.pass_laws.proofs.Distances.{force-then}
 use Rattle.demand3.proofs.Sideways.{sum-is}
-use Rattle.demand3.proofs.Preliminary.{Preliminary}
+use Rattle.pass_laws.proofs.Preliminary.{Preliminary}
 
 module _ {p : PlanData} (so : Sound p) (pre : Preliminary p) {n : ℕ} (m : Moment p (schedule p) (start p) n) where
   pub stepAt-is : stepAt (traceOf p) n ≡ step m

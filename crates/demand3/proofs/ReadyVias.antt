@@ -3,27 +3,29 @@
 use mathlib.Core.Path.{_≡_, refl, sym, _∙_, ap, subst}
 use mathlib.Core.Bool.{Bool, true, false, cond, not, _||_}
 use mathlib.Core.List.{List, [], _∷_, List·Memᴰ, List·Memᴰ·head, List·Memᴰ·tail, List·Memᴰ·not-nil, List·Memᴰ·cases-cons}
-use mathlib.Core.Logic.{_⊎_, inl, inr, ⊎-elim}
+use mathlib.Core.Logic.{_⊎_, ⊎-elim}
 use mathlib.Core.Option.{Option, none, some}
 use Prim.Native.Nat.{ℕ, zero, suc, _+_, _≤_, _<_}
 use native.Mathlib.Omega.{arith}
 use lib.Dec.{eqb, leb}
 use borrow.Author.Tests.{leb-true, ne-eqb}
 use Rattle.ints.proofs.Laws.{if-ind}
-use Rattle.run.proofs.Sorted.{and-right, and-make}
+use Rattle.ints.proofs.Tests.{and-right, _and_}
 use Rattle.plan.specs.Plan.{PlanData, vertexCount, isVia, levelOf, levelAt, numbers}
 use Rattle.plan.specs.Segments.{Segment, segmentsOf, aboveIn, belowIn, above, below, isInner, innerIn, innerSegments}
 use Rattle.passes.specs.Runs.{Run, isBounded}
 use Rattle.passes.specs.State.{State, positionOf}
 use Rattle.passes.specs.Ready.{preceding, firstVia, joinedVia, orElse, nearestLeft, nearestRight, settledBetween, bothSettled, readyFrom, isReady, isSettled}
 use Rattle.passes.specs.Passes.{isDue}
-use Rattle.demand3.proofs.All.{all-mem, no-true}
-use Rattle.demand3.proofs.Levels.{firstOn, sizeOn, level-is}
-use Rattle.demand3.proofs.Sound.{Sound}
+use Rattle.plan.proofs.All.{all-mem, no-true}
+use Rattle.plan.specs.inner.Levels.{firstOn, sizeOn}
+use Rattle.plan.proofs.Levels.{level-is}
+use Rattle.pass_laws.proofs.Sound.{Sound}
 use Rattle.demand3.proofs.Upright.{inner-same}
 use Rattle.demand3.proofs.Bends.{segment, mem-below, mem-above}
-use Rattle.demand3.proofs.Trace.{Reached}
-use Rattle.demand3.proofs.Preliminary.{Preliminary}
+use Rattle.pass_laws.proofs.Trace.{Reached}
+use Rattle.pass_laws.proofs.Preliminary.{Preliminary}
+use Rattle.pass_laws.proofs.Options.{or-cases, never}
 
 -- ---- n is a neighbour of b on the preceding level: below in pass 2, else above
 abbrev pub Levels : Bool → ℕ → ℕ → Type 0
@@ -51,7 +53,7 @@ unfolding innerIn
 mem-inner p [] s m e f = absurd (List·Memᴰ·not-nil m)
 mem-inner p (t ∷ ss) s m e f = if-ind (isInner p t) (t ∷ innerIn p ss) (innerIn p ss) (List·Memᴰ s)
     (λ i. ⊎-elim (λ (z : s ≡ t). List·Memᴰ·head z) (λ n. List·Memᴰ·tail (mem-inner p ss s n e f)) (List·Memᴰ·cases-cons m))
-    (λ i. ⊎-elim (λ (z : s ≡ t). no-true (sym i ∙ subst (λ o. isInner p o ≡ true) z (and-make e f))) (λ n. mem-inner p ss s n e f) (List·Memᴰ·cases-cons m))
+    (λ i. ⊎-elim (λ (z : s ≡ t). no-true (sym i ∙ subst (λ o. isInner p o ≡ true) z (_and_ e f))) (λ n. mem-inner p ss s n e f) (List·Memᴰ·cases-cons m))
 
 module _ {p : PlanData} (so : Sound p) where
   joined-below : (v u : ℕ) → isVia p v ≡ true → isVia p u ≡ true → List·Memᴰ u (belowIn (segmentsOf p) v) → Joined p true v u
@@ -103,13 +105,6 @@ nearest-more c n u r = record { vertex = r .vertex; from = omega (arith, r .from
 
 nearest-here : {p : PlanData} {t : Bool} (c n u : ℕ) {Q : ℕ → Type 0} → Q c → Joined p t c u → Nearest p t c (suc n) u Q
 nearest-here c n u h j = record { vertex = c; from = omega arith; to = omega arith; side = h; joined = j }
-
-pub or-cases : (a b : Option ℕ) (u : ℕ) → orElse a b ≡ some u → (a ≡ some u) ⊎ (b ≡ some u)
-or-cases none b u e = inr e
-or-cases (some w) b u e = inl e
-
-pub never : {G : Type 0} (u : ℕ) → _≡_ {A = Option ℕ} none (some u) → G
-never u e = let z : _≡_ {A = ℕ} 0 1 = cc in absurd (omega arith)
 
 module _ {p : PlanData} (so : Sound p) (q bound : ℕ) where
   nearest-left : (c n u : ℕ) → nearestLeft p q bound (numbers c n) ≡ some u → Nearest p (eqb q 2) c n u (λ v. v ≤ bound)

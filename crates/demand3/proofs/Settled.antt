@@ -7,22 +7,23 @@ use Prim.Native.Nat.{ℕ, _+_, _≤_, _<_}
 use native.Mathlib.Omega.{arith}
 use Rattle.ints.proofs.Laws.{cases}
 use Rattle.plan.specs.Plan.{PlanData}
-use Rattle.plan.specs.Checks.{some as any}
+use Rattle.plan.specs.Checks.{any}
 use Rattle.preliminary.specs.Positions.{preliminary}
 use Rattle.passes.specs.Runs.{Run, isBounded}
 use Rattle.passes.specs.State.{State, positionOf}
 use Rattle.passes.specs.Ready.{hasNoSlack, places, isSettled}
 use Rattle.passes.specs.Passes.{placed, isDue, visit}
 use Rattle.passes.specs.Words.{timesPlaced}
-use Rattle.demand3.proofs.All.{all-nil, all-cons, no-true}
-use Rattle.demand3.proofs.Sound.{Sound}
-use Rattle.demand3.proofs.RunsOn.{IsRun}
-use Rattle.demand3.proofs.Schedule.{ToRuns, Visit, visitAll, Other}
-use Rattle.demand3.proofs.Trace.{Reached, reached-visit}
-use Rattle.demand3.proofs.Moments.{grown-visit}
-use Rattle.demand3.proofs.Counts.{times, times-append, any-none, slack-still, due-settled, settled-slack, settled-placed}
-use Rattle.demand3.proofs.Frame.{other-box, box-still, visit-keeps}
-use Rattle.demand3.proofs.Distances.{same-or-other}
+use Rattle.plan.proofs.All.{all-nil, all-cons, no-true}
+use Rattle.pass_laws.proofs.Sound.{Sound}
+use Rattle.pass_laws.specs.inner.Runs.{IsRun}
+use Rattle.pass_laws.proofs.Schedule.{ToRuns, Other}
+use Rattle.pass_laws.specs.inner.Schedule.{Visit, visitAll}
+use Rattle.pass_laws.proofs.Trace.{Reached, reached-visit}
+use Rattle.pass_laws.proofs.Moments.{grown-visit}
+use Rattle.pass_laws.proofs.Counts.{times, times-append, any-none, slack-still, due-settled, settled-slack, settled-placed}
+use Rattle.pass_laws.proofs.Frame.{other-box, box-still, visit-keeps}
+use Rattle.pass_laws.proofs.Distances.{same-or-other}
 
 -- no slack, or placed before
 abbrev pub Settled : PlanData → State → Run → Type 0

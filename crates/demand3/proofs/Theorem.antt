@@ -5,32 +5,21 @@ use Prim.Native.Nat.{ℕ, _≤_, _<_}
 use lib.ListN.{length}
 use Rattle.plan.specs.Plan.{PlanData}
 use Rattle.plan.specs.Acceptable.{acceptable}
-use Rattle.preliminary.specs.Positions.{preliminary}
 use Rattle.passes.specs.Runs.{isBounded}
-use Rattle.passes.specs.State.{Step, State}
-use Rattle.passes.specs.Drawing.{Drawing, listed, traceOf, drawingOf}
+use Rattle.passes.specs.State.{Step}
+use Rattle.passes.specs.Drawing.{listed, traceOf, drawingOf}
 use Rattle.passes.specs.Words.{runOf, finished, stepAt}
 use Rattle.passes.specs.Demand3.{Best, Demand3}
-use Rattle.demand3.proofs.Sound.{Sound, sound}
-use Rattle.demand3.proofs.Schedule.{three-is}
-use Rattle.demand3.proofs.Trace.{start}
-use Rattle.demand3.proofs.Moments.{step, final, final-trace, reached-final, finished-is, moment-of, run-is}
+use Rattle.pass_laws.proofs.Sound.{Sound, sound}
+use Rattle.pass_laws.proofs.Moments.{step, final-trace, reached-final, finished-is, moment-of, run-is, drawing, drawing-is}
 use Rattle.demand3.proofs.Upright.{order-kept, inner-upright}
 use Rattle.demand3.proofs.Bends.{bends-twice}
-use Rattle.demand3.proofs.Due.{placed-as-due}
+use Rattle.pass_laws.proofs.Due.{placed-as-due}
 use Rattle.demand3.proofs.BestThen.{stepAt-is, best-then}
 use Rattle.demand3.proofs.Lasting.{best-last}
-use Rattle.demand3.proofs.DrawingWithin.{drawing-within}
-use Rattle.demand3.proofs.Preliminary.{Preliminary}
-use Rattle.demand3.proofs.Kept.{kept}
-
--- the drawing, by the list of visits
-drawing : PlanData → Drawing
-drawing p = record { preliminary = preliminary p; final = final p .at; placings = listed p (final p .trace) }
-
-drawing-is : (p : PlanData) → drawingOf p ≡ drawing p
-unfolding drawingOf drawing
-drawing-is p = ap (λ (s : State). record { preliminary = preliminary p; final = s .at; placings = listed p (s .trace) }) (three-is p (start p))
+use Rattle.pass_laws.proofs.DrawingWithin.{drawing-within}
+use Rattle.pass_laws.proofs.Preliminary.{Preliminary}
+use Rattle.pass_laws.proofs.Kept.{kept}
 
 module _ {p : PlanData} (so : Sound p) (pre : Preliminary p) where
   last-bounded : (i : ℕ) (m : i < length (traceOf p)) → isBounded (runOf p (stepAt (traceOf p) i)) ≡ true → stepAt (traceOf p) i .pass ≤ 2 → Best p (traceOf p) i (finished p (traceOf p))

@@ -8,17 +8,17 @@ use native.Mathlib.Omega.{arith}
 use lib.IntN.{ℤ, pos, _-ℤ_}
 use Rattle.ints.specs.Ints.{P, N}
 use Rattle.ints.proofs.Laws.{dif, eq-make, make-le-true, if-ind}
-use Rattle.run.proofs.Sorted.{and-left, and-right}
+use Rattle.ints.proofs.Tests.{and-left, and-right}
 use Rattle.plan.specs.Plan.{PlanData, isVia}
 use Rattle.plan.specs.Segments.{Segment, segmentsOf, isInner, innerIn, innerSegments}
 use Rattle.passes.specs.State.{State, positionOf, doubled}
 use Rattle.passes.specs.Ready.{equals}
 use Rattle.passes.specs.Words.{isApart, keepsOrder, isUpright, innerUpright}
-use Rattle.demand3.proofs.All.{all-of-mem, all-every}
-use Rattle.demand3.proofs.Levels.{sides-all}
-use Rattle.demand3.proofs.Invariant.{Inv}
-use Rattle.demand3.proofs.Trace.{Reached}
-use Rattle.demand3.proofs.Preliminary.{Preliminary}
+use Rattle.plan.proofs.All.{all-of-mem, all-every}
+use Rattle.plan.proofs.Levels.{sides-all}
+use Rattle.pass_laws.proofs.Invariant.{Inv}
+use Rattle.pass_laws.proofs.Trace.{Reached}
+use Rattle.pass_laws.proofs.Preliminary.{Preliminary}
 
 pub order-kept : {p : PlanData} {s : State} → Inv p s → keepsOrder p (s .at) ≡ true
 unfolding keepsOrder

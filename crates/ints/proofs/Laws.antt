@@ -11,11 +11,11 @@
 --     fit-sum, fit-dif   are rules too, for a need that a sum or a difference fits an i64: `omega (arith, fit-sum)`
 --     cast-make, cast-dif     what the cast of a signed number or difference to u64 needs
 --     back, back′, of-nat     what the machine reads back from a signed local's bits
-use mathlib.Core.Path.{_≡_, refl, sym, ap, _∙_, subst}
+use mathlib.Core.Path.{_≡_, refl, sym, ap, subst}
 use mathlib.Core.Bool.{Bool, true, false, not, cond}
-use Prim.Native.Nat.{ℕ, zero, suc, _+_, _-_, _*_, _^_, _≤_, _<_, min, max}
+use Prim.Native.Nat.{ℕ, zero, suc, _+_, _-_, _^_, _≤_, _<_, min, max}
 use native.Mathlib.Omega.{arith}
-use lib.Dec.{T, ltb, leb, ltb→lt, nltb→le, lt→ltb, le→leb, leb→le, nleb→lt}
+use lib.Dec.{T, ltb, leb, ltb→lt, nltb→le, leb→le}
 use borrow.Author.Tests.{ltb-true, ltb-false, leb-true, leb-false, lt-ltb, le-ltb, le-leb, lt-leb}
 use lib.IntN.{ℤ, pos, negsuc, negℤ, subℕ, _+ℤ_, _-ℤ_, natAbs}
 use lib.Signed.{mag, nonNeg, ltZ, leZ, _≤ℤ_, _<ℤ_}
@@ -203,18 +203,6 @@ cast-dif a b h k = cast-make (a -ℤ b) (omega (arith, dif a b, apart (a -ℤ b)
 pub if-ind : {X : Type 0} (c : Bool) (x y : X) (Q : X → Type 0) → (c ≡ true → Q x) → (c ≡ false → Q y) → Q (cond c x y)
 if-ind true x y Q f g = f refl
 if-ind false x y Q f g = g refl
-
-pub min-l : (a b : ℤ) → P a + N b ≤ P b + N a → minZ a b ≡ a
-min-l a b h = simp (make-lt-false b a h)
-
-pub min-r : (a b : ℤ) → P b + N a ≤ P a + N b → minZ a b ≡ b
-min-r a b h = if-ind (ltZ b a) b a (λ z. z ≡ b) (λ t. refl) (λ t. let k = lt-false b a t in eq-make a b (omega arith))
-
-pub max-l : (a b : ℤ) → P b + N a ≤ P a + N b → maxZ a b ≡ a
-max-l a b h = simp (make-lt-false a b h)
-
-pub max-r : (a b : ℤ) → P a + N b ≤ P b + N a → maxZ a b ≡ b
-max-r a b h = if-ind (ltZ a b) b a (λ z. z ≡ b) (λ t. refl) (λ t. let k = lt-false a b t in eq-make a b (omega arith))
 
 pub record Min (a b m : ℤ) : Type 0 where
   pub p : P m ≡ min (P a) (P b)

@@ -12,9 +12,6 @@ use Rattle.ints.specs.Lists.{over, sum, concat}
 
 -- ---- a list that a loop fills
 module _ {A : Type 0} where
-  pub over-none : (o : List A) → over [] o ≡ o
-  over-none o = refl
-
   -- a store at the next place makes xs one longer
   pub over-more : (xs o : List A) (i : ℕ) (v : A) → length xs ≡ i → i < length o → set (over xs o) i v ≡ over (xs ++ v ∷ []) o
   over-more xs o i v e h =

@@ -1,8 +1,8 @@
 -- Integers as this project writes them: the two parts of a number, its order, the lesser and the greater of two, and how far
 -- apart two stand. Positions are integers; the laws that let omega read them are in proofs/Laws.antt.
-use mathlib.Core.Bool.{Bool, true, false, cond}
+use mathlib.Core.Bool.{cond}
 use mathlib.Core.List.{List}
-use Prim.Native.Nat.{ℕ, zero, suc, _+_, _≤_, _<_}
+use Prim.Native.Nat.{ℕ, suc, _+_, _≤_, _<_}
 use lib.ListN.{getD}
 use lib.IntN.{ℤ, pos, negsuc, _-ℤ_, natAbs}
 use lib.Signed.{ltZ}

@@ -3,7 +3,7 @@
 pub mod within;
 
 ghost use mathlib.Core.Path.{_≡_};
-ghost use Prim.Native.Nat.{ℕ, _+_, _≤_, _<_, _^_};
+ghost use Prim.Native.Nat.{_+_, _≤_, _<_, _^_};
 ghost use lib.ListN.{length};
 ghost use lib.IntN.{ℤ, pos, _+ℤ_, _-ℤ_};
 ghost use lib.Signed.{ltZ};
@@ -69,10 +69,12 @@ pub fn too_near(a: i64, b: i64, d: u64) -> bool
     requires { ⌜ (size a + size b < 2 ^ 63) × (d < 2 ^ 63) ⌝ }
     ensures { λ r. ⌜ r ≡ ltZ (b -ℤ a) (pos d) ⌝ }
 {
-    b - a < d as i64
+    let between = b - a;
+    let least = d as i64;
+    between < least
 }
 
-fn wide(x: u16) -> usize
+pub fn wide(x: u16) -> usize
     ensures { λ r. ⌜ r ≡ x ⌝ }
 {
     x as usize

@@ -12,7 +12,7 @@ use Rattle.plan.proofs.Sound.{sound}
 use Rattle.ints.specs.Reach.{allWithin}
 use Rattle.marks.specs.Marks.{markCount}
 use Rattle.marks.specs.Exact.{Exact}
-use Rattle.marks.specs.Asked.{InReach, AskedAll, Asked}
+use Rattle.marks.specs.inner.Asked.{InReach, AskedAll, Asked}
 use Rattle.marks.proofs.Exact.{mark-exact}
 
 module _ (p : PlanData) (xs : List ℤ) (ok : acceptable p ≡ true) (near : allWithin xs ≡ true) where
@@ -22,7 +22,10 @@ module _ (p : PlanData) (xs : List ℤ) (ok : acceptable p ≡ true) (near : all
   pub asked-all : length xs ≡ vertexCount p → AskedAll (p .spacing) (p .sizes) (p .vias) (p .halves) (p .uppers) (p .lowers) xs
   asked-all e =
       let S = sound p ok in let l = S .limits in
-      record { near = in-reach; widths = l .halves-long; positions = e; ends = l .ends-long; upper = S .ends .upper; lower = S .ends .lower }
+      record {
+        near = in-reach;
+        agreeing = record { few = l .lists .vertices; widths = l .halves-long; positions = e; ends = l .ends-long; upper = S .ends .upper; lower = S .ends .lower };
+      }
 
   pub asked : (n : ℕ) → length xs ≡ vertexCount p → n < markCount p → Asked (p .spacing) (p .sizes) (p .vias) (p .halves) (p .uppers) (p .lowers) xs n
   asked n e h = record { lists = asked-all e; number = h }

@@ -1,6 +1,5 @@
 -- The numbers of all marks, as a loop writes them: those of the next mark, and what is left after it. Assumes nothing.
 use mathlib.Core.Path.{_≡_, refl, sym, _∙_}
-use mathlib.Core.Bool.{Bool}
 use mathlib.Core.List.{List, map}
 use Prim.Native.Nat.{ℕ, zero, suc, _+_, _*_, _-_, _≤_, _<_}
 use native.Mathlib.Omega.{arith}
@@ -10,11 +9,10 @@ use lib.IntN.{ℤ}
 use lib.Ieee.{Float}
 use Rattle.ints.specs.Lists.{over, concat}
 use Rattle.plan.specs.Plan.{PlanData, numbers}
-use Rattle.text.proofs.Stores.{sets-append, sets-over}
+use Rattle.text_scan.proofs.Stores.{sets-append, sets-over}
 use Rattle.marks.specs.declared.types.Mark.{Mark}
 use Rattle.marks.specs.declared.types.Mark.the-variants.{Box, Bend, Line}
 use Rattle.marks.specs.Marks.{markOf, markCount, fiveOf, allNumbers}
-use Rattle.marks.specs.Asked.{DataOf}
 
 five-long : (m : Mark) → length (fiveOf m) ≡ 5
 unfolding fiveOf
@@ -56,8 +54,3 @@ module _ (p : PlanData) (xs : List ℤ) where
   all-put n o o′ h r l =
       let k : markCount p - n ≡ 0 = omega arith in
       rw k at l ∙ sets-over o (allNumbers p xs) (omega (arith, all-long))
-
--- How many marks a plan with these lists has.
-pub count-is : (p : PlanData) (spacing : ℕ) (sizes : List ℕ) (vias : List Bool) (halves uppers lowers : List ℕ) → DataOf p spacing sizes vias halves uppers lowers
-    → markCount p ≡ length vias + length uppers
-count-is p spacing sizes vias halves uppers lowers d = rw (d .viasAre, d .uppersAre)

@@ -6,21 +6,10 @@ use mathlib.Core.List.{List, [], _∷_, map}
 use lib.IntN.{ℤ, pos, negsuc}
 use lib.Count.{trailingZeros}
 use lib.Ieee.{Float, fin, mul, round, ofInt, ofBits, ofFields, odd, size, units, span, climb}
-use Rattle.plan.specs.Plan.{PlanData, levelIn, levelOf, heightOf}
+use Rattle.plan.specs.Plan.{levelIn, levelOf, heightOf}
 use Rattle.marks.specs.Half.{point5, halfOf, wholeOf}
 use Rattle.marks.specs.Marks.{markOf, fiveOf}
-
-abbrev case1 : PlanData
-case1 = record {
-  levels = 3;
-  gap = 2;
-  spacing = 10;
-  sizes = 2 ∷ 2 ∷ 1 ∷ [];
-  vias = false ∷ false ∷ true ∷ false ∷ false ∷ [];
-  halves = 3 ∷ 3 ∷ 0 ∷ 3 ∷ 3 ∷ [];
-  uppers = 0 ∷ 1 ∷ 2 ∷ 3 ∷ [];
-  lowers = 2 ∷ 3 ∷ 4 ∷ 4 ∷ [];
-}
+use Rattle.plan.proofs.Case1.{case1}
 
 abbrev finals : List ℤ
 finals = negsuc 4 ∷ pos 11 ∷ negsuc 4 ∷ pos 8 ∷ negsuc 4 ∷ []

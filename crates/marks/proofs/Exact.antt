@@ -16,15 +16,14 @@ use lib.Ieee.Fits.{down-pos}
 use lib.Ieee.Exact.{HasValue, round-exact}
 use lib.Ieee.Back.{round-whole}
 use Rattle.plan.specs.Plan.{PlanData, vertexCount, isVia, halfWidth, levelIn, levelOf, heightOf}
-use Rattle.plan.proofs.LevelLaws.{level-most}
 use Rattle.passes.specs.State.{positionOf}
 use Rattle.marks.specs.declared.types.Point.{Point}
 use Rattle.marks.specs.declared.types.Mark.the-variants.{Box, Bend, Line}
-use Rattle.marks.specs.Half.{point5, halfOf, wholeOf}
+use Rattle.marks.specs.Half.{point5, halfOf, wholeOf, maxWhole}
 use Rattle.marks.specs.Marks.{pointAt, upperEnd, lowerEnd, markOf}
 use Rattle.marks.specs.Exact.{StandsAt, Exact}
-use Rattle.marks.specs.Asked.{InReach}
-use Rattle.marks.proofs.Laws.{height-most, within-at}
+use Rattle.marks.specs.inner.Asked.{InReach}
+use Rattle.marks.proofs.Laws.{height-low, within-at}
 
 -- ---- the cast
 pub cast-holds : (x : ℤ) → natAbs x ≤ 2 ^ 40 → T (inFloat binary64 x)
@@ -32,12 +31,16 @@ unfolding inFloat
 cast-holds (pos n) h = le→leb n (2 ^ 53) (omega arith)
 cast-holds (negsuc n) h = lt→ltb n (2 ^ 53) (omega arith)
 
+pub whole-holds : (n : ℕ) → n ≤ maxWhole → T (inFloat binary64 (pos n))
+unfolding inFloat
+whole-holds n h = le→leb n (2 ^ 53) h
+
 int-exact : (x : ℤ) → natAbs x ≤ 2 ^ 40 → HasValue (ofInt binary64 x) (not (nonNeg x)) (natAbs x) 1
 unfolding ofInt
 int-exact (pos n) h = round-whole binary64 false n (omega arith)
 int-exact (negsuc n) h = round-whole binary64 true (suc n) (omega arith)
 
-pub whole-exact : (n : ℕ) → n < 2 ^ 53 → HasValue (wholeOf n) false n 1
+pub whole-exact : (n : ℕ) → n < maxWhole → HasValue (wholeOf n) false n 1
 unfolding wholeOf ofInt
 whole-exact n h = round-whole binary64 false n (omega arith)
 
@@ -84,13 +87,10 @@ half-exact x h = rw point5-is (halved (ofInt binary64 x) (not (nonNeg x)) (natAb
 -- ---- the marks of a plan
 point-exact : (p : PlanData) (xs : List ℤ) → InReach (p .spacing) (p .sizes) xs → (v : ℕ) → StandsAt p xs v (pointAt p xs v)
 unfolding heightOf levelOf
-point-exact p xs h v =
-    let few : levelIn (p .sizes) v - 1 ≤ 64 = omega (arith, level-most (p .sizes) v, h .levels) in
-    let low = height-most (p .spacing) (levelIn (p .sizes) v - 1) (h .spaced) few in
-    record {
-      across = half-exact (positionOf xs v) (within-at xs v (h .within));
-      down = whole-exact (p .spacing * (levelIn (p .sizes) v - 1)) (omega arith);
-    }
+point-exact p xs h v = record {
+  across = half-exact (positionOf xs v) (within-at xs v (h .within));
+  down = whole-exact (p .spacing * (levelIn (p .sizes) v - 1)) (height-low h v);
+}
 
 -- A mark picked by two tests, and what it is made of.
 module _ (c a b q r : Point) (w z : Float) where
@@ -109,7 +109,7 @@ module _ (c a b q r : Point) (w z : Float) where
   picked-line true false e = absurd (let f : _≡_ {A = ℕ} 0 1 = cc in omega arith)
   picked-line false u e = (cc, cc)
 
-pub mark-exact : (p : PlanData) (xs : List ℤ) (n : ℕ) → InReach (p .spacing) (p .sizes) xs → halfWidth p n < 2 ^ 53 → Exact p xs n
+pub mark-exact : (p : PlanData) (xs : List ℤ) (n : ℕ) → InReach (p .spacing) (p .sizes) xs → halfWidth p n < maxWhole → Exact p xs n
 unfolding markOf
 mark-exact p xs n h small =
     let k = n - vertexCount p in

@@ -1,8 +1,8 @@
--- Bounds that the marks' numbers need, of a level, a height and a position; and a plan's marks by its lists. Assumes nothing.
-use mathlib.Core.Path.{_≡_}
+-- Bounds that the marks' numbers need, of a height and a position; and a plan's marks by its lists. Assumes nothing.
+use mathlib.Core.Path.{_≡_, sym, _∙_, ap}
 use mathlib.Core.Bool.{Bool, true, false, cond}
 use mathlib.Core.List.{List}
-use Prim.Native.Nat.{ℕ, _*_, _-_, _≤_, _<_}
+use Prim.Native.Nat.{ℕ, _+_, _*_, _-_, _≤_, _<_}
 use native.Mathlib.Nat.{mul-le-mul}
 use native.Mathlib.Omega.{arith}
 use borrow.Author.Tests.{lt-ltb, le-ltb}
@@ -10,29 +10,77 @@ use lib.ListN.{length, getD}
 use lib.IntN.{ℤ, natAbs}
 use Rattle.ints.proofs.Laws.{abs}
 use Rattle.ints.proofs.Reach.{within-at as size-at}
-use Rattle.plan.specs.Plan.{PlanData, levelOf, heightOf}
+use Rattle.plan.specs.Plan.{PlanData, levelIn, levelOf, heightOf}
+use Rattle.plan.proofs.LevelLaws.{level-most}
+use Rattle.plan_checks.specs.inner.Heights.{heightAt, HeightsOf}
 use Rattle.passes.specs.State.{positionOf}
 use Rattle.ints.specs.Reach.{reach, allWithin}
-use Rattle.marks.specs.declared.types.Mark.the-variants.{Box, Bend, Line}
-use Rattle.marks.specs.Half.{wholeOf}
-use Rattle.marks.specs.Marks.{markOf}
-use Rattle.marks.specs.Asked.{pointIn, DataOf}
+use Rattle.marks.specs.declared.types.Mark.the-variants.{Box, Bend}
+use Rattle.marks.specs.Half.{wholeOf, maxWhole}
+use Rattle.marks.specs.Marks.{markOf, markCount}
+use Rattle.marks.specs.inner.Asked.{pointIn, lineIn, DataOf, DataAt, AskedEach, InReach, AskedAll}
 
-pub height-most : (s l : ℕ) → s ≤ 10000 → l ≤ 64 → s * l ≤ 640000
-height-most s l h k = mul-le-mul h k
+pub height-low : {spacing : ℕ} {sizes : List ℕ} {xs : List ℤ} → InReach spacing sizes xs → (v : ℕ) → heightAt spacing sizes v < maxWhole
+unfolding heightOf levelOf
+height-low {spacing} {sizes} h v =
+    let few : levelIn sizes v - 1 ≤ 64 = omega (arith, level-most sizes v, h .levels) in
+    let low : spacing * (levelIn sizes v - 1) ≤ 10000 * 64 = mul-le-mul (h .spaced) few in
+    omega arith
 
 pub within-at : (xs : List ℤ) (v : ℕ) → allWithin xs ≡ true → natAbs (positionOf xs v) ≤ reach
 within-at xs v e = omega (arith, abs (positionOf xs v), size-at xs v e)
 
--- ---- the n-th mark, by the plan's lists
-module _ (p : PlanData) (spacing : ℕ) (sizes : List ℕ) (vias : List Bool) (halves uppers lowers : List ℕ) (xs : List ℤ) (n : ℕ)
-    (d : DataOf p spacing sizes vias halves uppers lowers) where
-  pub vertex-is : n < length vias
-      → markOf p xs n ≡ cond (getD vias n false) (Bend (pointIn spacing sizes xs n)) (Box (pointIn spacing sizes xs n) (wholeOf (getD halves n 0)))
-  unfolding markOf heightOf levelOf
-  vertex-is h = rw (d .viasAre, d .spacingIs, d .sizesAre, d .halvesAre, lt-ltb n (length vias) h)
+-- ---- a plan with these data
+module _ {p : PlanData} {spacing : ℕ} {sizes : List ℕ} {vias : List Bool} {halves uppers lowers : List ℕ} (d : DataOf p spacing sizes vias halves uppers lowers) where
+  -- how many marks it has
+  pub count-is : markCount p ≡ length vias + length uppers
+  count-is = rw (ap (λ (q : PlanData). q .vias) d, ap (λ (q : PlanData). q .uppers) d)
 
-  pub segment-is : length vias ≤ n
-      → markOf p xs n ≡ Line (pointIn spacing sizes xs (getD uppers (n - length vias) 0)) (pointIn spacing sizes xs (getD lowers (n - length vias) 0))
+  pub data-at : {heights : List ℕ} → HeightsOf spacing sizes heights → DataAt p heights vias halves uppers lowers
+  data-at r =
+      let e : p .spacing ≡ spacing = ap (λ (q : PlanData). q .spacing) d in
+      let f : p .sizes ≡ sizes = ap (λ (q : PlanData). q .sizes) d in
+      record { raised = rw (e, f) r; lists = d ∙ rw (e, f) }
+
+pub asked-each : {spacing : ℕ} {sizes : List ℕ} {vias : List Bool} {halves uppers lowers : List ℕ} {xs : List ℤ} (heights : List ℕ) → AskedAll spacing sizes vias halves uppers lowers xs
+    → length heights ≡ length vias → HeightsOf spacing sizes heights → AskedEach heights vias halves uppers lowers xs
+asked-each heights a e r = record {
+  standing = record { long = omega (arith, a .agreeing .positions); low = λ v h. omega (arith, r .each v h, height-low (a .near) v); within = a .near .within };
+  agreeing = a .agreeing;
+}
+
+-- the ends of the k-th segment
+pub ends-stand : {heights : List ℕ} {vias : List Bool} {halves uppers lowers : List ℕ} {xs : List ℤ} → AskedEach heights vias halves uppers lowers xs
+    → (k : ℕ) → k < length uppers → (getD uppers k 0 < length xs) × (getD lowers k 0 < length xs)
+ends-stand h k l =
+    let a = h .agreeing in
+    (omega (arith, a .upper k l, a .positions), omega (arith, a .lower k (omega (arith, a .ends)), a .positions))
+
+-- ---- the n-th mark, by the plan's lists
+module _ (p : PlanData) (heights : List ℕ) (vias : List Bool) (halves uppers lowers : List ℕ) (xs : List ℤ) (n : ℕ)
+    (d : DataAt p heights vias halves uppers lowers) where
+  abbrev e-vias : p .vias ≡ vias
+  e-vias = ap (λ (q : PlanData). q .vias) (d .lists)
+
+  stands : (v : ℕ) → v < length heights → heightOf p (levelOf p v) ≡ getD heights v 0
+  unfolding heightOf levelOf
+  stands v h = sym (d .raised .each v h)
+
+  pub vertex-is : n < length vias → n < length heights
+      → markOf p xs n ≡ cond (getD vias n false) (Bend (pointIn heights xs n)) (Box (pointIn heights xs n) (wholeOf (getD halves n 0)))
   unfolding markOf heightOf levelOf
-  segment-is h = rw (d .viasAre, d .spacingIs, d .sizesAre, d .uppersAre, d .lowersAre, le-ltb n (length vias) h)
+  vertex-is h k = rw (e-vias, stands n k, ap (λ (q : PlanData). q .halves) (d .lists), lt-ltb n (length vias) h)
+
+  pub segment-is : (k : ℕ) → k ≡ n - length vias → length vias ≤ n → getD uppers k 0 < length heights → getD lowers k 0 < length heights
+      → markOf p xs n ≡ lineIn heights xs (getD uppers k 0) (getD lowers k 0)
+  unfolding markOf heightOf levelOf
+  segment-is k e h a b =
+      rw (
+        e-vias,
+        ap (λ (q : PlanData). q .uppers) (d .lists),
+        ap (λ (q : PlanData). q .lowers) (d .lists),
+        le-ltb n (length vias) h,
+        ← e,
+        stands (getD uppers k 0) a,
+        stands (getD lowers k 0) b,
+      )

@@ -1,5 +1,5 @@
 -- Whole numbers as f64: half of one, and one itself.
-use Prim.Native.Nat.{ℕ}
+use Prim.Native.Nat.{ℕ, _^_}
 use lib.IntN.{ℤ, pos}
 use lib.Ieee.{Float, binary64, mul, ofInt, ofBits}
 
@@ -13,3 +13,7 @@ halfOf x = mul binary64 (ofInt binary64 x) point5
 
 unfoldable pub wholeOf : ℕ → Float
 wholeOf n = ofInt binary64 (pos n)
+
+-- Every whole number up to this is an f64.
+abbrev pub maxWhole : ℕ
+maxWhole = 2 ^ 53

@@ -1,4 +1,4 @@
 pub mod Half
 pub mod Marks
 pub mod Exact
-pub mod Asked
+pub mod inner

@@ -3,6 +3,7 @@ ghost use mathlib.Core.Path.{_≡_};
 ghost use lib.IntN.{natAbs};
 ghost use Prim.Native.Nat.{_≤_};
 ghost use Rattle.ints.specs.Reach.{reach};
+ghost use Rattle.marks.specs.Half.{maxWhole};
 ghost use Rattle.marks.specs.Marks.{pointOf};
 
 // A point in steps.
@@ -13,8 +14,8 @@ pub struct Point {
 
 impl Point {
     // The point x half steps to the right of 0 and y steps below the top level.
-    pub fn new(x: i64, y: u32) -> Self
-        requires { ⌜ natAbs x ≤ reach ⌝ }
+    pub fn new(x: i64, y: u64) -> Self
+        requires { ⌜ (natAbs x ≤ reach) × (y ≤ maxWhole) ⌝ }
         ensures { λ r. ⌜ r ≡ pointOf x y ⌝ }
     {
         Self {

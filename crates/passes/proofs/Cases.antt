@@ -1,14 +1,15 @@
 -- Drawings of small plans, computed from the definitions. Each tells a wrong rule from the right one.
 use mathlib.Core.Path.{_≡_, refl}
-use mathlib.Core.Bool.{Bool, true, false}
+use mathlib.Core.Bool.{true, false}
 use mathlib.Core.List.{List, [], _∷_, map}
 use Prim.Native.Nat.{ℕ}
 use lib.IntN.{ℤ, pos, negsuc}
-use Rattle.plan.specs.Plan.{PlanData}
-use Rattle.passes.specs.Drawing.{BoxAt, Placing, Drawing, drawingOf}
+use Rattle.plan.specs.Plan.{PlanData, dataOf}
+use Rattle.passes.specs.Drawing.{BoxAt, Placing, drawingOf}
 use Rattle.passes.specs.Words.{bendsAt}
 use Rattle.passes.proofs.Open.{passesOpen}
 use Rattle.passes.proofs.Tried.{wordsHold, triedOpen}
+use Rattle.plan.proofs.Case1.{case1}
 
 abbrev at : ℕ → ℤ → BoxAt
 at v x = record { vertex = v; position = x }
@@ -17,19 +18,7 @@ abbrev place : ℕ → ℕ → List BoxAt → Placing
 place q l bs = record { pass = q; level = l; boxes = bs }
 
 -- Case 1: open runs take on their distances, that to the bound included.
-abbrev pub one : PlanData
-one = record {
-  levels = 3;
-  gap = 2;
-  spacing = 10;
-  sizes = 2 ∷ 2 ∷ 1 ∷ [];
-  vias = false ∷ false ∷ true ∷ false ∷ false ∷ [];
-  halves = 3 ∷ 3 ∷ 0 ∷ 3 ∷ 3 ∷ [];
-  uppers = 0 ∷ 1 ∷ 2 ∷ 3 ∷ [];
-  lowers = 2 ∷ 3 ∷ 4 ∷ 4 ∷ [];
-}
-
-pub one-drawn : drawingOf one ≡ record {
+pub case1-drawn : drawingOf case1 ≡ record {
   preliminary = negsuc 7 ∷ pos 8 ∷ negsuc 4 ∷ pos 5 ∷ pos 0 ∷ [];
   final = negsuc 4 ∷ pos 11 ∷ negsuc 4 ∷ pos 8 ∷ negsuc 4 ∷ [];
   placings =
@@ -42,24 +31,20 @@ pub one-drawn : drawingOf one ≡ record {
       [];
 }
 unfolding passesOpen
-one-drawn = refl
+case1-drawn = refl
 
-pub one-words : wordsHold one ≡ true
+pub case1-words : wordsHold case1 ≡ true
 unfolding passesOpen triedOpen
-one-words = refl
+case1-words = refl
 
 -- A settled run is not placed again in pass 2; distances are doubled after the sum; a bounded run becomes ready in pass 2.
 abbrev pub settled : PlanData
-settled = record {
-  levels = 5;
-  gap = 1;
-  spacing = 1;
-  sizes = 2 ∷ 3 ∷ 3 ∷ 2 ∷ 2 ∷ [];
-  vias = false ∷ false ∷ true ∷ false ∷ true ∷ true ∷ false ∷ true ∷ true ∷ true ∷ false ∷ false ∷ [];
-  halves = 1 ∷ 1 ∷ 0 ∷ 9 ∷ 0 ∷ 0 ∷ 1 ∷ 0 ∷ 0 ∷ 0 ∷ 1 ∷ 1 ∷ [];
-  uppers = 0 ∷ 1 ∷ 2 ∷ 4 ∷ 5 ∷ 7 ∷ 8 ∷ 9 ∷ [];
-  lowers = 2 ∷ 4 ∷ 5 ∷ 7 ∷ 8 ∷ 9 ∷ 10 ∷ 11 ∷ [];
-}
+settled =
+    dataOf 5 1 1
+    (2 ∷ 3 ∷ 3 ∷ 2 ∷ 2 ∷ [])
+    (false ∷ false ∷ true ∷ false ∷ true ∷ true ∷ false ∷ true ∷ true ∷ true ∷ false ∷ false ∷ [])
+    (1 ∷ 1 ∷ 0 ∷ 9 ∷ 0 ∷ 0 ∷ 1 ∷ 0 ∷ 0 ∷ 0 ∷ 1 ∷ 1 ∷ [])
+    (0 ∷ 1 ∷ 2 ∷ 4 ∷ 5 ∷ 7 ∷ 8 ∷ 9 ∷ []) (2 ∷ 4 ∷ 5 ∷ 7 ∷ 8 ∷ 9 ∷ 10 ∷ 11 ∷ [])
 
 pub settled-drawn : drawingOf settled ≡ record {
   preliminary = negsuc 2 ∷ pos 3 ∷ negsuc 19 ∷ pos 0 ∷ pos 20 ∷ negsuc 19 ∷ pos 0 ∷ pos 20 ∷ negsuc 19 ∷ pos 20 ∷ negsuc 2 ∷ pos 3 ∷ [];
@@ -81,16 +66,12 @@ settled-words = refl
 
 -- A bounded run that only pass 3 places; an empty run that is not settled keeps another from being ready.
 abbrev pub third-pass : PlanData
-third-pass = record {
-  levels = 5;
-  gap = 1;
-  spacing = 1;
-  sizes = 1 ∷ 4 ∷ 4 ∷ 3 ∷ 1 ∷ [];
-  vias = false ∷ true ∷ false ∷ true ∷ false ∷ true ∷ true ∷ true ∷ true ∷ true ∷ false ∷ true ∷ false ∷ [];
-  halves = 1 ∷ 0 ∷ 2 ∷ 0 ∷ 1 ∷ 0 ∷ 0 ∷ 0 ∷ 0 ∷ 0 ∷ 1 ∷ 0 ∷ 1 ∷ [];
-  uppers = 0 ∷ 0 ∷ 1 ∷ 3 ∷ 4 ∷ 4 ∷ 5 ∷ 6 ∷ 7 ∷ 8 ∷ 9 ∷ 11 ∷ [];
-  lowers = 1 ∷ 3 ∷ 5 ∷ 7 ∷ 6 ∷ 8 ∷ 10 ∷ 9 ∷ 10 ∷ 11 ∷ 12 ∷ 12 ∷ [];
-}
+third-pass =
+    dataOf 5 1 1
+    (1 ∷ 4 ∷ 4 ∷ 3 ∷ 1 ∷ [])
+    (false ∷ true ∷ false ∷ true ∷ false ∷ true ∷ true ∷ true ∷ true ∷ true ∷ false ∷ true ∷ false ∷ [])
+    (1 ∷ 0 ∷ 2 ∷ 0 ∷ 1 ∷ 0 ∷ 0 ∷ 0 ∷ 0 ∷ 0 ∷ 1 ∷ 0 ∷ 1 ∷ [])
+    (0 ∷ 0 ∷ 1 ∷ 3 ∷ 4 ∷ 4 ∷ 5 ∷ 6 ∷ 7 ∷ 8 ∷ 9 ∷ 11 ∷ []) (1 ∷ 3 ∷ 5 ∷ 7 ∷ 6 ∷ 8 ∷ 10 ∷ 9 ∷ 10 ∷ 11 ∷ 12 ∷ 12 ∷ [])
 
 pub third-pass-drawn : drawingOf third-pass ≡ record {
   preliminary = pos 0 ∷ negsuc 5 ∷ pos 0 ∷ pos 6 ∷ pos 10 ∷ negsuc 5 ∷ pos 0 ∷ pos 6 ∷ pos 10 ∷ pos 0 ∷ pos 4 ∷ pos 10 ∷ pos 4 ∷ [];
@@ -114,16 +95,12 @@ third-pass-words = refl
 
 -- The nearest via with a via on the preceding level, where a nearer via has none.
 abbrev pub nearest : PlanData
-nearest = record {
-  levels = 4;
-  gap = 1;
-  spacing = 1;
-  sizes = 1 ∷ 4 ∷ 4 ∷ 1 ∷ [];
-  vias = false ∷ true ∷ true ∷ false ∷ true ∷ true ∷ false ∷ false ∷ true ∷ false ∷ [];
-  halves = 1 ∷ 0 ∷ 0 ∷ 1 ∷ 0 ∷ 0 ∷ 1 ∷ 1 ∷ 0 ∷ 1 ∷ [];
-  uppers = 0 ∷ 0 ∷ 0 ∷ 1 ∷ 2 ∷ 4 ∷ 5 ∷ 8 ∷ [];
-  lowers = 1 ∷ 2 ∷ 4 ∷ 5 ∷ 6 ∷ 8 ∷ 9 ∷ 9 ∷ [];
-}
+nearest =
+    dataOf 4 1 1
+    (1 ∷ 4 ∷ 4 ∷ 1 ∷ [])
+    (false ∷ true ∷ true ∷ false ∷ true ∷ true ∷ false ∷ false ∷ true ∷ false ∷ [])
+    (1 ∷ 0 ∷ 0 ∷ 1 ∷ 0 ∷ 0 ∷ 1 ∷ 1 ∷ 0 ∷ 1 ∷ [])
+    (0 ∷ 0 ∷ 0 ∷ 1 ∷ 2 ∷ 4 ∷ 5 ∷ 8 ∷ []) (1 ∷ 2 ∷ 4 ∷ 5 ∷ 6 ∷ 8 ∷ 9 ∷ 9 ∷ [])
 
 pub nearest-drawn : drawingOf nearest ≡ record {
   preliminary = pos 0 ∷ negsuc 3 ∷ pos 0 ∷ pos 4 ∷ pos 10 ∷ negsuc 3 ∷ pos 0 ∷ pos 6 ∷ pos 10 ∷ pos 3 ∷ [];
@@ -145,16 +122,12 @@ nearest-words = refl
 
 -- Pass 3 goes against the level above.
 abbrev pub above-third : PlanData
-above-third = record {
-  levels = 6;
-  gap = 1;
-  spacing = 1;
-  sizes = 1 ∷ 3 ∷ 4 ∷ 4 ∷ 4 ∷ 1 ∷ [];
-  vias = false ∷ false ∷ true ∷ false ∷ true ∷ false ∷ true ∷ true ∷ true ∷ true ∷ true ∷ true ∷ true ∷ true ∷ false ∷ true ∷ false ∷ [];
-  halves = 1 ∷ 1 ∷ 0 ∷ 1 ∷ 0 ∷ 1 ∷ 0 ∷ 0 ∷ 0 ∷ 0 ∷ 0 ∷ 0 ∷ 0 ∷ 0 ∷ 2 ∷ 0 ∷ 1 ∷ [];
-  uppers = 0 ∷ 1 ∷ 1 ∷ 2 ∷ 3 ∷ 4 ∷ 5 ∷ 6 ∷ 7 ∷ 8 ∷ 9 ∷ 10 ∷ 11 ∷ 12 ∷ 13 ∷ 15 ∷ [];
-  lowers = 2 ∷ 4 ∷ 7 ∷ 6 ∷ 5 ∷ 8 ∷ 9 ∷ 10 ∷ 11 ∷ 12 ∷ 13 ∷ 14 ∷ 15 ∷ 16 ∷ 16 ∷ 16 ∷ [];
-}
+above-third =
+    dataOf 6 1 1
+    (1 ∷ 3 ∷ 4 ∷ 4 ∷ 4 ∷ 1 ∷ [])
+    (false ∷ false ∷ true ∷ false ∷ true ∷ false ∷ true ∷ true ∷ true ∷ true ∷ true ∷ true ∷ true ∷ true ∷ false ∷ true ∷ false ∷ [])
+    (1 ∷ 1 ∷ 0 ∷ 1 ∷ 0 ∷ 1 ∷ 0 ∷ 0 ∷ 0 ∷ 0 ∷ 0 ∷ 0 ∷ 0 ∷ 0 ∷ 2 ∷ 0 ∷ 1 ∷ [])
+    (0 ∷ 1 ∷ 1 ∷ 2 ∷ 3 ∷ 4 ∷ 5 ∷ 6 ∷ 7 ∷ 8 ∷ 9 ∷ 10 ∷ 11 ∷ 12 ∷ 13 ∷ 15 ∷ []) (2 ∷ 4 ∷ 7 ∷ 6 ∷ 5 ∷ 8 ∷ 9 ∷ 10 ∷ 11 ∷ 12 ∷ 13 ∷ 14 ∷ 15 ∷ 16 ∷ 16 ∷ 16 ∷ [])
 
 pub above-third-drawn : drawingOf above-third ≡ record {
   preliminary = pos 0 ∷ negsuc 3 ∷ pos 0 ∷ pos 4 ∷ negsuc 9 ∷ negsuc 5 ∷ pos 0 ∷ pos 6 ∷ negsuc 9 ∷ negsuc 5 ∷ pos 0 ∷ pos 6 ∷ negsuc 9 ∷ negsuc 5 ∷ pos 0 ∷ pos 6 ∷ negsuc 5 ∷ [];
@@ -180,16 +153,12 @@ above-third-words = refl
 
 -- Runs go from left to right.
 abbrev pub left-to-right : PlanData
-left-to-right = record {
-  levels = 3;
-  gap = 2;
-  spacing = 6687;
-  sizes = 1 ∷ 3 ∷ 3 ∷ [];
-  vias = false ∷ false ∷ true ∷ false ∷ false ∷ false ∷ false ∷ [];
-  halves = 1 ∷ 1 ∷ 0 ∷ 1 ∷ 1 ∷ 1 ∷ 1 ∷ [];
-  uppers = 0 ∷ 0 ∷ 0 ∷ 1 ∷ 1 ∷ 1 ∷ 2 ∷ 3 ∷ 3 ∷ 3 ∷ [];
-  lowers = 1 ∷ 2 ∷ 3 ∷ 4 ∷ 5 ∷ 6 ∷ 6 ∷ 4 ∷ 5 ∷ 6 ∷ [];
-}
+left-to-right =
+    dataOf 3 2 6687
+    (1 ∷ 3 ∷ 3 ∷ [])
+    (false ∷ false ∷ true ∷ false ∷ false ∷ false ∷ false ∷ [])
+    (1 ∷ 1 ∷ 0 ∷ 1 ∷ 1 ∷ 1 ∷ 1 ∷ [])
+    (0 ∷ 0 ∷ 0 ∷ 1 ∷ 1 ∷ 1 ∷ 2 ∷ 3 ∷ 3 ∷ 3 ∷ []) (1 ∷ 2 ∷ 3 ∷ 4 ∷ 5 ∷ 6 ∷ 6 ∷ 4 ∷ 5 ∷ 6 ∷ [])
 
 pub left-to-right-drawn : drawingOf left-to-right ≡ record {
   preliminary = pos 0 ∷ negsuc 5 ∷ pos 0 ∷ pos 6 ∷ negsuc 9 ∷ negsuc 1 ∷ pos 6 ∷ [];
@@ -214,16 +183,12 @@ left-to-right-words = refl
 
 -- A cable of one via whose two segments slant on one straight line does not bend.
 abbrev pub slanting : PlanData
-slanting = record {
-  levels = 3;
-  gap = 1;
-  spacing = 4;
-  sizes = 3 ∷ 6 ∷ 3 ∷ [];
-  vias = false ∷ false ∷ false ∷ true ∷ true ∷ false ∷ true ∷ true ∷ true ∷ false ∷ false ∷ false ∷ [];
-  halves = 1 ∷ 1 ∷ 1 ∷ 0 ∷ 0 ∷ 1 ∷ 0 ∷ 0 ∷ 0 ∷ 1 ∷ 1 ∷ 1 ∷ [];
-  uppers = 0 ∷ 0 ∷ 0 ∷ 1 ∷ 1 ∷ 2 ∷ 2 ∷ 2 ∷ 3 ∷ 4 ∷ 5 ∷ 5 ∷ 5 ∷ 6 ∷ 7 ∷ 8 ∷ [];
-  lowers = 3 ∷ 4 ∷ 5 ∷ 5 ∷ 7 ∷ 5 ∷ 6 ∷ 8 ∷ 9 ∷ 11 ∷ 9 ∷ 10 ∷ 11 ∷ 10 ∷ 11 ∷ 11 ∷ [];
-}
+slanting =
+    dataOf 3 1 4
+    (3 ∷ 6 ∷ 3 ∷ [])
+    (false ∷ false ∷ false ∷ true ∷ true ∷ false ∷ true ∷ true ∷ true ∷ false ∷ false ∷ false ∷ [])
+    (1 ∷ 1 ∷ 1 ∷ 0 ∷ 0 ∷ 1 ∷ 0 ∷ 0 ∷ 0 ∷ 1 ∷ 1 ∷ 1 ∷ [])
+    (0 ∷ 0 ∷ 0 ∷ 1 ∷ 1 ∷ 2 ∷ 2 ∷ 2 ∷ 3 ∷ 4 ∷ 5 ∷ 5 ∷ 5 ∷ 6 ∷ 7 ∷ 8 ∷ []) (3 ∷ 4 ∷ 5 ∷ 5 ∷ 7 ∷ 5 ∷ 6 ∷ 8 ∷ 9 ∷ 11 ∷ 9 ∷ 10 ∷ 11 ∷ 10 ∷ 11 ∷ 11 ∷ [])
 
 pub slanting-drawn : drawingOf slanting ≡ record {
   preliminary = negsuc 5 ∷ pos 0 ∷ pos 6 ∷ negsuc 6 ∷ negsuc 4 ∷ negsuc 0 ∷ pos 3 ∷ pos 5 ∷ pos 7 ∷ negsuc 6 ∷ negsuc 0 ∷ pos 5 ∷ [];

@@ -1,14 +1,13 @@
 -- The words of demand 3 of the drawing that the passes make, as one question that computes.
 use mathlib.Core.Bool.{Bool, true, false, cond, _&&_}
 use mathlib.Core.List.{List, [], _∷_}
-use Prim.Native.Nat.{ℕ}
 use lib.ListN.{length}
 use lib.IntN.{ℤ, _-ℤ_}
 use Rattle.plan.specs.Plan.{PlanData, numbers}
 use Rattle.plan.specs.Checks.{every}
 use Rattle.passes.specs.State.{Step}
 use Rattle.passes.specs.Ready.{equals}
-use Rattle.passes.specs.Drawing.{Drawing, traceOf, drawingOf}
+use Rattle.passes.specs.Drawing.{traceOf, drawingOf}
 use Rattle.passes.specs.Words.{finished, keepsOrder, innerUpright, bendsAtMostTwice, placedAsDue, stepAt, isPlacementThen, drawingWithin}
 
 unfoldable pub sameAll : List ℤ → List ℤ → Bool

@@ -1,13 +1,13 @@
 -- Demand 3: one claim about plan data and a drawing with its whole list.
 use mathlib.Core.Path.{_≡_}
-use mathlib.Core.Bool.{Bool, true, false}
-use mathlib.Core.List.{List, [], _∷_}
+use mathlib.Core.Bool.{true}
+use mathlib.Core.List.{List}
 use Prim.Native.Nat.{ℕ, _≤_, _<_}
 use lib.ListN.{length}
 use lib.IntN.{ℤ}
 use Rattle.plan.specs.Plan.{PlanData}
 use Rattle.preliminary.specs.Positions.{preliminary}
-use Rattle.passes.specs.Runs.{Run, isBounded}
+use Rattle.passes.specs.Runs.{isBounded}
 use Rattle.passes.specs.State.{Step}
 use Rattle.passes.specs.Drawing.{Drawing, listed, traceOf}
 use Rattle.passes.specs.Words.{runOf, before, finished, keepsOrder, innerUpright, bendsAtMostTwice, placedAsDue, stepAt, isPlacementThen, sidewaysThen, drawingWithin}

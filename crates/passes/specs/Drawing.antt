@@ -1,11 +1,10 @@
 -- A drawing: preliminary and final positions, and the list of placings.
-use mathlib.Core.Bool.{Bool, true, false, cond}
 use mathlib.Core.List.{List, [], _∷_}
 use Prim.Native.Nat.{ℕ}
 use lib.IntN.{ℤ}
 use Rattle.plan.specs.Plan.{PlanData}
 use Rattle.preliminary.specs.Positions.{preliminary}
-use Rattle.passes.specs.Runs.{Run, runAt}
+use Rattle.passes.specs.Runs.{runAt}
 use Rattle.passes.specs.State.{Step, State, startAt}
 use Rattle.passes.specs.Passes.{threePasses}
 

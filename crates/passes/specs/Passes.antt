@@ -1,5 +1,5 @@
 -- The three passes.
-use mathlib.Core.Bool.{Bool, true, false, cond, not, _&&_, _||_}
+use mathlib.Core.Bool.{Bool, cond, not, _&&_, _||_}
 use mathlib.Core.List.{List, [], _∷_, _++_, map, reverse}
 use mathlib.Core.Option.{Option, none, some}
 use Prim.Native.Nat.{ℕ}
@@ -10,7 +10,7 @@ use Rattle.run.specs.Run.{Bound, free, at, Box}
 use Rattle.run.specs.Place.{placeRun}
 use Rattle.plan.specs.Plan.{PlanData, numbers}
 use Rattle.passes.specs.Runs.{Run, isBounded, isOpen, members, runsOn}
-use Rattle.passes.specs.State.{Step, State, positionOf, put, takeOn}
+use Rattle.passes.specs.State.{State, positionOf, put, takeOn}
 use Rattle.passes.specs.Ready.{preceding, isSettled, isReady}
 
 -- A run as "Placing one run" takes it: its bounds, and each box with its old position, its neighbours on the preceding level

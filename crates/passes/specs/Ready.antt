@@ -1,5 +1,5 @@
 -- Settled and ready.
-use mathlib.Core.Bool.{Bool, true, false, cond, not, _&&_, _||_}
+use mathlib.Core.Bool.{Bool, true, false, cond, _&&_, _||_}
 use mathlib.Core.List.{List, [], _∷_}
 use mathlib.Core.Option.{Option, none, some}
 use Prim.Native.Nat.{ℕ, _+_}
@@ -7,8 +7,8 @@ use lib.Dec.{eqb, leb}
 use lib.IntN.{ℤ, pos, negsuc, _-ℤ_}
 use Rattle.plan.specs.Plan.{PlanData, isVia, levelOf, levelAt}
 use Rattle.plan.specs.Segments.{above, below}
-use Rattle.plan.specs.Checks.{every, some as any}
-use Rattle.passes.specs.Runs.{Run, isBounded, members, runsOn}
+use Rattle.plan.specs.Checks.{every, any}
+use Rattle.passes.specs.Runs.{Run, members, runsOn}
 use Rattle.passes.specs.State.{Step, State, positionOf, doubled}
 
 -- The doubled distance of the first and the last of these members: "the sum between them".

@@ -1,11 +1,1 @@
-pub mod Columns
-pub mod Fill
-pub mod Bisect
-pub mod Small
-pub mod ByHalves
-pub mod Offsets
-pub mod Beside
-pub mod Given
 pub mod Taken
-pub mod RefusalLaws
-pub mod TakenLaws

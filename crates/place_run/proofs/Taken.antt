@@ -14,21 +14,23 @@ use Rattle.ints.proofs.Reach.{within-at}
 use Rattle.run.specs.Run.{Bound as Limit, neighboursInOrder, span}
 use Rattle.run.specs.Place.{placeRun, placeBoxes}
 use Rattle.run.specs.Words.{isPossible}
-use Rattle.run.proofs.Sorted.{and-left, and-right}
-use Rattle.run.proofs.Coordinates.{leftLimit, rightLimit}
-use Rattle.run.proofs.Optimal.{room-of}
+use Rattle.ints.proofs.Tests.{and-left, and-right}
+use Rattle.run.specs.inner.Coordinates.{leftLimit, rightLimit}
+use Rattle.run.proofs.Optimal.{has-place-of}
 use Rattle.run.proofs.Fast.{fast-run}
-use Rattle.place_run.specs.declared.types.Bound.{Bound}
-use Rattle.place_run.specs.declared.types.Bound.the-variants.{Free, At}
+use Rattle.run.specs.declared.types.Bound.{Bound}
+use Rattle.run.specs.declared.types.Bound.the-variants.{Free, At}
 use Rattle.ints.specs.Lists.{sum}
 use Rattle.ints.specs.Reach.{reach, allWithin}
-use Rattle.place_run.specs.Call.{limitOf, memberOf, positionsOf, leftDistance, otherDistances, boxesFrom, maxBoxes, maxNeighbours, isSmall, isFitting, allDistances, isInReach, isSound, isTaken, placedOf}
-use Rattle.place_run.specs.Columns.{Columns}
-use Rattle.place_run.specs.Halves.{SmallLimit}
-use Rattle.place_run.specs.Offsets.{Near, maxOffset, Fits, placedBetween, requestOf}
-use Rattle.place_run.proofs.RefusalLaws.{in-order-same, sum-distances}
-use Rattle.place_run.proofs.Columns.{sum-cut}
-use Rattle.place_run.proofs.Offsets.{sum-step, span-is}
+use Rattle.run.specs.Call.{limitOf, memberOf, positionsOf, leftDistance, otherDistances, boxesFrom, maxBoxes, maxNeighbours, isSmall, isFitting, allDistances, isInReach, isSound, isTaken, placedOf}
+use Rattle.run_columns.specs.inner.Columns.{Columns}
+use Rattle.run_halves.specs.inner.Halves.{SmallLimit, Fits, placedBetween}
+use Rattle.run_columns.specs.inner.Offsets.{Near, maxOffset}
+use Rattle.place_run.specs.inner.Requests.{requestOf}
+use Rattle.run_refusal.proofs.RefusalLaws.{member-le, in-order-same, sum-distances}
+use Rattle.run_columns.proofs.ColumnLaws.{sum-cut}
+use Rattle.run_columns.proofs.OffsetLaws.{sum-step}
+use Rattle.run_halves.proofs.Boxes.{span-is}
 
 -- ---- the tests
 all-near : (xs : List ℤ) → allWithin xs ≡ true → Near xs
@@ -91,11 +93,6 @@ taken l r old ds cs ns zs e =
       possible = and-right (neighboursInOrder bs) po so;
     }
 
--- ---- its limits and offsets are small
-pub member-at-most : (l : Bound) → memberOf l ≤ 1
-member-at-most Free = omega arith
-member-at-most (At x) = omega arith
-
 pub near-limit : (l : Bound) → Near (positionsOf l) → SmallLimit (limitOf l)
 near-limit Free q = tt
 near-limit (At x) q = let h : size x ≤ reach = q 0 (omega arith) in omega arith
@@ -110,7 +107,7 @@ small-right (At x) d q h = let k : size x ≤ reach = q 0 (omega arith) in omega
 
 module _ (l r : Bound) (old : List ℤ) (ds cs : List ℕ) (ns zs : List ℤ) (t : Taken l r old ds cs ns zs) where
   sum-small : sum ds ≤ maxOffset
-  sum-small = omega (arith, t .offsets, t .distances, t .boxes, member-at-most l, member-at-most r)
+  sum-small = omega (arith, t .offsets, t .distances, t .boxes, member-le l, member-le r)
 
   pub steps-small : sum (drop (memberOf l) ds) ≤ maxOffset
   steps-small = omega (arith, sum-small, sum-cut (memberOf l) ds)
@@ -127,12 +124,12 @@ module _ (l r : Bound) (old : List ℤ) (ds cs : List ℕ) (ns zs : List ℤ) (t
 
   -- with a box, every left bound has a distance, and no box lacks one but the last
   pub members-within : 0 < length old → memberOf l ≤ length ds
-  members-within h = omega (arith, t .distances, member-at-most l, member-at-most r)
+  members-within h = omega (arith, t .distances, member-le l, member-le r)
 
   -- no distance is left out
   span-all : 0 < length old → span (boxesFrom old (otherDistances l ds) cs ns) ≡ sum (drop (memberOf l) ds)
   span-all h = let d = t .distances in
-      let k : length (drop (memberOf l) ds) ≤ length old = omega (arith, length-drop (memberOf l) ds, member-at-most l, member-at-most r) in
+      let k : length (drop (memberOf l) ds) ≤ length old = omega (arith, length-drop (memberOf l) ds, member-le l, member-le r) in
       ap (λ es. span (boxesFrom old es cs ns)) (others-is l ds) ∙ span-is old (drop (memberOf l) ds) cs ns (t .columns .boxes) k
 
   pub fits-between : 0 < length old → (L H : Limit) → L ≡ leftLimit (limitOf l) (leftDistance l ds) → H ≡ rightLimit (limitOf r) (sum (drop (memberOf l) ds))
@@ -142,7 +139,7 @@ module _ (l r : Bound) (old : List ℤ) (ds cs : List ℕ) (ns zs : List ℤ) (t
     answer = t .answer;
     left = rw eL (small-left l (leftDistance l ds) (t .left) left-small);
     right = rw eH (small-right r (sum (drop (memberOf l) ds)) (t .right) steps-small);
-    room = rw (eL, eH, ← span-all h) (room-of (limitOf l) (leftDistance l ds) (boxesFrom old (otherDistances l ds) cs ns) (limitOf r) (t .possible));
+    place = rw (eL, eH, ← span-all h) (has-place-of (limitOf l) (leftDistance l ds) (boxesFrom old (otherDistances l ds) cs ns) (limitOf r) (t .possible));
     olds = t .olds;
     nears = t .nears;
     offsets = steps-small;

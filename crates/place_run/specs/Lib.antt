@@ -1,4 +1,1 @@
-pub mod Call
-pub mod Columns
-pub mod Halves
-pub mod Offsets
+pub mod inner

@@ -1,9 +1,9 @@
 // The call place-run.
 use crate::place::place;
-use crate::refusal::is_taken;
-use crate::types::Answer;
-use crate::types::Bound;
-ghost use Rattle.place_run.specs.Call.{Request, Outcome, callOf};
+use run::types::Answer;
+use run::types::Bound;
+use run_refusal::refusal::is_taken;
+ghost use Rattle.run.specs.Call.{Outcome, callOf};
 
 // Places a run of r boxes into the lent answer, or refuses it (8) and leaves the answer as it was.
 pub fn place_run(
@@ -16,7 +16,15 @@ pub fn place_run(
     neighbours: &[i64],
     answer: &mut [i64],
 ) -> Answer
-    ensures { λ a. ⌜ Outcome (callOf (record { boxes = r; left = left; right = right; old = now (old .entry); distances = now (distances .entry); counts = now (counts .entry); neighbours = now (neighbours .entry) }) (now (answer .entry))) a (now (answer .exit)) ⌝ }
+    ensures { λ a. ⌜ Outcome (callOf (record {
+      boxes = r;
+      left = left;
+      right = right;
+      old = now (old .entry);
+      distances = now (distances .entry);
+      counts = now (counts .entry);
+      neighbours = now (neighbours .entry);
+    }) (now (answer .entry))) a (now (answer .exit)) ⌝ }
 {
     if !is_taken(r, left, right, old, distances, counts, neighbours, answer) {
         return Answer::Refused;

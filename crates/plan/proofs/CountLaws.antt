@@ -12,7 +12,7 @@ use lib.Seq.{drop-cons, getD-set-same, getD-set-other}
 use Rattle.plan.specs.Plan.{numbers}
 use Rattle.plan.specs.Segments.{segmentsFrom, segmentsOf, aboveIn, belowIn}
 use Rattle.plan.specs.Checks.{every, isThrough, check5}
-use Rattle.plan.specs.Graph.{graphOf, countOf, Counted, through}
+use Rattle.plan.specs.inner.Graph.{graphOf, countOf, Counted, through}
 
 -- whether two numbers are the same
 pub by-same : (a b : ℕ) {G : Type 0} → (a ≡ b → G) → ((a ≡ b → ⊥) → G) → G

@@ -11,10 +11,11 @@ use lib.Dec.{ltb, eqb}
 use Rattle.ints.proofs.Laws.{cases, if-ind}
 use Rattle.plan.specs.Plan.{PlanData, vertexCount, levelIn, levelOf}
 use Rattle.plan.specs.Segments.{Segment, segmentsOf, isInner, innerIn, innerSegments}
-use Rattle.plan.specs.Checks.{every, some, goesOneDown, check3, comesBefore, rising, check4, crosses, check6}
-use Rattle.plan.specs.Graph.{lowersRise}
+use Rattle.plan.specs.Checks.{any, goesOneDown, check3, comesBefore, rising, check4, crosses, check6}
+use Rattle.plan.specs.inner.Graph.{lowersRise}
 use Rattle.plan.proofs.LevelLaws.{level-low}
-use Rattle.plan.proofs.TestLaws.{and-left, and-right, cond-left, cond-right}
+use Rattle.plan.proofs.All.{All, all-nil, all-cons, all-map, every-all}
+use Rattle.ints.proofs.Tests.{and-left, and-right, cond-left, cond-right}
 
 -- ---- Bool
 not-same : (x y : Bool) → (x ≡ false → y ≡ true) → (y ≡ true → x ≡ false) → not x ≡ y
@@ -24,55 +25,42 @@ not-same false true f g = refl
 not-same false false f g = sym (f refl)
 
 -- ---- what holds of every member, and of every two in their order
-data All {A : Type 0} (P : A → Type 0) : List A → Type 0 where
-  all-none : All P []
-  all-more : {x : A} {xs : List A} → P x → All P xs → All P (x ∷ xs)
-
 data Pairs {A : Type 0} (R : A → A → Type 0) : List A → Type 0 where
   pairs-none : Pairs R []
   pairs-more : {x : A} {xs : List A} → All (R x) xs → Pairs R xs → Pairs R (x ∷ xs)
 
-all-map : {A : Type 0} {P Q : A → Type 0} {xs : List A} → ((x : A) → P x → Q x) → All P xs → All Q xs
-all-map f all-none = all-none
-all-map f (all-more {x} h k) = all-more (f x h) (all-map f k)
-
 all-both : {A : Type 0} {P Q : A → Type 0} {xs : List A} → All P xs → All Q xs → All (λ x. P x × Q x) xs
-all-both all-none all-none = all-none
-all-both (all-more h k) (all-more h' k') = all-more (h, h') (all-both k k')
+all-both all-nil all-nil = all-nil
+all-both (all-cons h k) (all-cons h' k') = all-cons (h, h') (all-both k k')
 
-every-all : {A : Type 0} (t : A → Bool) (xs : List A) → every t xs ≡ true → All (λ x. t x ≡ true) xs
-unfolding every
-every-all t [] e = all-none
-every-all t (x ∷ xs) e = all-more (cond-left (t x) (every t xs) e) (every-all t xs (cond-right (t x) (every t xs) e))
-
-some-none : {A : Type 0} (t : A → Bool) (xs : List A) → some t xs ≡ false → All (λ x. t x ≡ false) xs
-unfolding some
-some-none t [] e = all-none
+some-none : {A : Type 0} (t : A → Bool) (xs : List A) → any t xs ≡ false → All (λ x. t x ≡ false) xs
+unfolding any
+some-none t [] e = all-nil
 some-none t (x ∷ xs) e = go (t x) refl e (some-none t xs)
   where
-    go : (b : Bool) → t x ≡ b → cond b true (some t xs) ≡ false → (some t xs ≡ false → All (λ y. t y ≡ false) xs) → All (λ y. t y ≡ false) (x ∷ xs)
+    go : (b : Bool) → t x ≡ b → cond b true (any t xs) ≡ false → (any t xs ≡ false → All (λ y. t y ≡ false) xs) → All (λ y. t y ≡ false) (x ∷ xs)
     go true q h more = let z : _≡_ {A = ℕ} 0 1 = cc in absurd (omega arith)
-    go false q h more = all-more q (more h)
+    go false q h more = all-cons q (more h)
 
-none-some : {A : Type 0} (t : A → Bool) {xs : List A} → All (λ x. t x ≡ false) xs → some t xs ≡ false
-unfolding some
-none-some t all-none = refl
-none-some t (all-more h k) = rw (h, none-some t k)
+none-some : {A : Type 0} (t : A → Bool) {xs : List A} → All (λ x. t x ≡ false) xs → any t xs ≡ false
+unfolding any
+none-some t all-nil = refl
+none-some t (all-cons h k) = rw (h, none-some t k)
 
 -- what holds both ways of every two, and of each with itself, holds of any two
 any-two : {A : Type 0} {R : A → A → Type 0} {xs : List A} → ((x : A) → R x x) → Pairs (λ x y. R x y × R y x) xs → All (λ x. All (R x) xs) xs
-any-two r pairs-none = all-none
-any-two r (pairs-more {x} h k) = all-more
-    (all-more (r x) (all-map (λ y w. w .0) h))
-    (all-map (λ y w. all-more (w .0 .1) (w .1)) (all-both h (any-two r k)))
+any-two r pairs-none = all-nil
+any-two r (pairs-more {x} h k) = all-cons
+    (all-cons (r x) (all-map (λ y w. w .0) h))
+    (all-map (λ y w. all-cons (w .0 .1) (w .1)) (all-both h (any-two r k)))
 
 -- and what holds of any two holds of every two in their order
 all-tail : {A : Type 0} {P : A → Type 0} {x : A} {xs : List A} → All P (x ∷ xs) → All P xs
-all-tail (all-more h k) = k
+all-tail (all-cons h k) = k
 
 in-order : {A : Type 0} {R : A → A → Type 0} (xs : List A) → All (λ x. All (R x) xs) xs → Pairs R xs
-in-order [] all-none = pairs-none
-in-order (x ∷ xs) (all-more h m) = pairs-more (all-tail h) (in-order xs (all-map (λ y w. all-tail w) m))
+in-order [] all-nil = pairs-none
+in-order (x ∷ xs) (all-cons h m) = pairs-more (all-tail h) (in-order xs (all-map (λ y w. all-tail w) m))
 
 pairs-map : {A : Type 0} {R S : A → A → Type 0} {xs : List A} → ((x y : A) → R x y → S x y) → Pairs R xs → Pairs S xs
 pairs-map f pairs-none = pairs-none
@@ -104,19 +92,19 @@ pairs-head (pairs-more h k) = h
 sorted : (ss : List Segment) → rising ss ≡ true → Pairs Before ss
 unfolding rising
 sorted [] e = pairs-none
-sorted (s ∷ []) e = pairs-more all-none pairs-none
+sorted (s ∷ []) e = pairs-more all-nil pairs-none
 sorted (s ∷ t ∷ ss) e =
     let b = before-of s t (cond-left (comesBefore s t) (rising (t ∷ ss)) e) in
     let more = sorted (t ∷ ss) (cond-right (comesBefore s t) (rising (t ∷ ss)) e) in
-    pairs-more (all-more b (all-map (λ u h. before-trans b h) (pairs-head more))) more
+    pairs-more (all-cons b (all-map (λ u h. before-trans b h) (pairs-head more))) more
 
 -- ---- of the inner segments holds what holds of all
 module _ (p : PlanData) where
   inner-all : {P : Segment → Type 0} {ss : List Segment} → All P ss → All P (innerIn p ss)
   unfolding innerIn
-  inner-all all-none = all-none
-  inner-all {P} (all-more {x = s} {xs = ss} h k) =
-      if-ind (isInner p s) (s ∷ innerIn p ss) (innerIn p ss) (λ l. All P l) (λ e. all-more h (inner-all k)) (λ e. inner-all k)
+  inner-all all-nil = all-nil
+  inner-all {P} (all-cons {x = s} {xs = ss} h k) =
+      if-ind (isInner p s) (s ∷ innerIn p ss) (innerIn p ss) (λ l. All P l) (λ e. all-cons h (inner-all k)) (λ e. inner-all k)
 
   inner-pairs : {R : Segment → Segment → Type 0} {ss : List Segment} → Pairs R ss → Pairs R (innerIn p ss)
   unfolding innerIn
@@ -168,17 +156,17 @@ module _ (p : PlanData) where
   -- ---- lower ends that rise
   risen : (last : ℕ) (ss : List Segment) → lowersRise last ss ≡ true → All (λ t. last ≤ t .lower) ss × Pairs (λ s t. s .lower ≤ t .lower) ss
   unfolding lowersRise
-  risen last [] e = (all-none, pairs-none)
+  risen last [] e = (all-nil, pairs-none)
   risen last (s ∷ ss) e = cases last (s .lower)
       (λ h. let more = risen (s .lower) ss (rw (le-ltb (s .lower) last h) at e) in
-      (all-more h (all-map (λ t k. omega arith) (more .0)), pairs-more (more .0) (more .1)))
+      (all-cons h (all-map (λ t k. omega arith) (more .0)), pairs-more (more .0) (more .1)))
       (λ h. let e' = rw (lt-ltb (s .lower) last h) at e in let z : _≡_ {A = ℕ} 0 1 = cc in absurd (omega arith))
 
-  apart-all : (ss : List Segment) → Pairs Before ss → lowersRise 0 ss ≡ true → some (λ s. some (crosses p s) ss) ss ≡ false
+  apart-all : (ss : List Segment) → Pairs Before ss → lowersRise 0 ss ≡ true → any (λ s. any (crosses p s) ss) ss ≡ false
   apart-all ss b e =
       let up = risen 0 ss e in
       let two = any-two {R = λ s t. crosses p s t ≡ false} self-apart (pairs-map (λ s t w. rise-apart s t (w .0) (w .1)) (pairs-both b (up .1))) in
-      none-some (λ s. some (crosses p s) ss) (all-map (λ s h. none-some (crosses p s) h) two)
+      none-some (λ s. any (crosses p s) ss) (all-map (λ s h. none-some (crosses p s) h) two)
 
   no-fall : (s t : Segment) → Before s t → OneDown s → OneDown t → crosses p s t ≡ false → s .lower ≤ t .lower
   no-fall s t b d e c = cases (s .lower) (t .lower)
@@ -188,13 +176,13 @@ module _ (p : PlanData) where
   rises : (last : ℕ) (ss : List Segment) → Pairs Before ss → All OneDown ss → Pairs (λ s t. crosses p s t ≡ false) ss → All (λ t. last ≤ t .lower) ss → lowersRise last ss ≡ true
   unfolding lowersRise
   rises last [] b d c h = refl
-  rises last (s ∷ ss) (pairs-more b bs) (all-more d ds) (pairs-more c cs) (all-more h hs) =
+  rises last (s ∷ ss) (pairs-more b bs) (all-cons d ds) (pairs-more c cs) (all-cons h hs) =
       let up = all-map (λ t w. no-fall s t (w .0 .0) d (w .1) (w .0 .1)) (all-both (all-both b c) ds) in
       rw (le-ltb (s .lower) last h) (rises (s .lower) ss bs ds cs up)
 
-  rise-all : (ss : List Segment) → Pairs Before ss → All OneDown ss → some (λ s. some (crosses p s) ss) ss ≡ false → lowersRise 0 ss ≡ true
+  rise-all : (ss : List Segment) → Pairs Before ss → All OneDown ss → any (λ s. any (crosses p s) ss) ss ≡ false → lowersRise 0 ss ≡ true
   rise-all ss b d e =
-      let two = all-map (λ s h. some-none (crosses p s) ss h) (some-none (λ s. some (crosses p s) ss) ss e) in
+      let two = all-map (λ s h. some-none (crosses p s) ss h) (some-none (λ s. any (crosses p s) ss) ss e) in
       rises 0 ss b d (in-order ss two) (all-map (λ t k. omega arith) d)
 
   -- ---- the theorem
@@ -205,4 +193,4 @@ module _ (p : PlanData) where
       let b = inner-pairs p (sorted ss c4) in
       let d = inner-all p (all-map down-of (every-all (goesOneDown p) ss c3)) in
       let inner = innerIn p ss in
-      not-same (some (λ s. some (crosses p s) inner) inner) (lowersRise 0 inner) (rise-all inner b d) (apart-all inner b)
+      not-same (any (λ s. any (crosses p s) inner) inner) (lowersRise 0 inner) (rise-all inner b d) (apart-all inner b)

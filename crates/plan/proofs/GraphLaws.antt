@@ -10,9 +10,9 @@ use lib.Dec.{ltb, eqb}
 use lib.ListN.{length, getD}
 use Rattle.plan.specs.Plan.{PlanData, vertexCount, levelOf}
 use Rattle.plan.specs.Segments.{Segment, segmentsFrom, segmentsOf, innerIn, innerSegments}
-use Rattle.plan.specs.Checks.{every, some, goesOneDown, check3, check4, isThrough, check5, crosses, check6}
-use Rattle.plan.specs.Graph.{graphOf, segment, Within, InLimits, firstFailed}
-use Rattle.plan.proofs.TestLaws.{and-left, and-right, cond-left, cond-right}
+use Rattle.plan.specs.Checks.{every, any, goesOneDown, check3, check4, isThrough, check5, crosses, check6}
+use Rattle.plan.specs.inner.Graph.{graphOf, segment, Within, InLimits, firstFailed}
+use Rattle.ints.proofs.Tests.{and-left, and-right, cond-left, cond-right}
 
 -- ---- every end is a vertex
 module _ (p : PlanData) where
@@ -88,7 +88,7 @@ module _ (p : PlanData) where
 
   pub same-6 : check6 p ≡ check6 (graph p)
   unfolding check6 innerSegments segmentsOf crosses levelOf
-  same-6 = ap (λ (inner : List Segment). not (some (λ s. some (crosses p s) inner) inner)) (same-inner (segmentsOf p))
+  same-6 = ap (λ (inner : List Segment). not (any (λ s. any (crosses p s) inner) inner)) (same-inner (segmentsOf p))
 
   pub same-first : firstFailed p ≡ firstFailed (graph p)
   unfolding firstFailed

@@ -12,7 +12,7 @@ use lib.Seq.{drop-cons, getD-set-same, getD-set-other}
 use Rattle.ints.specs.Lists.{sum}
 use Rattle.ints.proofs.Laws.{if-ind, cases}
 use Rattle.plan.specs.Plan.{numbers, levelIn}
-use Rattle.plan.specs.Graph.{filled}
+use Rattle.plan.specs.inner.Graph.{filled}
 
 -- ---- numbers
 pub numbers-append : (v a b : ℕ) → numbers v (a + b) ≡ numbers v a ++ numbers (v + a) b

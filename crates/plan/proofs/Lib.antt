@@ -1,10 +1,11 @@
 pub mod Open
-pub mod TestLaws
 pub mod LimitLaws
 pub mod LevelLaws
-pub mod SegmentLaws
 pub mod CountLaws
 pub mod Crossings
-pub mod InnerLaws
 pub mod GraphLaws
 pub mod Sound
+pub mod HeldLaws
+pub mod All
+pub mod Levels
+pub mod Case1

@@ -12,9 +12,9 @@ use Rattle.ints.specs.Lists.{sum}
 use Rattle.plan.specs.Plan.{PlanData, vertexCount, isVia, halfWidth}
 use Rattle.plan.specs.Limits.{within, maxLevels, maxGap, maxSpacing, maxHalfWidth, maxOnLevel, maxVertices, maxSegments}
 use Rattle.plan.specs.Checks.{every}
-use Rattle.plan.specs.Graph.{InLimits}
+use Rattle.plan.specs.inner.Graph.{InLimits}
 use Rattle.plan.specs.Acceptable.{halfHolds, halvesHold, limitsHold}
-use Rattle.plan.proofs.TestLaws.{and-left, and-right, cond-left, cond-right, conj-at}
+use Rattle.ints.proofs.Tests.{and-left, and-right, cond-left, cond-right, conj-at}
 
 -- ---- test by test
 pub record LimitTests (p : PlanData) : Type 0 where

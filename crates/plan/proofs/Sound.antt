@@ -11,10 +11,10 @@ use borrow.Author.Tests.{ltb-true, eqb-true, lt-ltb, eq-eqb, not-true}
 use Rattle.ints.proofs.Laws.{if-ind, cases}
 use Rattle.plan.specs.Plan.{PlanData, vertexCount, isVia, distance, numbers, levelOf}
 use Rattle.plan.specs.Segments.{Segment, segmentsOf, aboveIn, belowIn, isInner, innerIn, innerSegments}
-use Rattle.plan.specs.Checks.{every, some, goesOneDown, check3, rising, check4, check5, isThrough, crosses, check6}
-use Rattle.plan.specs.Graph.{Within}
+use Rattle.plan.specs.Checks.{every, any, goesOneDown, check3, rising, check4, check5, isThrough, crosses, check6}
+use Rattle.plan.specs.inner.Graph.{Within}
 use Rattle.plan.specs.Acceptable.{limitsHold, acceptable}
-use Rattle.plan.proofs.TestLaws.{and-left, and-right, cond-left, cond-right, conj-at}
+use Rattle.ints.proofs.Tests.{and-left, and-right, cond-left, cond-right, conj-at}
 use Rattle.plan.proofs.LimitLaws.{Limits, limits}
 use Rattle.plan.proofs.GraphLaws.{within-of, same-3}
 
@@ -43,11 +43,11 @@ module _ {A : Type 0} where
   every-make t [] f = refl
   every-make t (y ∷ ys) f = rw (f y (inl refl)) (every-make t ys (λ x m. f x (inr m)))
 
-  pub some-none : (t : A → Bool) (xs : List A) (x : A) → some t xs ≡ false → Mem x xs → t x ≡ false
-  unfolding some
+  pub some-none : (t : A → Bool) (xs : List A) (x : A) → any t xs ≡ false → Mem x xs → t x ≡ false
+  unfolding any
   some-none t [] x e m = absurd m
-  some-none t (y ∷ ys) x e (inl q) = ap t q ∙ or-left (t y) (some t ys) e
-  some-none t (y ∷ ys) x e (inr m) = some-none t ys x (or-right (t y) (some t ys) e) m
+  some-none t (y ∷ ys) x e (inl q) = ap t q ∙ or-left (t y) (any t ys) e
+  some-none t (y ∷ ys) x e (inr m) = some-none t ys x (or-right (t y) (any t ys) e) m
 
   pub mem-one : (xs : List A) (a b : A) → length xs ≡ 1 → Mem a xs → Mem b xs → a ≡ b
   mem-one [] a b e m n = absurd m
@@ -176,8 +176,8 @@ one-each p c v h i =
 uncross : (p : PlanData) → check6 p ≡ true → (s t : Segment) → Mem s (innerSegments p) → Mem t (innerSegments p) → levelOf p (s .upper) ≡ levelOf p (t .upper) → s .upper < t .upper → s .lower ≤ t .lower
 unfolding check6 crosses
 uncross p c s t m n e h =
-    let none = not-true (some (λ s. some (crosses p s) (innerSegments p)) (innerSegments p)) c in
-    let k = some-none (crosses p s) (innerSegments p) t (some-none (λ s. some (crosses p s) (innerSegments p)) (innerSegments p) s none m) n in
+    let none = not-true (any (λ s. any (crosses p s) (innerSegments p)) (innerSegments p)) c in
+    let k = some-none (crosses p s) (innerSegments p) t (some-none (λ s. any (crosses p s) (innerSegments p)) (innerSegments p) s none m) n in
     cases (s .lower) (t .lower) (λ j. j) (λ j. absurd (true≢false (rw (lt-ltb (s .upper) (t .upper) h, lt-ltb (t .lower) (s .lower) j, eq-eqb (levelOf p (s .upper)) (levelOf p (t .upper)) e) at k)))
 
 pub sound : (p : PlanData) → acceptable p ≡ true → Sound p

@@ -1,7 +1,7 @@
 -- Checks 3 to 6 of document 01, each a question about a plan's data: whether it passes.
 use mathlib.Core.Bool.{Bool, true, false, cond, not, _&&_, _||_}
 use mathlib.Core.List.{List, [], _∷_}
-use Prim.Native.Nat.{ℕ, zero, suc, _+_}
+use Prim.Native.Nat.{ℕ, _+_}
 use lib.Dec.{ltb, eqb}
 use lib.ListN.{length}
 use Rattle.plan.specs.Plan.{PlanData, vertexCount, isVia, levelOf, numbers}
@@ -14,10 +14,10 @@ every t (x ∷ xs) =
     let more = every t xs in
     cond (t x) more false
 
-unfoldable pub some : {A : Type 0} → (A → Bool) → List A → Bool
-some t [] = false
-some t (x ∷ xs) =
-    let more = some t xs in
+unfoldable pub any : {A : Type 0} → (A → Bool) → List A → Bool
+any t [] = false
+any t (x ∷ xs) =
+    let more = any t xs in
     cond (t x) true more
 
 -- 3: "A segment whose A or B is no vertex, or B is not one level below A."
@@ -61,4 +61,4 @@ crosses p s t =
     cond (ltb (s .upper) (t .upper) && ltb (t .lower) (s .lower)) level false
 
 unfoldable pub check6 : PlanData → Bool
-check6 p = let inner = innerSegments p in not (some (λ s. some (crosses p s) inner) inner)
+check6 p = let inner = innerSegments p in not (any (λ s. any (crosses p s) inner) inner)

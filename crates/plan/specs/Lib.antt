@@ -4,5 +4,5 @@ pub mod Strands
 pub mod Limits
 pub mod Checks
 pub mod Stored
-pub mod Graph
 pub mod Acceptable
+pub mod inner

@@ -1,6 +1,6 @@
 -- A plan's data, and what they say of levels and vertices. Vertices are numbered from 0 in reading order, levels from 1 at
 -- the top. The lists are as long as their data.
-use mathlib.Core.Bool.{Bool, true, false, cond}
+use mathlib.Core.Bool.{Bool, false, cond}
 use mathlib.Core.List.{List, [], _∷_, _++_}
 use mathlib.Core.Option.{Option, none, some}
 use Prim.Native.Nat.{ℕ, zero, suc, _+_, _-_, _*_}
@@ -23,6 +23,19 @@ pub record PlanData : Type 0 where
   -- of each segment, its upper end A and its lower end B
   pub uppers : List ℕ
   pub lowers : List ℕ
+
+-- The data with these parts.
+abbrev pub dataOf : ℕ → ℕ → ℕ → List ℕ → List Bool → List ℕ → List ℕ → List ℕ → PlanData
+dataOf levels gap spacing sizes vias halves uppers lowers = record {
+  levels = levels;
+  gap = gap;
+  spacing = spacing;
+  sizes = sizes;
+  vias = vias;
+  halves = halves;
+  uppers = uppers;
+  lowers = lowers;
+}
 
 abbrev pub vertexCount : PlanData → ℕ
 vertexCount p = length (p .vias)

@@ -5,20 +5,13 @@ use Prim.Native.Nat.{ℕ}
 use lib.ListN.{take, replicate}
 use Rattle.plan.specs.declared.data.Plan.{Plan}
 use Rattle.plan.specs.Limits.{maxLevels, maxVertices, maxSegments}
-use Rattle.plan.specs.Plan.{PlanData}
+use Rattle.plan.specs.Plan.{PlanData, dataOf}
 
 -- The data of a stored plan with v vertices and e segments.
 abbrev pub planData : Plan → ℕ → ℕ → PlanData
-planData p v e = record {
-  levels = p .levels;
-  gap = p .gap;
-  spacing = p .spacing;
-  sizes = take (p .levels) (p .sizes);
-  vias = take v (p .vias);
-  halves = take v (p .halves);
-  uppers = take e (p .uppers);
-  lowers = take e (p .lowers);
-}
+planData p v e =
+    dataOf (p .levels) (p .gap) (p .spacing)
+    (take (p .levels) (p .sizes)) (take v (p .vias)) (take v (p .halves)) (take e (p .uppers)) (take e (p .lowers))
 
 -- The stored plan that is 0 throughout.
 unfoldable pub emptyPlan : Plan

@@ -1,6 +1,5 @@
 -- Strands: "A strand is one box, or a maximal chain of vias joined by segments."
 use mathlib.Core.List.{List, [], _∷_}
-use mathlib.Core.Option.{Option, none, some}
 use Prim.Native.Nat.{ℕ, zero, suc}
 use Rattle.plan.specs.Plan.{PlanData}
 use Rattle.plan.specs.Segments.{Segment, aboveIn, belowIn, innerSegments}

@@ -1,4 +1,3 @@
 // A plan's data and what is asked of them: see specs/.
-pub mod checks;
 pub mod data;
-pub mod levels;
+pub mod numbers;

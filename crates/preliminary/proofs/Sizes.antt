@@ -16,7 +16,7 @@ use Rattle.ints.proofs.Laws.{sum, dif, if-ind}
 use Rattle.plan.specs.Plan.{PlanData, vertexCount, distance, Siblings, numbers}
 use Rattle.plan.specs.Segments.{Segment, segmentsOf}
 use Rattle.plan.proofs.Sound.{Mem, Sound, distance-high}
-use Rattle.plan.proofs.TestLaws.{and-left}
+use Rattle.ints.proofs.Tests.{and-left}
 use Rattle.preliminary.specs.Shift.{classAt, placeAt, gapsIn, offsetsIn, insert, sort, middle, leastOf, leastOr, shiftOf, moved, shiftEach}
 use Rattle.preliminary.proofs.Give.{alike}
 use Rattle.preliminary.proofs.Shifted.{moved-long, moved-in, moved-out}

@@ -2,11 +2,9 @@
 -- current number to its whole strand; a vertex with one makes that number current."
 use mathlib.Core.Bool.{cond}
 use mathlib.Core.List.{List, [], _∷_}
-use Prim.Native.Nat.{ℕ, zero, suc, _+_}
+use Prim.Native.Nat.{ℕ, _+_}
 use lib.Dec.{eqb}
 use lib.ListN.{getD, set, replicate}
-use Rattle.plan.specs.Segments.{Segment}
-use Rattle.plan.specs.Strands.{strandIn}
 
 -- The number c is written at each of these vertices.
 unfoldable pub give : ℕ → List ℕ → List ℕ → List ℕ

@@ -1,1 +1,4 @@
 pub mod Open
+pub mod Computed
+pub mod PlanOfText
+pub mod SameData

@@ -1,3 +1,5 @@
 pub mod Lines
 pub mod Printed
-pub mod Valid
+pub mod Arrays
+pub mod Cases
+pub mod Refusal13

@@ -1,8 +1,7 @@
 -- What the counter program prints: "all report lines, or the one line `(refused N)`".
-use mathlib.Core.List.{List, [], _∷_, _++_}
+use mathlib.Core.List.{List, _++_}
 use Prim.Native.Nat.{ℕ}
 use Rattle.ints.specs.Lists.{concat}
-use Rattle.plan.specs.Plan.{PlanData}
 use Rattle.text.specs.Bytes.{bytes}
 use Rattle.text.specs.Decimal.{decimal}
 use Rattle.text.specs.Reading.{Reading, accepted, refused, reading}

@@ -1,1 +1,2 @@
 // The report's lines: see specs/.
+pub mod data;

@@ -1,18 +1,47 @@
 // Reads plan texts, each after a line with the number of its bytes, and prints of each all report lines, or the one line
-// `(refused N)`.
-use from_text::print::print;
-use inputs::MOST_BYTES;
-use inputs::NO_MORE;
-use inputs::next_length;
+// `(refused N)`; ends at the first accepted text that is not written again as it is.
+pub mod inputs;
+
+use crate::inputs::MOST_BYTES;
+use crate::inputs::NO_MORE;
+use crate::inputs::next_length;
 use libc::STDIN_FILENO;
 use libc::STDOUT_FILENO;
-use stored::printed::MAX_REPORT;
+use sheet_show::fit::MAX_REPORT;
+use text_report::print::print;
+use text_write::again::Rewritten;
+use text_write::again::rewrite;
 ghost use Prim.Native.Nat.{_≤_};
 ghost use lib.ListN.{length};
 
 const MOST_TEXTS: usize = 2000;
 
-// Answers the next text; false if there is none.
+// Whether a text has n bytes and a buffer begins with them.
+fn begins_with(buffer: &[u8], n: usize, text: &[u8]) -> bool {
+    if n != text.len() || buffer.len() < n {
+        return false;
+    }
+    let mut i: usize = 0;
+    while i < n {
+        if buffer[i] != text[i] {
+            return false;
+        }
+        i += 1;
+    }
+    true
+}
+
+// Whether a text is refused, or written again as it is; the buffer is for that.
+fn written_again(text: &[u8], buffer: &mut [u8]) -> bool {
+    let answer = rewrite(text, buffer);
+    match answer {
+        Rewritten::Written(n) => begins_with(buffer, n, text),
+        Rewritten::Refused(_n) => true,
+        Rewritten::Short => false,
+    }
+}
+
+// Answers the next text; false if there is none, or if it is not written again as it is.
 fn answered(text: &mut [u8], out: &mut [u8]) -> bool
     requires { ⌜ (65537 ≤ length (now text)) × (119834 ≤ length (now out)) ⌝ }
 {
@@ -23,7 +52,7 @@ fn answered(text: &mut [u8], out: &mut [u8]) -> bool
     let got = io::read_full(STDIN_FILENO, &mut text[..n]);
     let m = print(&text[..got], out);
     io::write_all(STDOUT_FILENO, &out[..m]);
-    true
+    written_again(&text[..got], out)
 }
 
 fn main() {

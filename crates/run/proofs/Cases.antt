@@ -4,7 +4,7 @@ use mathlib.Core.List.{List, [], _∷_}
 use Prim.Native.Nat.{ℕ}
 use lib.IntN.{ℤ, pos, negsuc}
 use Rattle.ints.specs.Ints.{gap}
-use Rattle.run.specs.Run.{Bound, free, at, Box, nondecreasing, neighboursInOrder, span, startOf, firstOf, lastOf, lastDist}
+use Rattle.run.specs.Run.{free, at, Box, nondecreasing, neighboursInOrder, span, startOf, firstOf, lastOf, lastDist}
 use Rattle.run.specs.Join.{pushLeft, pushRight, longer, lengthening, join}
 use Rattle.run.specs.Place.{placeBoxes, placeRun}
 use Rattle.run.specs.Words.{isPlacement, sideways, sidewaysLength}

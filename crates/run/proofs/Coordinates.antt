@@ -11,17 +11,14 @@ use Rattle.ints.specs.Ints.{P, N, gap}
 use Rattle.ints.proofs.Laws.{sum, dif, eq-make, le-true, make-le-true}
 use Rattle.run.specs.Run.{Bound, free, at, Box, nondecreasing, neighboursInOrder, span, startOf}
 use Rattle.run.specs.Words.{apart, isPlacement, sideways, sidewaysLength}
-use Rattle.run.proofs.Feasible.{Above, Below, Room, below-down, Priced, AllConvex, all-nil, all-cons, totalCost, Feasible, nil, cons}
-use Rattle.run.proofs.Sorted.{and-left, and-right, and-make, sorted, less, sorted-less}
+use Rattle.run.specs.inner.Limits.{Above, Below, HasPlace}
+use Rattle.run.proofs.Feasible.{below-down, Priced, AllConvex, all-nil, all-cons, totalCost, Feasible, nil, cons}
+use Rattle.ints.proofs.Tests.{and-left, and-right, _and_}
+use Rattle.run.proofs.Sorted.{sorted, sorted-less}
+use Rattle.run.specs.inner.Coordinates.{less, lessBox, inRun, addOffsets, leftLimit, rightLimit}
 use Rattle.run.proofs.Median.{start-convex}
 
 -- ---- boxes in run coordinates, and their costs
-abbrev pub lessBox : ℕ → Box → Box
-lessBox o b = record { old = less o (b .old); near = map (less o) (b .near); dist = b .dist }
-
-unfoldable pub inRun : ℕ → List Box → List Box
-inRun o [] = []
-inRun o (b ∷ bs) = lessBox o b ∷ inRun (o + b .dist) bs
 
 pub length-inRun : (o : ℕ) (bs : List Box) → length (inRun o bs) ≡ length bs
 unfolding inRun
@@ -58,11 +55,6 @@ subOffsets o [] xs = []
 subOffsets o (b ∷ bs) [] = []
 subOffsets o (b ∷ bs) (x ∷ xs) = less o x ∷ subOffsets (o + b .dist) bs xs
 
-unfoldable pub addOffsets : ℕ → List Box → List ℤ → List ℤ
-addOffsets o [] zs = []
-addOffsets o (b ∷ bs) [] = []
-addOffsets o (b ∷ bs) (z ∷ zs) = (z +ℤ pos o) ∷ addOffsets (o + b .dist) bs zs
-
 pub back : (x : ℤ) (o : ℕ) → less o x +ℤ pos o ≡ x
 back x o = eq-make _ _ (omega (arith, dif x (pos o), sum (less o x) (pos o)))
 
@@ -98,14 +90,6 @@ Matches free o (at l) d = ⊥
 Matches (at z) o free d = ⊥
 Matches (at z) o (at l) d = P z + o + N l ≡ P l + d + N z
 
-abbrev pub leftLimit : Bound → ℕ → Bound
-leftLimit free d = free
-leftLimit (at l) d = at (l +ℤ pos d)
-
-abbrev pub rightLimit : Bound → ℕ → Bound
-rightLimit free w = free
-rightLimit (at r) w = at (r -ℤ pos w)
-
 pub left-matches : (lb : Bound) (d : ℕ) → Matches (leftLimit lb d) 0 lb d
 left-matches free d = tt
 left-matches (at l) d = omega (arith, sum l (pos d))
@@ -136,26 +120,26 @@ above-to (at y) o free d z m a = absurd m
 above-to (at y) o (at l) d z m a = make-le-true (pos d) ((z +ℤ pos o) -ℤ l) (omega (arith, sum z (pos o), dif (z +ℤ pos o) l))
 
 -- the two bounds leave room for these distances
-pub room-from : (L : Bound) (o : ℕ) (lb : Bound) (d : ℕ) (H rb : Bound) (w : ℕ) → Matches L o lb d → Matches H (o + w) rb 0 → apart lb (d + w) rb ≡ true → Room L H
-room-from free o lb d H rb w m k e = tt
-room-from (at z) o free d H rb w m k e = absurd m
-room-from (at z) o (at l) d free rb w m k e = tt
-room-from (at z) o (at l) d (at h) free w m k e = absurd k
-room-from (at z) o (at l) d (at h) (at r) w m k e = omega (arith, le-true (pos (d + w)) (r -ℤ l) e, dif r l)
+pub has-place-from : (L : Bound) (o : ℕ) (lb : Bound) (d : ℕ) (H rb : Bound) (w : ℕ) → Matches L o lb d → Matches H (o + w) rb 0 → apart lb (d + w) rb ≡ true → HasPlace L H
+has-place-from free o lb d H rb w m k e = tt
+has-place-from (at z) o free d H rb w m k e = absurd m
+has-place-from (at z) o (at l) d free rb w m k e = tt
+has-place-from (at z) o (at l) d (at h) free w m k e = absurd k
+has-place-from (at z) o (at l) d (at h) (at r) w m k e = omega (arith, le-true (pos (d + w)) (r -ℤ l) e, dif r l)
 
-room-to : (L : Bound) (o : ℕ) (lb : Bound) (d : ℕ) (H rb : Bound) (w : ℕ) → Matches L o lb d → Matches H (o + w) rb 0 → Room L H → apart lb (d + w) rb ≡ true
-room-to free o free d H rb w m k r = refl
-room-to free o (at l) d H rb w m k r = absurd m
-room-to (at z) o free d H rb w m k r = absurd m
-room-to (at z) o (at l) d free free w m k r = refl
-room-to (at z) o (at l) d free (at y) w m k r = absurd k
-room-to (at z) o (at l) d (at h) free w m k r = absurd k
-room-to (at z) o (at l) d (at h) (at y) w m k r = make-le-true (pos (d + w)) (y -ℤ l) (omega (arith, dif y l))
+has-place-to : (L : Bound) (o : ℕ) (lb : Bound) (d : ℕ) (H rb : Bound) (w : ℕ) → Matches L o lb d → Matches H (o + w) rb 0 → HasPlace L H → apart lb (d + w) rb ≡ true
+has-place-to free o free d H rb w m k r = refl
+has-place-to free o (at l) d H rb w m k r = absurd m
+has-place-to (at z) o free d H rb w m k r = absurd m
+has-place-to (at z) o (at l) d free free w m k r = refl
+has-place-to (at z) o (at l) d free (at y) w m k r = absurd k
+has-place-to (at z) o (at l) d (at h) free w m k r = absurd k
+has-place-to (at z) o (at l) d (at h) (at y) w m k r = make-le-true (pos (d + w)) (y -ℤ l) (omega (arith, dif y l))
 
 -- ---- a placement is feasible
 below-from : (H rb : Bound) (o d : ℕ) (x : ℤ) (bs : List Box) (xs : List ℤ) → Matches H (o + (d + span bs)) rb 0 → isPlacement (at x) d bs rb xs ≡ true → Below H (less o x)
 unfolding isPlacement span
-below-from H rb o d x [] [] m e = room-from (at (less o x)) o (at x) 0 H rb (d + 0) (omega (arith, dif x (pos o))) m (ap (λ (w : ℕ). apart (at x) w rb) (omega arith) ∙ e)
+below-from H rb o d x [] [] m e = has-place-from (at (less o x)) o (at x) 0 H rb (d + 0) (omega (arith, dif x (pos o))) m (ap (λ (w : ℕ). apart (at x) w rb) (omega arith) ∙ e)
 below-from H rb o d x [] (y ∷ ys) m e = absurd (subst (λ (t : Bool). cond t ⊥ (Unit {0})) e tt)
 below-from H rb o d x (b ∷ bs) [] m e = absurd (subst (λ (t : Bool). cond t ⊥ (Unit {0})) e tt)
 below-from H rb o d x (b ∷ bs) (y ∷ ys) m e = below-down H (less o x) (less (o + d) y)
@@ -173,9 +157,9 @@ to-feasible L H lb ld o (b ∷ bs) rb (x ∷ xs) m k e = let f = and-right (apar
     (to-feasible (at (less o x)) H (at x) (b .dist) (o + b .dist) bs rb xs (omega (arith, dif x (pos o))) (matches-eq H rb 0 _ _ (omega arith) k) f)
 
 -- ---- and the other way
-pub from-feasible : (L H lb : Bound) (ld o : ℕ) (bs : List Box) (rb : Bound) (zs : List ℤ) → Room L H → Matches L o lb ld → Matches H (o + span bs) rb 0
+pub from-feasible : (L H lb : Bound) (ld o : ℕ) (bs : List Box) (rb : Bound) (zs : List ℤ) → HasPlace L H → Matches L o lb ld → Matches H (o + span bs) rb 0
     → Feasible H L (priced o bs) zs → isPlacement lb ld bs rb (addOffsets o bs zs) ≡ true
 unfolding isPlacement span priced addOffsets
-from-feasible L H lb ld o [] rb zs r m k nil = ap (λ (w : ℕ). apart lb w rb) (omega arith) ∙ room-to L o lb ld H rb 0 m k r
-from-feasible L H lb ld o (b ∷ bs) rb zs r m k (cons {x = z} {xs = zs′} a u f) = and-make (above-to L o lb ld z m a)
+from-feasible L H lb ld o [] rb zs r m k nil = ap (λ (w : ℕ). apart lb w rb) (omega arith) ∙ has-place-to L o lb ld H rb 0 m k r
+from-feasible L H lb ld o (b ∷ bs) rb zs r m k (cons {x = z} {xs = zs′} a u f) = _and_ (above-to L o lb ld z m a)
     (from-feasible (at z) H (at (z +ℤ pos o)) (b .dist) (o + b .dist) bs rb zs′ u (omega (arith, sum z (pos o))) (matches-eq H rb 0 _ _ (omega arith) k) f)

@@ -11,7 +11,8 @@ use Rattle.ints.proofs.Laws.{sum, dif, casesZ, eq-make, gap-ge, gap-r, gap-l, m
 use Rattle.run.specs.Run.{Bound, at, startOf}
 use Rattle.run.specs.Words.{sideways}
 use Rattle.run.proofs.Feasible.{Convex}
-use Rattle.run.proofs.Sorted.{Sorted, sorted-cons, sorted-get, countUpTo}
+use Rattle.run.proofs.Sorted.{Sorted, sorted-cons, sorted-get}
+use Rattle.run.specs.inner.Coordinates.{countUpTo}
 
 -- ---- convex
 gap-inner : (u v n : ℤ) → u ⊏ v → gap (u +ℤ pos 1) n + gap (v -ℤ pos 1) n ≤ gap u n + gap v n

@@ -13,11 +13,12 @@ use Rattle.ints.proofs.Laws.{sum, dif, apart, if-ind, lt-true}
 use Rattle.run.specs.Run.{Bound, free, at, Box, neighboursInOrder, span, startOf, firstOf, lastOf, lastDist}
 use Rattle.run.specs.Place.{placeRun}
 use Rattle.run.specs.Words.{isPossible}
-use Rattle.run.proofs.PlaceBest.{clampLow, clampHigh}
-use Rattle.run.proofs.Sorted.{less}
-use Rattle.run.proofs.Coordinates.{inRun, length-inRun, addOffsets, start-less, leftLimit, rightLimit}
-use Rattle.run.proofs.Meet.{cutAt, raiseTo, length-met}
-use Rattle.run.proofs.Fast.{bisect, bisected, moreUpTo, meetingPlace, joinFast, placeFast, fast-run}
+use Rattle.run.specs.inner.Limits.{clampLow, clampHigh}
+use Rattle.run.specs.inner.Coordinates.{less, inRun, addOffsets, leftLimit, rightLimit}
+use Rattle.run.proofs.Coordinates.{length-inRun, start-less}
+use Rattle.run.specs.inner.Bisection.{cutAt, raiseTo, bisect, moreUpTo, meetingPlace, joinFast, placeFast}
+use Rattle.run.proofs.Meet.{length-met}
+use Rattle.run.proofs.Fast.{bisected, fast-run}
 
 -- ---- every member of a list
 pub data Every (Q : ℤ → Type 0) : List ℤ → Type 0 where

@@ -5,8 +5,8 @@
 use libc::STDIN_FILENO;
 use libc::STDOUT_FILENO;
 use place_run::call::place_run;
-use place_run::types::Answer;
-use place_run::types::Bound;
+use run::types::Answer;
+use run::types::Bound;
 ghost use Prim.Native.Nat.{_≤_};
 
 const MAX_SIZE: u64 = 18446744073709551615;

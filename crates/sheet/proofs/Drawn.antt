@@ -9,22 +9,21 @@ use borrow.Author.Tests.{lt-ltb, le-ltb}
 use lib.Dec.{eqb}
 use lib.ListN.{length}
 use lib.Ieee.{Float}
-use Rattle.plan.proofs.TestLaws.{conj-at}
+use Rattle.ints.proofs.Tests.{conj-at, _and_}
 use Rattle.text.proofs.Words.{never}
-use Rattle.text.proofs.TestLaws.{_and_}
 use Rattle.passes.specs.Drawing.{drawingOf}
 use Rattle.passes.specs.Demand3.{Demand3}
 use Rattle.marks.specs.Marks.{markOf}
-use Rattle.stored.specs.Arrays.{arraysOf}
-use Rattle.stored.proofs.Cuts.{PlanArrays}
-use Rattle.stored.proofs.Rooms.{numbers-long}
-use Rattle.stored.proofs.ReadBack.{read-back, demand3-of, drawing-holds}
+use Rattle.report.specs.Arrays.{arraysOf}
+use Rattle.sheet_data.proofs.Cuts.{PlanArrays}
+use Rattle.sheet_data.proofs.Rooms.{numbers-long}
+use Rattle.sheet_data.proofs.ReadBack.{read-back, demand3-of, drawing-holds}
 use Rattle.sheet.specs.declared.types.Sheet.{Sheet}
 use Rattle.sheet.specs.Sheet.{isEmpty, verticesIn, segmentsIn, planIn, drawingIn, drawnSheet}
 use Rattle.sheet.specs.Results.{Result, gives, refuses, firstRefusal}
 use Rattle.sheet.specs.Tests.{holdsPlan, linesIn, marksIn, lineOf, reportOf, numbersOf}
 use Rattle.sheet.specs.Calls.{drawTests, draw, line, report, mark, marks}
-use Rattle.sheet.specs.Inner.{countsIn}
+use Rattle.sheet.specs.inner.Refusals.{countsIn}
 use Rattle.sheet.proofs.WhenRefused.{canShow, draw-given, line-given, report-given, mark-given, marks-given}
 
 drawn : (s : Sheet) → draw s .result ≡ gives tt → draw s .sheet ≡ drawnSheet s (drawingOf (planIn s))

@@ -5,15 +5,15 @@ use Prim.Native.Nat.{ℕ}
 use lib.ListN.{length}
 use Rattle.plan.specs.Plan.{vertexCount}
 use Rattle.text.specs.Reading.{Reading, accepted, refused, reading}
-use Rattle.reading.specs.Answer.{answerOf}
-use Rattle.reading.specs.declared.Answer.the-variants.{Accepted, Refused}
-use Rattle.reading.specs.declared.ReadText.{ReadText}
+use Rattle.text_read.specs.Answer.{answerOf}
+use Rattle.text_read.specs.declared.Answer.the-variants.{Accepted, Refused}
+use Rattle.text_read.specs.declared.ReadText.{ReadText}
 use Rattle.text.proofs.Words.{never}
 use Rattle.plan.specs.declared.data.Plan.{Plan}
 use Rattle.sheet.specs.declared.types.Sheet.{Sheet}
 use Rattle.sheet.specs.declared.types.Answer.{Answer}
 use Rattle.sheet.specs.declared.types.Stage.the-variants.{Loaded}
-use Rattle.stored.specs.Arrays.{arraysOf, noDrawing}
+use Rattle.report.specs.Arrays.{arraysOf, noDrawing}
 use Rattle.sheet.specs.Sheet.{loadedSheet}
 use Rattle.sheet.specs.Results.{gives, refuses, resultOf}
 use Rattle.sheet.specs.Calls.{SheetOut, sheetOut, loadOf, load, Leaves}

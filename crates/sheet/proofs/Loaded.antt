@@ -6,20 +6,21 @@ use Prim.Native.Nat.{ℕ}
 use lib.ListN.{length}
 use lib.Ieee.{Float}
 use Rattle.plan.specs.Plan.{PlanData, vertexCount}
-use Rattle.text.specs.Reading.{accepted, refused, reading}
-use Rattle.reading.specs.Answer.{answerOf}
-use Rattle.writing.proofs.AgainLaws.{read-accepted}
+use Rattle.text.specs.Reading.{accepted, reading}
+use Rattle.text_read.specs.Answer.{answerOf}
+use Rattle.text_write.proofs.AgainLaws.{read-accepted}
 use Rattle.sheet.specs.declared.types.Sheet.{Sheet}
 use Rattle.sheet.specs.Sheet.{loadedSheet}
 use Rattle.sheet.specs.Results.{gives, refuses}
 use Rattle.sheet.specs.Tests.{holdsPlan}
 use Rattle.sheet.specs.Calls.{load, draw, line, report, mark, marks}
 use Rattle.sheet.proofs.WhenRefused.{load-given, draw-given, line-12, report-12, mark-12, marks-12}
+use Rattle.report_validity.proofs.Stored.{stored-holds}
 
 module _ (text : List ℕ) (p : PlanData) (e : reading text ≡ accepted p) where
   loaded-holds : holdsPlan (loadedSheet p) ≡ true
   unfolding loadedSheet answerOf
-  loaded-holds = read-accepted text (answerOf (accepted p)) (vertexCount p) (length (p .uppers)) (ap answerOf (sym e)) refl .stored
+  loaded-holds = stored-holds (read-accepted text (answerOf (accepted p)) (vertexCount p) (length (p .uppers)) (ap answerOf (sym e)) refl .stored)
 
 module _ (s : Sheet) (text : List ℕ) (h : load s text .result ≡ gives tt) where
   leaves-loaded : load s text .sheet ≡ loadedSheet (load-given s text .0 h .0)

@@ -2,4 +2,4 @@ pub mod Sheet
 pub mod Results
 pub mod Tests
 pub mod Calls
-pub mod Inner
+pub mod inner

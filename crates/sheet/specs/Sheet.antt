@@ -4,9 +4,9 @@ use Prim.Native.Nat.{ℕ}
 use lib.ListN.{length}
 use Rattle.plan.specs.Plan.{PlanData, vertexCount}
 use Rattle.plan.specs.Stored.{planData, emptyPlan}
-use Rattle.reading.specs.Answer.{planOf}
+use Rattle.text_read.specs.Answer.{planOf}
 use Rattle.passes.specs.Drawing.{Drawing}
-use Rattle.stored.specs.Arrays.{drawingFrom, arraysOf, noDrawing}
+use Rattle.report.specs.Arrays.{drawingFrom, arraysOf, noDrawing}
 use Rattle.sheet.specs.declared.types.Stage.{Stage}
 use Rattle.sheet.specs.declared.types.Stage.the-variants.{Empty, Loaded, Drawn}
 use Rattle.sheet.specs.declared.types.Sheet.{Sheet}

@@ -6,10 +6,9 @@ use lib.Dec.{ltb}
 use lib.ListN.{length, getD}
 use lib.Ieee.{Float}
 use Rattle.ints.specs.Lists.{concat}
-use Rattle.writing.specs.Data.{isStoredPlan}
+use Rattle.report.specs.Refusal13.{isStoredPlan, isDrawingIn}
 use Rattle.report.specs.Lines.{reportLines}
 use Rattle.marks.specs.Marks.{allNumbers}
-use Rattle.stored.specs.Parts.{isDrawingIn}
 use Rattle.sheet.specs.declared.types.Sheet.{Sheet}
 use Rattle.sheet.specs.Sheet.{isEmpty, isDrawn, verticesIn, segmentsIn, placingsIn, planIn, drawingIn}
 use Rattle.sheet.specs.Results.{Test, test}

@@ -1,10 +1,6 @@
-// The sheet and its calls.
-pub mod all_marks;
+// The sheet, load and clear, and what draw asks and leaves.
+pub mod changed;
 pub mod clear;
-pub mod draw;
-pub mod line;
 pub mod load;
-pub mod mark;
 pub mod refusals;
 pub mod types;
-pub mod whole;

@@ -4,9 +4,9 @@ use crate::types::Changed;
 use crate::types::Header;
 use crate::types::Sheet;
 use crate::types::Stage;
-use reading::Answer as TextAnswer;
-use reading::read;
-use stored::types::Drawing;
+use report::data::Drawing;
+use text_read::Answer as TextAnswer;
+use text_read::read;
 ghost use Rattle.sheet.specs.Calls as spec;
 ghost use Rattle.sheet.specs.Calls.{Leaves};
 

@@ -1,7 +1,7 @@
 // A sheet and what its calls answer.
 use marks::types::Mark;
 use plan::data::Plan;
-use stored::types::Drawing;
+use report::data::Drawing;
 ghost use mathlib.Core.Path.{_≡_};
 ghost use Rattle.sheet.specs.Sheet.{emptySheet};
 

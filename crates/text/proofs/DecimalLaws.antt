@@ -12,7 +12,8 @@ use Rattle.ints.proofs.Laws.{cases}
 use Rattle.plan.specs.Checks.{every}
 use Rattle.text.specs.Decimal.{digits, decimal}
 use Rattle.text.specs.Parser.{Got, got, Rule, then, isDigit, digitsAfter, number}
-use Rattle.text.proofs.TestLaws.{test, every-one, every-append}
+use Rattle.ints.proofs.Tests.{test}
+use Rattle.text.proofs.TestLaws.{every-one, every-append}
 use Rattle.text.proofs.ParserLaws.{never-got, then-got}
 use Rattle.text.proofs.Numbers.{digit-low, digit-high, cap, cap-all, cap-go}
 

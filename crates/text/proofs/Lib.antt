@@ -1,13 +1,7 @@
 pub mod Cases
 pub mod Words
 pub mod Numbers
-pub mod Lines
 pub mod Repeats
-pub mod Stores
-pub mod Rows
-pub mod Levels
-pub mod SegmentLines
-pub mod Texts
 pub mod TestLaws
 pub mod ParserLaws
 pub mod DecimalLaws
@@ -17,5 +11,4 @@ pub mod StoredText
 pub mod PlanLines
 pub mod PlanLimits
 pub mod TextLength
-pub mod SameData
-pub mod PlanOfText
+pub mod RoundTrip

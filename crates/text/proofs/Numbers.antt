@@ -10,7 +10,7 @@ use borrow.Author.Tests.{leb-true, ne-eqb}
 use lib.Dec.{leb}
 use lib.ListN.{length, getD, drop, drop-of-length-le, List·getD-eq-default}
 use lib.Seq.{drop-cons}
-use Rattle.plan.proofs.TestLaws.{and-left, and-right}
+use Rattle.ints.proofs.Tests.{and-left, and-right}
 use Rattle.text.specs.Parser.{got, nothing, isDigit, digitsAfter, number}
 
 pub digit-low : (b : ℕ) → isDigit b ≡ true → 48 ≤ b

@@ -15,11 +15,11 @@ use Rattle.plan.specs.Segments.{Segment, segmentsFrom, segmentsOf}
 use Rattle.plan.specs.Limits.{within, maxLevels, maxGap, maxSpacing, maxOnLevel, maxVertices, maxSegments}
 use Rattle.plan.specs.Checks.{every, goesOneDown, check3}
 use Rattle.plan.specs.Acceptable.{limitsHold}
-use Rattle.plan.proofs.TestLaws.{and-left, and-right, conj-at}
+use Rattle.ints.proofs.Tests.{and-left, and-right, conj-at, _and_}
 use Rattle.plan.proofs.LimitLaws.{LimitTests, within-most}
 use Rattle.text.specs.Form.{Vertex, Lines}
 use Rattle.text.specs.Reading.{halfInLimit, rowInLimit, check2, stored}
-use Rattle.text.proofs.TestLaws.{_and_, every-so, every-and}
+use Rattle.text.proofs.TestLaws.{every-so, every-and}
 use Rattle.text.proofs.DecimalLaws.{fits}
 use Rattle.text.proofs.WrittenLines.{vertexOk, segmentOk}
 use Rattle.text.proofs.WrittenForm.{LinesOk}

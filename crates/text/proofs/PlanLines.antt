@@ -15,11 +15,11 @@ use Rattle.plan.specs.Segments.{segmentsFrom, segmentsOf}
 use Rattle.plan.specs.Limits.{maxHalfWidth}
 use Rattle.plan.specs.Checks.{every}
 use Rattle.plan.specs.Acceptable.{halfHolds, halvesHold}
-use Rattle.plan.proofs.TestLaws.{and-left, and-right}
+use Rattle.ints.proofs.Tests.{and-left, and-right, test, _and_}
 use Rattle.text.specs.Form.{Vertex, Lines}
 use Rattle.text.specs.Reading.{halfInLimit, stored}
 use Rattle.text.proofs.Words.{never}
-use Rattle.text.proofs.TestLaws.{test, _and_, every-one, every-cons, every-append, every-both}
+use Rattle.text.proofs.TestLaws.{every-one, every-cons, every-append, every-both}
 use Rattle.text.proofs.WrittenLines.{vertexOk}
 
 -- ---- vertices

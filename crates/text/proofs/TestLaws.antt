@@ -1,19 +1,10 @@
--- Laws of tests: by cases of a test, tests one after another, and a test of every member of a list.
+-- Laws of a test of every member of a list.
 use mathlib.Core.Path.{_≡_, refl}
-use mathlib.Core.Bool.{Bool, true, false, _&&_}
+use mathlib.Core.Bool.{Bool, true, _&&_}
 use mathlib.Core.List.{List, [], _∷_, _++_}
+use Rattle.ints.proofs.Tests.{test, _and_}
 use Rattle.plan.specs.Checks.{every}
 use Rattle.text.proofs.Words.{never}
-
--- by cases of a test
-pub test : {X : Type 0} (c : Bool) → (c ≡ true → X) → (c ≡ false → X) → X
-test true f g = f refl
-test false f g = g refl
-
--- tests that hold, one after another
-infixl 35 _and_
-pub _and_ : {a b : Bool} → a ≡ true → b ≡ true → (a && b) ≡ true
-e and f = rw (e, f)
 
 -- ---- tests of every member
 module _ {A : Type 0} (t : A → Bool) where

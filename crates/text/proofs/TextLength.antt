@@ -12,7 +12,7 @@ use Rattle.ints.specs.Lists.{sum, concat}
 use Rattle.plan.specs.Segments.{Segment}
 use Rattle.plan.specs.Limits.{maxLevels, maxGap, maxSpacing, maxHalfWidth, maxOnLevel, maxVertices}
 use Rattle.plan.specs.Checks.{every}
-use Rattle.plan.proofs.TestLaws.{and-left, and-right}
+use Rattle.ints.proofs.Tests.{and-left, and-right}
 use Rattle.plan.proofs.LimitLaws.{within-most}
 use Rattle.text.specs.Form.{Vertex, Lines}
 use Rattle.text.specs.Reading.{halfInLimit, rowInLimit}

@@ -7,7 +7,6 @@ use mathlib.Core.Option.{some}
 use Prim.Native.Nat.{ℕ, _≤_, _<_}
 use native.Mathlib.Omega.{arith}
 use borrow.Author.Tests.{le-leb}
-use lib.Dec.{leb}
 use lib.ListN.{length, length-append}
 use Rattle.ints.specs.Lists.{concat}
 use Rattle.plan.specs.Segments.{Segment}
@@ -18,7 +17,8 @@ use Rattle.text.specs.Parser.{Got, got, nothing, word, many, number}
 use Rattle.text.specs.Form.{Vertex, Lines, via, levelLine, segmentLine, planText, whole, formOf}
 use Rattle.text.specs.Writing.{segmentLineOf, lastLine}
 use Rattle.text.proofs.Words.{never, word-is}
-use Rattle.text.proofs.TestLaws.{_and_, every-one, every-cons}
+use Rattle.ints.proofs.Tests.{_and_}
+use Rattle.text.proofs.TestLaws.{every-one, every-cons}
 use Rattle.text.proofs.ParserLaws.{then-both, then-got, then-word, before, parts-7, many-reads, many-writes}
 use Rattle.text.proofs.DecimalLaws.{fits, then-number, number-written}
 use Rattle.text.proofs.WrittenLines.{vertexText, rowText, rowOk, rowFits, segmentOk, level-reads, level-writes, segment-reads, segment-writes}

@@ -11,14 +11,14 @@ use lib.ListN.{length}
 use Rattle.ints.specs.Lists.{concat}
 use Rattle.plan.specs.Segments.{Segment}
 use Rattle.plan.specs.Checks.{every}
-use Rattle.plan.proofs.TestLaws.{and-left, and-right}
+use Rattle.ints.proofs.Tests.{and-left, and-right, _and_}
 use Rattle.text.specs.Bytes.{bytes}
 use Rattle.text.specs.Decimal.{decimal}
 use Rattle.text.specs.Parser.{Got, got, nothing, Rule, orElse, either, word, many, number}
 use Rattle.text.specs.Form.{Vertex, box, via, levelLine, segmentLine}
 use Rattle.text.specs.Writing.{segmentLineOf}
 use Rattle.text.proofs.Words.{never, word-is}
-use Rattle.text.proofs.TestLaws.{_and_, every-one, every-cons}
+use Rattle.text.proofs.TestLaws.{every-one, every-cons}
 use Rattle.text.proofs.ParserLaws.{then-both, then-got, then-word, before, parts-3, parts-5, Reads, Writes, many-reads, many-writes}
 use Rattle.text.proofs.DecimalLaws.{fits, then-number, number-written}
 

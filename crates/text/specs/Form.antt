@@ -6,7 +6,7 @@ use Prim.Native.Nat.{ℕ}
 use lib.ListN.{length}
 use Rattle.plan.specs.Segments.{Segment}
 use Rattle.text.specs.Bytes.{bytes}
-use Rattle.text.specs.Parser.{Got, got, nothing, Rule, give, then, _>>=_, _>>_, either, word, many, number}
+use Rattle.text.specs.Parser.{Got, got, nothing, Rule, give, _>>=_, _>>_, either, word, many, number}
 
 -- A vertex as it is written: "A box has a half-width in steps. A via .. its half-width is 0."
 pub record Vertex : Type 0 where

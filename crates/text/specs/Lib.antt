@@ -4,5 +4,3 @@ pub mod Parser
 pub mod Form
 pub mod Reading
 pub mod Writing
-pub mod Scanned
-pub mod Filled

@@ -6,7 +6,7 @@ use Prim.Native.Nat.{ℕ}
 use lib.Dec.{leb, eqb}
 use lib.ListN.{length}
 use Rattle.ints.specs.Lists.{sum, concat}
-use Rattle.plan.specs.Plan.{PlanData}
+use Rattle.plan.specs.Plan.{PlanData, dataOf}
 use Rattle.plan.specs.Limits.{within, maxLevels, maxGap, maxSpacing, maxHalfWidth, maxOnLevel, maxVertices, maxSegments}
 use Rattle.plan.specs.Checks.{every, check3, check4, check5, check6}
 use Rattle.text.specs.Form.{Vertex, Lines, formOf}
@@ -31,16 +31,10 @@ check2 l =
 
 -- What is stored of a text within the limits, its vertices in reading order.
 unfoldable pub stored : Lines → PlanData
-stored l = record {
-  levels = l .levels;
-  gap = l .gap;
-  spacing = l .spacing;
-  sizes = map length (l .rows);
-  vias = map (λ v. v .via) (concat (l .rows));
-  halves = map (λ v. v .half) (concat (l .rows));
-  uppers = map (λ s. s .upper) (l .segments);
-  lowers = map (λ s. s .lower) (l .segments);
-}
+stored l =
+    dataOf (l .levels) (l .gap) (l .spacing)
+    (map length (l .rows)) (map (λ v. v .via) (concat (l .rows))) (map (λ v. v .half) (concat (l .rows)))
+    (map (λ s. s .upper) (l .segments)) (map (λ s. s .lower) (l .segments))
 
 -- What reading gives: a plan, or the number of the first check that fails.
 pub data Reading : Type 0 where

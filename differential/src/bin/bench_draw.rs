@@ -2,7 +2,7 @@
 //! times beside them.
 
 use differential::measure::{about, median, seconds};
-use differential::proved_draw;
+use differential::proved;
 use differential::vectors;
 use reference::{passes, text};
 use std::fs;
@@ -19,7 +19,7 @@ fn measure(name: &str, plan_text: &[u8]) {
     let (mut proved_times, mut reference_times) = (Vec::new(), Vec::new());
     for _ in 0..ROUNDS {
         proved_times.push(seconds(calls, || {
-            black_box(proved_draw::draw(black_box(plan_text), &mut out));
+            black_box(proved::draw(black_box(plan_text), &mut out));
         }));
         reference_times.push(seconds(calls, || {
             let plan = text::read(black_box(plan_text)).expect("an acceptable plan");

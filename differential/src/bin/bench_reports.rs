@@ -2,7 +2,7 @@
 //! `counter`, from its start to its end, beside the reference's.
 
 use differential::measure::{about, median, seconds};
-use differential::sheet::{self, MAX_MARKS, MAX_REPORT, NUMBERS};
+use differential::proved::{self, MAX_MARKS, MAX_REPORT, NUMBERS};
 use differential::vectors;
 use reference::{marks, passes, report, text};
 use std::fs::{self, File};
@@ -33,13 +33,13 @@ fn measure(name: &str, plan_text: &[u8]) {
     let mut times = [Vec::new(), Vec::new(), Vec::new(), Vec::new()];
     for _ in 0..ROUNDS {
         times[0].push(seconds(calls, || {
-            black_box(sheet::write_report(black_box(plan_text), &mut out)).expect("an acceptable plan");
+            black_box(proved::write_report(black_box(plan_text), &mut out)).expect("an acceptable plan");
         }));
         times[1].push(seconds(calls, || {
             black_box(report::answer(black_box(plan_text)));
         }));
         times[2].push(seconds(calls, || {
-            black_box(sheet::write_marks(black_box(plan_text), &mut numbers)).expect("an acceptable plan");
+            black_box(proved::write_marks(black_box(plan_text), &mut numbers)).expect("an acceptable plan");
         }));
         times[3].push(seconds(calls, || {
             let plan = text::read(black_box(plan_text)).expect("an acceptable plan");

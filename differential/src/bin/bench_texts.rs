@@ -1,4 +1,4 @@
-//! How long the proved reader takes on a plan text, beside the reference, in one process: ratios, with absolute times beside them.
+//! How long reading a plan text and writing it again takes, beside the reference, in one process: ratios, with absolute times beside them.
 
 use differential::measure::{median, seconds};
 use differential::proved;
@@ -8,30 +8,26 @@ use std::hint::black_box;
 
 const ROUNDS: usize = 41;
 
-/// The proved reader against the reference's, and the same with the text written again.
+/// Both from the text to the text written again.
 fn plan_text(name: &str, bytes: &[u8]) {
     let mut out = vec![0; bytes.len()];
     // Rounds so short that other work on the machine falls into few of them.
     let calls = 200_000 / bytes.len() + 1;
-    let mut times = [Vec::new(), Vec::new(), Vec::new(), Vec::new()];
+    let mut times = [Vec::new(), Vec::new()];
     for _ in 0..20 * ROUNDS {
-        times[0].push(seconds(calls, || assert_eq!(black_box(proved::read(black_box(bytes))), 0)));
-        times[1].push(seconds(calls, || assert!(black_box(text::read(black_box(bytes))).is_ok())));
-        times[2].push(seconds(calls, || assert!(black_box(proved::reread(black_box(bytes), &mut out)).is_ok())));
-        times[3].push(seconds(calls, || {
+        times[0].push(seconds(calls, || assert!(black_box(proved::reread(black_box(bytes), &mut out)).is_ok())));
+        times[1].push(seconds(calls, || {
             black_box(text::read(black_box(bytes)).map(|plan| text::write(&plan)).expect("an acceptable plan"));
         }));
     }
     assert_eq!(out, bytes);
-    let times = times.map(median);
-    for (what, proved, reference) in [("read", times[0], times[1]), ("reread", times[2], times[3])] {
-        let (length, ratio) = (bytes.len(), proved / reference);
-        println!(
-            "{what:6} {name:7} {length:5} bytes  proved {:7.2} us  reference {:7.2} us  ratio {ratio:.2}",
-            proved * 1e6,
-            reference * 1e6
-        );
-    }
+    let [proved, reference] = times.map(median);
+    let (length, ratio) = (bytes.len(), proved / reference);
+    println!(
+        "reread {name:7} {length:5} bytes  proved {:7.2} us  reference {:7.2} us  ratio {ratio:.2}",
+        proved * 1e6,
+        reference * 1e6
+    );
 }
 
 fn main() {

@@ -47,4 +47,5 @@ unfolding gap
 returns-2 c = simp backs
 
 pub apart-spec : {M : Type 1} → statement M
-apart-spec = tie.close (tie.spec sub-result cast-result sub-result-2 cast-result-2 returns returns-2)
+apart-spec = tie.close
+    (tie.spec sub-result cast-result sub-result-2 cast-result-2 returns returns-2)

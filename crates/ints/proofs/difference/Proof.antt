@@ -17,4 +17,5 @@ returns : tie.Need-returns
 returns c = simp (back (c .fits .a), back (c .fits .b), back (fits c))
 
 pub difference-spec : {M : Type 1} → statement M
-difference-spec = tie.close (tie.spec sub-result returns)
+difference-spec = tie.close
+    (tie.spec sub-result returns)

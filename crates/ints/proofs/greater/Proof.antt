@@ -21,4 +21,5 @@ returns-2 : tie.Need-returns-2
 returns-2 c = simp (backs, simp backs at (c .if1 .left))
 
 pub greater-spec : {M : Type 1} → statement M
-greater-spec = tie.close (tie.spec returns returns-2)
+greater-spec = tie.close
+    (tie.spec returns returns-2)

@@ -21,4 +21,5 @@ returns-2 : tie.Need-returns-2
 returns-2 c = simp (backs, simp backs at (c .if1 .left))
 
 pub lesser-spec : {M : Type 1} → statement M
-lesser-spec = tie.close (tie.spec returns returns-2)
+lesser-spec = tie.close
+    (tie.spec returns returns-2)

@@ -15,9 +15,6 @@ fits c = omega (arith, fit-dif)
 d-is : (c : tie.Start) → toZ w64 (c .args .d) ≡ pos (c .args .d)
 d-is c = of-nat (c .args .d) (omega arith)
 
-cast-result : tie.Need-cast-result
-cast-result c = search needs
-
 sub-result : tie.Need-sub-result
 sub-result c = simp (back (c .fits .a), d-is c) (fits c)
 
@@ -25,4 +22,5 @@ returns : tie.Need-returns
 returns c = simp (back (c .fits .a), d-is c, back (fits c))
 
 pub minus-spec : {M : Type 1} → statement M
-minus-spec = tie.close (tie.spec cast-result sub-result returns)
+minus-spec = tie.close
+    (tie.spec (λ c. search needs) sub-result returns)

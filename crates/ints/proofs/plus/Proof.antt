@@ -15,9 +15,6 @@ fits c = omega (arith, fit-sum)
 d-is : (c : tie.Start) → toZ w64 (c .args .d) ≡ pos (c .args .d)
 d-is c = of-nat (c .args .d) (omega arith)
 
-cast-result : tie.Need-cast-result
-cast-result c = search needs
-
 add-result : tie.Need-add-result
 add-result c = simp (back (c .fits .a), d-is c) (fits c)
 
@@ -25,4 +22,5 @@ returns : tie.Need-returns
 returns c = simp (back (c .fits .a), d-is c, back (fits c))
 
 pub plus-spec : {M : Type 1} → statement M
-plus-spec = tie.close (tie.spec cast-result add-result returns)
+plus-spec = tie.close
+    (tie.spec (λ c. search needs) add-result returns)

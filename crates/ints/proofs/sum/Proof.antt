@@ -17,4 +17,5 @@ returns : tie.Need-returns
 returns c = simp (back (c .fits .a), back (c .fits .b), back (fits c))
 
 pub sum-spec : {M : Type 1} → statement M
-sum-spec = tie.close (tie.spec add-result returns)
+sum-spec = tie.close
+    (tie.spec add-result returns)

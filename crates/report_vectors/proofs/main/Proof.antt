@@ -12,45 +12,8 @@ Inv-loop text₀ out₀ i₀ text out i = (length text ≡ 65537) × (length out
 abbrev μ-loop : tie.MeasureT-loop
 μ-loop text₀ out₀ i₀ text out i = 2000 - i
 
-loop-holds : tie.Need-loop-holds Inv-loop μ-loop
-loop-holds c = search needs
-
-slice-aggregate-answered : tie.Need-slice-aggregate-answered Inv-loop μ-loop
-slice-aggregate-answered c = search needs
-
-slice-aggregate-answered-2 : tie.Need-slice-aggregate-answered-2 Inv-loop μ-loop
-slice-aggregate-answered-2 c = search needs
-
-answered-requires : tie.Need-answered-requires Inv-loop μ-loop
-answered-requires c κs = search needs
-
-returns : tie.Need-returns Inv-loop μ-loop
-returns c = search needs
-
-add-i : tie.Need-add-i Inv-loop μ-loop
-add-i c = search needs
-
-loop-less : tie.Need-loop-less Inv-loop μ-loop
-loop-less c = search needs
-
-loop-again : tie.Need-loop-again Inv-loop μ-loop
-loop-again c = search needs
-
-returns-2 : tie.Need-returns-2 Inv-loop μ-loop
-returns-2 c = search needs
-
 pub main-spec : {M : Type 1} → statement M
 main-spec =
     tie.close
-    (tie.spec
-    Inv-loop
-    μ-loop
-    loop-holds
-    slice-aggregate-answered
-    slice-aggregate-answered-2
-    answered-requires
-    returns
-    add-i
-    loop-less
-    loop-again
-    returns-2)
+    (tie.spec Inv-loop μ-loop (λ c. search needs) (λ c. search needs) (λ c. search needs) (λ c κs. search needs)
+    (λ c. search needs) (λ c. search needs) (λ c. search needs) (λ c. search needs) (λ c. search needs))

@@ -2,7 +2,7 @@
 use borrow.Author.Needs.{needs}
 use native.Mathlib.Omega.{arith}
 use mathlib.Core.Path.{_≡_}
-use Prim.Native.Nat.{_+_, _<_, _≤_, _^_}
+use Prim.Native.Nat.{_+_, _<_, _^_}
 use lib.Dec.{T}
 use lib.IntN.{ℤ, negsuc, _-ℤ_, natAbs}
 use lib.Signed.{nonNeg}
@@ -42,13 +42,7 @@ cast-result-2 : tie.Need-cast-result-2
 cast-result-2 c = let h = simp b-x at (c .if1 .left) in
     simp b-x (cast-make (c .before .args .x) (omega (arith, ints, apart (c .before .args .x), fit-size (c .before .fits .x))))
 
-returns : tie.Need-returns
-returns c = search needs
-
-returns-2 : tie.Need-returns-2
-returns-2 c = search needs
-
 pub magnitude-spec : {M : Type 1} → statement M
 magnitude-spec =
     tie.close
-    (tie.spec sub-result cast-result add-result cast-result-2 returns returns-2)
+    (tie.spec sub-result cast-result add-result cast-result-2 (λ c. search needs) (λ c. search needs))

@@ -11,9 +11,6 @@ use Rattle.ints.proofs.within.is_within.Tie as tie
 b-x : (c : tie.Start) → toZ w64 (ofZ w64 (c .args .x)) ≡ c .args .x
 b-x c = back (c .fits .x)
 
-sub-if1 : tie.Need-sub-if1
-sub-if1 c = search needs
-
 returns : tie.Need-returns
 returns c = simp b-x (within-high (c .before .args .x) (simp b-x at (c .if1 .taken)))
 
@@ -21,4 +18,5 @@ returns-2 : tie.Need-returns-2
 returns-2 c = let e = simp b-x at (c .if1 .left) in simp (b-x, e, within-low (c .before .args .x) e)
 
 pub is-within-spec : {M : Type 1} → statement M
-is-within-spec = tie.close (tie.spec sub-if1 returns returns-2)
+is-within-spec = tie.close
+    (tie.spec (λ c. search needs) returns returns-2)

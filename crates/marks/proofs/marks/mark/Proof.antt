@@ -1,75 +1,46 @@
--- `marks::mark` meets its contract: by `vertex-is` and `segment-is` what the two kinds of mark are made of is the plan's.
-use mathlib.Core.Path.{sym}
-use Prim.Native.Nat.{_-_, _<_}
-use borrow.Author.Needs.{needs}
+-- `marks::mark` meets its contract: the list has the height of each vertex.
+use mathlib.Core.Path.{_≡_, sym, _∙_}
 use native.Mathlib.Omega.{arith}
-use lib.ListN.{length}
-use Rattle.marks.proofs.Laws.{vertex-is, segment-is}
+use lib.ListN.{length, length-append}
+use lib.Seq.{length-take-le, take-at}
+use Rattle.marks.proofs.Laws.{data-at, asked-each}
 use Rattle.marks.proofs.marks.mark.Statement.{statement}
 use Rattle.marks.proofs.marks.mark.Tie as tie
 
-point-at-requires : tie.Need-point-at-requires
-point-at-requires c κs = search needs
+-- what `heights` wrote is as long as the vertices
+long : (c : tie.After-heights) → length (c .heights .last .1 .1 .0) ≡ length (c .before .before .before .before .before .before .before .args .vias .now)
+long c = c .heights .kept .1 .1 .0 ∙ length-take-le _ _ (c .before .before .before .before .before .before .before .pre .lists .agreeing .few)
 
-shared-slice-read-vertex-mark : tie.Need-shared-slice-read-vertex-mark
-shared-slice-read-vertex-mark c = search needs
+array-borrow-prefix-height : tie.Need-array-borrow-prefix-height
+array-borrow-prefix-height c = c .before .before .before .before .before .pre .lists .agreeing .few
 
-mul-vertex-mark : tie.Need-mul-vertex-mark
-mul-vertex-mark c = search needs
+slice-aggregate-heights : tie.Need-slice-aggregate-heights
+slice-aggregate-heights c = sym (length-take-le _ _ (c .before .before .before .before .before .before .pre .lists .agreeing .few))
 
-shared-slice-read-vertex-mark-2 : tie.Need-shared-slice-read-vertex-mark-2
-shared-slice-read-vertex-mark-2 c = search needs
+heights-requires : tie.Need-heights-requires
+heights-requires c κs =
+    let a = c .before .before .before .before .before .before .pre .lists in
+    (a .near .levels, rw (length-take-le _ _ (a .agreeing .few)) (a .agreeing .few))
 
-vertex-mark-requires : tie.Need-vertex-mark-requires
-vertex-mark-requires c κs = search needs
+array-share-prefix-height : tie.Need-array-share-prefix-height
+array-share-prefix-height c = rw length-append (omega (arith, long (c .before)))
+
+slice-aggregate-mark-at : tie.Need-slice-aggregate-mark-at
+slice-aggregate-mark-at c = rw (take-at _ _ _ (long (c .before .before))) (sym (long (c .before .before)))
+
+mark-at-requires : tie.Need-mark-at-requires
+mark-at-requires c κs =
+    let l = c .before .before in
+    let s = l .before .before .before .before .before .before .before in
+    rw (take-at _ _ _ (long l)) (record { lists = asked-each (l .heights .last .1 .1 .0) (s .pre .lists) (long l) (l .heights .ensures); number = s .pre .number })
 
 returns : tie.Need-returns
 returns c p d =
-    let a = c .before .before .before .before .before .before .before .before .before .before .args in
-    rw (c .vertex-mark .ensures, c .before .before .before .point-at .ensures) (sym (vertex-is p _ _ _ _ _ _ _ (a .n) d (omega arith)))
-
-sub-k : tie.Need-sub-k
-sub-k c = search needs
-
-mul-segment-mark : tie.Need-mul-segment-mark
-mul-segment-mark c = search needs
-
-shared-slice-read-segment-mark : tie.Need-shared-slice-read-segment-mark
-shared-slice-read-segment-mark c = search needs
-
-mul-segment-mark-2 : tie.Need-mul-segment-mark-2
-mul-segment-mark-2 c = search needs
-
-shared-slice-read-segment-mark-2 : tie.Need-shared-slice-read-segment-mark-2
-shared-slice-read-segment-mark-2 c = search needs
-
-segment-mark-requires : tie.Need-segment-mark-requires
-segment-mark-requires c κs =
-    let s = c .before .before .before .before .before .before .before .before in
-    let k = s .args .n - length (s .args .vias .now) in
-    let here : k < length (s .args .uppers .now) = omega (arith, s .pre .number) in
-    let a = s .pre .lists in
-    (a .near, omega (arith, a .upper k here, a .positions), omega (arith, a .lower k (omega (arith, a .ends)), a .positions))
-
-returns-2 : tie.Need-returns-2
-returns-2 c p d =
-    let a = c .before .before .before .before .before .before .before .before .before .args in
-    rw (c .segment-mark .ensures) (sym (segment-is p _ _ _ _ _ _ _ (a .n) d (omega arith)))
+    let l = c .before .before .before in
+    (rw (take-at _ _ _ (long l)) at (c .mark-at .ensures)) p (data-at d (l .heights .ensures))
 
 pub mark-spec : {M : Type 1} → statement M
 mark-spec =
     tie.close
-    (tie.spec
-    point-at-requires
-    shared-slice-read-vertex-mark
-    mul-vertex-mark
-    shared-slice-read-vertex-mark-2
-    vertex-mark-requires
-    returns
-    sub-k
-    mul-segment-mark
-    shared-slice-read-segment-mark
-    mul-segment-mark-2
-    shared-slice-read-segment-mark-2
-    segment-mark-requires
-    returns-2)
+    (tie.spec array-borrow-prefix-height slice-aggregate-heights heights-requires array-share-prefix-height
+    slice-aggregate-mark-at mark-at-requires returns)

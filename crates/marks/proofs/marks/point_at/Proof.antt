@@ -10,15 +10,6 @@ use Rattle.marks.proofs.Laws.{within-at}
 use Rattle.marks.proofs.marks.point_at.Statement.{statement}
 use Rattle.marks.proofs.marks.point_at.Tie as tie
 
-mul-new : tie.Need-mul-new
-mul-new c = search needs
-
-shared-slice-copy-out-new : tie.Need-shared-slice-copy-out-new
-shared-slice-copy-out-new c = search needs
-
-height-requires : tie.Need-height-requires
-height-requires c κs = search needs
-
 read-back : (c : tie.Start) → toZ w64 (ofZ w64 (positionOf (c .args .finals .now) (c .args .v))) ≡ positionOf (c .args .finals .now) (c .args .v)
 read-back c =
     let x = positionOf (c .args .finals .now) (c .args .v) in
@@ -27,11 +18,12 @@ read-back c =
 new-requires : tie.Need-new-requires
 new-requires c κs =
     let s = c .before .before .before in
-    rw (read-back s) (within-at (s .args .finals .now) (s .args .v) (s .pre .0 .within))
+    rw (read-back s) (within-at (s .args .finals .now) (s .args .v) (s .pre .0 .within), s .pre .0 .low (s .args .v) (omega (arith, s .pre .0 .long, s .pre .1)))
 
 returns : tie.Need-returns
-returns c = let s = c .before .before .before .before in c .new .ensures ∙ rw (read-back s, c .before .height .ensures)
+returns c = c .new .ensures ∙ rw (read-back (c .before .before .before .before))
 
 pub point-at-spec : {M : Type 1} → statement M
 point-at-spec =
-    tie.close (tie.spec mul-new shared-slice-copy-out-new height-requires new-requires returns)
+    tie.close
+    (tie.spec (λ c. search needs) (λ c. search needs) (λ c. search needs) (λ c. search needs) new-requires returns)

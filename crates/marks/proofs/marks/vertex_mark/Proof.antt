@@ -7,12 +7,10 @@ use Rattle.marks.proofs.marks.vertex_mark.Tie as tie
 returns : tie.Need-returns
 returns c = rw (c .if1 .taken)
 
-int-to-float-t5 : tie.Need-int-to-float-t5
-int-to-float-t5 c = search needs
-
 returns-2 : tie.Need-returns-2
 unfolding wholeOf
 returns-2 c = rw (c .before .if1 .left)
 
 pub vertex-mark-spec : {M : Type 1} → statement M
-vertex-mark-spec = tie.close (tie.spec returns int-to-float-t5 returns-2)
+vertex-mark-spec = tie.close
+    (tie.spec returns (λ c. search needs) returns-2)

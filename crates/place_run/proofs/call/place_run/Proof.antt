@@ -8,11 +8,11 @@ use lib.ListN.{length}
 use lib.IntN.{ℤ}
 use borrow.Author.Needs.{needs}
 use borrow.Author.Tests.{not-true, not-false}
-use Rattle.run.proofs.Sorted.{and-left}
-use Rattle.place_run.specs.declared.types.Bound.{Bound}
-use Rattle.place_run.specs.Call.{Request, callOf, isTaken, placedOf}
-use Rattle.place_run.specs.Offsets.{requestOf}
-use Rattle.place_run.proofs.TakenLaws.{taken-list, ordered, reached}
+use Rattle.ints.proofs.Tests.{and-left}
+use Rattle.run.specs.declared.types.Bound.{Bound}
+use Rattle.run.specs.Call.{Request, callOf, isTaken, placedOf}
+use Rattle.place_run.specs.inner.Requests.{requestOf}
+use Rattle.run_refusal.proofs.TakenLaws.{taken-list, ordered, reached}
 use Rattle.place_run.proofs.call.place_run.Statement.{statement}
 use Rattle.place_run.proofs.call.place_run.Tie as tie
 
@@ -27,12 +27,6 @@ taken-places : (l h : Bound) (old : List ℤ) (ds cs : List ℕ) (ns : List ℤ)
 taken-places l h old ds cs ns r answer e =
     ap (λ (n : ℕ). isTaken (request l h old ds cs ns n) answer) (boxes-are (request l h old ds cs ns r) answer e) ∙ e
 
-is-taken-requires : tie.Need-is-taken-requires
-is-taken-requires c κs = search needs
-
-same-length : tie.Need-same-length
-same-length c = search needs
-
 returns : tie.Need-returns
 unfolding callOf
 returns c = rw (sym (c .before .is-taken .ensures) ∙ not-true _ (c .if1 .taken)) (record { answered = refl; left = refl })
@@ -40,9 +34,6 @@ returns c = rw (sym (c .before .is-taken .ensures) ∙ not-true _ (c .if1 .taken
 place-requires : tie.Need-place-requires
 place-requires c κs =
     taken-places _ _ _ _ _ _ _ _ (sym (c .before .before .is-taken .ensures) ∙ not-false _ (c .before .if1 .left))
-
-same-length-2 : tie.Need-same-length-2
-same-length-2 c = search needs
 
 returns-2 : tie.Need-returns-2
 unfolding callOf placedOf
@@ -53,4 +44,4 @@ returns-2 c =
 pub place-run-spec : {M : Type 1} → statement M
 place-run-spec =
     tie.close
-    (tie.spec is-taken-requires same-length returns place-requires same-length-2 returns-2)
+    (tie.spec (λ c κs. search needs) (λ c. search needs) returns place-requires (λ c. search needs) returns-2)

@@ -7,29 +7,17 @@ use lib.IntN.{pos, _+ℤ_}
 use Rattle.ints.specs.Ints.{size}
 use Rattle.ints.proofs.Laws.{back′}
 use Rattle.run.specs.Run.{at}
-use Rattle.run.proofs.Coordinates.{leftLimit}
-use Rattle.place_run.specs.Call.{limitOf, leftDistance}
-use Rattle.place_run.specs.Columns.{maxSize}
-use Rattle.place_run.specs.Halves.{SmallLimit}
+use Rattle.run.specs.inner.Coordinates.{leftLimit}
+use Rattle.run.specs.Call.{limitOf, leftDistance}
+use Rattle.run_columns.specs.inner.Columns.{maxSize}
+use Rattle.run_halves.specs.inner.Halves.{SmallLimit}
 use Rattle.place_run.proofs.place.left_limit.Statement.{statement}
 use Rattle.place_run.proofs.place.left_limit.Tie as tie
-
-enum-told : tie.Need-enum-told
-enum-told c = search needs
-
-enum-known-left : tie.Need-enum-known-left
-enum-known-left c = search needs
-
-distance-at-requires : tie.Need-distance-at-requires
-distance-at-requires c κs = search needs
 
 plus-requires : tie.Need-plus-requires
 plus-requires c κs = let s = c .before .before .before .before .before in let g = c .before .before .left .given in let v = g .0 .0 in
     let q : size v ≤ maxSize = subst (λ w. SmallLimit (limitOf w)) (g .1) (s .pre .0) in
     simp (back′ v (c .before .known-told .given .0 .1)) (omega (arith, q, c .distance-at .ensures, s .pre .1))
-
-returns : tie.Need-returns
-returns c = search needs
 
 returns-2 : tie.Need-returns-2
 returns-2 c = let a = c .before .before .before .before .before .before .args in let g = c .before .before .before .left .given in let v = g .0 .0 in
@@ -40,4 +28,4 @@ returns-2 c = let a = c .before .before .before .before .before .before .args in
 pub left-limit-spec : {M : Type 1} → statement M
 left-limit-spec =
     tie.close
-    (tie.spec enum-told enum-known-left distance-at-requires plus-requires returns returns-2)
+    (tie.spec (λ c. search needs) (λ c. search needs) (λ c κs. search needs) plus-requires (λ c. search needs) returns-2)

@@ -5,8 +5,8 @@ use native.Mathlib.Omega.{arith}
 use Prim.Native.Nat.{_-_, _<_}
 use lib.ListN.{length, take, drop}
 use lib.Seq.{length-take-le}
-use Rattle.place_run.specs.Call.{limitOf, memberOf}
-use Rattle.place_run.proofs.Fill.{rest-is}
+use Rattle.run.specs.Call.{limitOf, memberOf}
+use Rattle.run_columns.proofs.Fill.{rest-is}
 use Rattle.place_run.proofs.Taken.{Taken, taken, near-limit, steps-small, first-small, members-within, fits-between, between-is, none-is}
 use Rattle.place_run.proofs.place.place.Statement.{statement}
 use Rattle.place_run.proofs.place.place.Tie as tie
@@ -16,9 +16,6 @@ known c = let a = c .args in taken (a .left) (a .right) (a .old .now) (a .distan
 
 returns : tie.Need-returns
 returns c = let a = c .before .before .before .args in none-is (a .left) (a .right) (a .old .now) (a .distances .now) (a .counts .now) (a .neighbours .now) (a .answer .now) (known (c .before .before .before)) (c .if1 .taken)
-
-members-requires : tie.Need-members-requires
-members-requires c κs = search needs
 
 some : (c : tie.Else1) → 0 < length (c .before .before .before .args .old .now)
 some c = omega (arith, c .if1 .left)
@@ -31,9 +28,6 @@ sub-steps c = let a = c .before .before .before .before .args in omega (arith, c
 
 part-steps-start : tie.Need-part-steps-start
 part-steps-start c = let a = c .before .before .before .before .args in omega (arith, c .members .ensures, members-within (a .left) (a .right) (a .old .now) (a .distances .now) (a .counts .now) (a .neighbours .now) (a .answer .now) (known (c .before .before .before .before)) (some (c .before)))
-
-part-steps-end : tie.Need-part-steps-end
-part-steps-end c = search needs
 
 steps-is : (c : tie.After-members) → let ds = c .before .before .before .before .args .distances .now in take (length ds - c .members .result) (drop (c .members .result) ds) ≡ drop (memberOf (c .before .before .before .before .args .left)) ds
 steps-is c = let ds = c .before .before .before .before .args .distances .now in rest-is (c .members .result) ds ∙ ap (λ n. drop n ds) (c .members .ensures)
@@ -57,9 +51,6 @@ place-between-requires c κs = let s = c .before .before .before .before .before
   length-take-le _ _ (k .boxes),
 )
 
-same-length : tie.Need-same-length
-same-length c = search needs
-
 returns-2 : tie.Need-returns-2
 returns-2 c = let s = c .before .before .before .before .before .before .before .before .before .before .before .before in let a = s .args in let e = steps-is (c .before .before .before .before .before .before .before .before) in let h = rw e at (c .before .before .before .before .before .right-limit .ensures) in
     rw (e, c .before .before .before .before .before .before .left-limit .ensures, h) at (c .before .before .place-between .ensures)
@@ -68,17 +59,6 @@ returns-2 c = let s = c .before .before .before .before .before .before .before 
 pub place-spec : {M : Type 1} → statement M
 place-spec =
     tie.close
-    (tie.spec
-    returns
-    members-requires
-    mul-steps
-    sub-steps
-    part-steps-start
-    part-steps-end
-    left-limit-requires
-    right-limit-requires
-    array-borrow-prefix-offsets
-    slice-aggregate-place-between
-    place-between-requires
-    same-length
+    (tie.spec returns (λ c κs. search needs) mul-steps sub-steps part-steps-start (λ c. search needs) left-limit-requires
+    right-limit-requires array-borrow-prefix-offsets slice-aggregate-place-between place-between-requires (λ c. search needs)
     returns-2)

@@ -7,30 +7,18 @@ use lib.IntN.{pos, _-ℤ_}
 use Rattle.ints.specs.Ints.{size}
 use Rattle.ints.proofs.Laws.{back′}
 use Rattle.run.specs.Run.{at}
-use Rattle.run.proofs.Coordinates.{rightLimit}
+use Rattle.run.specs.inner.Coordinates.{rightLimit}
 use Rattle.ints.specs.Lists.{sum}
-use Rattle.place_run.specs.Call.{limitOf}
-use Rattle.place_run.specs.Columns.{maxSize}
-use Rattle.place_run.specs.Halves.{SmallLimit}
+use Rattle.run.specs.Call.{limitOf}
+use Rattle.run_columns.specs.inner.Columns.{maxSize}
+use Rattle.run_halves.specs.inner.Halves.{SmallLimit}
 use Rattle.place_run.proofs.place.right_limit.Statement.{statement}
 use Rattle.place_run.proofs.place.right_limit.Tie as tie
-
-enum-told : tie.Need-enum-told
-enum-told c = search needs
-
-enum-known-right : tie.Need-enum-known-right
-enum-known-right c = search needs
-
-total-requires : tie.Need-total-requires
-total-requires c κs = search needs
 
 minus-requires : tie.Need-minus-requires
 minus-requires c κs = let s = c .before .before .before .before .before in let g = c .before .before .right .given in let v = g .0 .0 in
     let q : size v ≤ maxSize = subst (λ w. SmallLimit (limitOf w)) (g .1) (s .pre .0) in
     simp (back′ v (c .before .known-told .given .0 .1)) (omega (arith, q, c .total .ensures, s .pre .1))
-
-returns : tie.Need-returns
-returns c = search needs
 
 returns-2 : tie.Need-returns-2
 returns-2 c = let a = c .before .before .before .before .before .before .args in let g = c .before .before .before .right .given in let v = g .0 .0 in
@@ -40,4 +28,5 @@ returns-2 c = let a = c .before .before .before .before .before .before .args in
 
 pub right-limit-spec : {M : Type 1} → statement M
 right-limit-spec =
-    tie.close (tie.spec enum-told enum-known-right total-requires minus-requires returns returns-2)
+    tie.close
+    (tie.spec (λ c. search needs) (λ c. search needs) (λ c κs. search needs) minus-requires (λ c. search needs) returns-2)

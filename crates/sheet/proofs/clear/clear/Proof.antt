@@ -5,12 +5,10 @@ use Rattle.sheet.specs.Calls.{clear}
 use Rattle.sheet.proofs.clear.clear.Statement.{statement}
 use Rattle.sheet.proofs.clear.clear.Tie as tie
 
-empty-requires : tie.Need-empty-requires
-empty-requires c κs = search needs
-
 returns : tie.Need-returns
 unfolding clear
 returns c = record { answered = refl; left = c .empty .ensures }
 
 pub clear-spec : {M : Type 1} → statement M
-clear-spec = tie.close (tie.spec empty-requires returns)
+clear-spec = tie.close
+    (tie.spec (λ c κs. search needs) returns)

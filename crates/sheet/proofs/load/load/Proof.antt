@@ -5,18 +5,6 @@ use Rattle.sheet.proofs.LoadLaws.{load-accepted, load-refused, leaves}
 use Rattle.sheet.proofs.load.load.Statement.{statement}
 use Rattle.sheet.proofs.load.load.Tie as tie
 
-read-requires : tie.Need-read-requires
-read-requires c κs = search needs
-
-enum-known-answer : tie.Need-enum-known-answer
-enum-known-answer c = search needs
-
-empty-requires : tie.Need-empty-requires
-empty-requires c κs = search needs
-
-enum-known-answer-2 : tie.Need-enum-known-answer-2
-enum-known-answer-2 c = search needs
-
 returns : tie.Need-returns
 returns c =
     let a = c .before .before .before .before .before .before .before .args in
@@ -30,4 +18,4 @@ returns-2 c =
 pub load-spec : {M : Type 1} → statement M
 load-spec =
     tie.close
-    (tie.spec read-requires enum-known-answer empty-requires enum-known-answer-2 returns returns-2)
+    (tie.spec (λ c κs. search needs) (λ c. search needs) (λ c κs. search needs) (λ c. search needs) returns returns-2)

@@ -5,9 +5,6 @@ use Rattle.sheet.proofs.DataLaws.{refuses-plan, takes-plan}
 use Rattle.sheet.proofs.refusals.plan_refusal.Statement.{statement}
 use Rattle.sheet.proofs.refusals.plan_refusal.Tie as tie
 
-is-plan-of-text-requires : tie.Need-is-plan-of-text-requires
-is-plan-of-text-requires c κs = search needs
-
 returns : tie.Need-returns
 returns c = let a = c .before .before .args in takes-plan (a .plan) (a .counts) (sym (c .before .is-plan-of-text .ensures) ∙ c .if1 .taken)
 
@@ -17,7 +14,4 @@ returns-2 c = let a = c .before .before .args in refuses-plan (a .plan) (a .coun
 pub plan-refusal-spec : {M : Type 1} → statement M
 plan-refusal-spec =
     tie.close
-    (tie.spec
-    is-plan-of-text-requires
-    returns
-    returns-2)
+    (tie.spec (λ c κs. search needs) returns returns-2)

@@ -1,21 +1,21 @@
--- `types::Point::new` meets its contract: within 2^40 the cast is taken, and its result times 0.5 is `halfOf`.
+-- `types::Point::new` meets its contract: within 2^40 and 2^53 the casts are taken, and x times 0.5 is `halfOf`.
 use mathlib.Core.Path.{refl}
-use borrow.Author.Needs.{needs}
 use Rattle.ints.proofs.Laws.{back}
 use Rattle.marks.specs.Half.{point5, halfOf, wholeOf}
-use Rattle.marks.proofs.Exact.{cast-holds}
+use Rattle.marks.proofs.Exact.{cast-holds, whole-holds}
 use Rattle.marks.proofs.types.Point.new.Statement.{statement}
 use Rattle.marks.proofs.types.Point.new.Tie as tie
 
 int-to-float-t3 : tie.Need-int-to-float-t3
-int-to-float-t3 c = let s = c .before in simp (back (s .fits .x)) (cast-holds (s .args .x) (s .pre))
+int-to-float-t3 c = let s = c .before in simp (back (s .fits .x)) (cast-holds (s .args .x) (s .pre .0))
 
 int-to-float-t5 : tie.Need-int-to-float-t5
-int-to-float-t5 c = search needs
+int-to-float-t5 c = let s = c .before .before in whole-holds (s .args .y) (s .pre .1)
 
 returns : tie.Need-returns
 unfolding halfOf wholeOf point5
 returns c = let s = c .before .before in simp (back (s .fits .x)) refl
 
 pub new-spec : {M : Type 1} → statement M
-new-spec = tie.close (tie.spec int-to-float-t3 int-to-float-t5 returns)
+new-spec = tie.close
+    (tie.spec int-to-float-t3 int-to-float-t5 returns)

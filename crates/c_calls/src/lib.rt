@@ -1,0 +1,114 @@
+// The calls for C and Rust: numbers and slices alone.
+use ints::minus;
+use ints::plus;
+use place_run::call::place_run;
+use run::types::Answer;
+use run::types::Bound;
+use sheet::types::LineAnswer;
+use text_report::all_marks::marks_text;
+use text_report::positions::positions_text;
+use text_report::whole::report_text;
+use text_write::again::Rewritten;
+use text_write::again::rewrite;
+ghost use mathlib.Core.Path.{_≡_};
+ghost use Rattle.text.specs.Reading.{reading};
+ghost use Rattle.text_write.specs.Again.{rewritten};
+ghost use Rattle.sheet.specs.Results.{lineResultOf};
+ghost use Rattle.text_report.specs.Marks.{marksOf};
+ghost use Rattle.text_report.specs.Positions.{positionsOf};
+ghost use Rattle.text_report.specs.Texts.{reportOf};
+ghost use Rattle.c_calls.specs.Code.{codeOf, Few, Codes};
+ghost use Rattle.c_calls.specs.Again as again;
+
+// What a call answers, as one number.
+fn code(answer: LineAnswer) -> i64
+    requires { ⌜ Few answer ⌝ }
+    ensures { λ r. ⌜ r ≡ codeOf (lineResultOf answer) ⌝ }
+{
+    match answer {
+        LineAnswer::Written(n) => plus(0, n as u64),
+        LineAnswer::Refused(n) => minus(0, n as u64),
+    }
+}
+
+// How many bytes all report lines of the text's plan have, which are at the front of the buffer; -N if the text is refused with N,
+// -14 if the buffer is shorter than the lines. Where it is negative the buffer stays as it is.
+#[no_mangle]
+pub extern "C" fn report_c(text: &[u8], out: &mut [u8]) -> i64
+    ensures { λ r. ⌜ Codes (reportOf (reading (now (text .entry))) (now (out .entry))) r (now (out .exit)) ⌝ }
+{
+    let answer = report_text(text, out);
+    code(answer)
+}
+
+// How many marks the drawing of the text's plan has, which are at the front of the buffer, five numbers each; -N if the text is
+// refused with N, -14 if the buffer is shorter than the marks. Where it is negative the buffer stays as it is.
+#[no_mangle]
+pub extern "C" fn marks_c(text: &[u8], out: &mut [f64]) -> i64
+    ensures { λ r. ⌜ Codes (marksOf (reading (now (text .entry))) (now (out .entry))) r (now (out .exit)) ⌝ }
+{
+    let answer = marks_text(text, out);
+    code(answer)
+}
+
+// How many vertices the text's plan has: of V vertices the preliminary positions are in out[0..V] and the final ones in out[V..2V]; -N
+// if the text is refused with N, -14 if the buffer is shorter than that. Where it is negative the buffer stays as it is.
+#[no_mangle]
+pub extern "C" fn draw_c(text: &[u8], out: &mut [i64]) -> i64
+    ensures { λ r. ⌜ Codes (positionsOf (reading (now (text .entry))) (now (out .entry))) r (now (out .exit)) ⌝ }
+{
+    let answer = positions_text(text, out);
+    code(answer)
+}
+
+// How many bytes of the plan's text were written, -N if the text is refused with N, -14 if the buffer is too short for the
+// plan's text. Where it is negative the buffer stays as it is.
+#[no_mangle]
+pub extern "C" fn reread_c(text: &[u8], out: &mut [u8]) -> i64
+    ensures { λ r. ⌜ again.Codes (rewritten (reading (now (text .entry))) (now (out .entry))) r (now (out .exit)) ⌝ }
+{
+    let answer = rewrite(text, out);
+    match answer {
+        Rewritten::Written(n) => plus(0, n as u64),
+        Rewritten::Refused(n) => minus(0, n as u64),
+        Rewritten::Short => minus(0, 14),
+    }
+}
+
+// 0 if the run is accepted, 8 if it is refused. A flag that is not 0 means that there is that bound.
+#[no_mangle]
+pub extern "C" fn place_run_c(
+    r: u64,
+    has_left: u32,
+    left: i64,
+    has_right: u32,
+    right: i64,
+    old: &[i64],
+    distances: &[u64],
+    counts: &[u64],
+    neighbours: &[i64],
+    answer: &mut [i64],
+) -> u32 {
+    let outcome = place_run(
+        r,
+        bound(has_left, left),
+        bound(has_right, right),
+        old,
+        distances,
+        counts,
+        neighbours,
+        answer,
+    );
+    match outcome {
+        Answer::Accepted => 0,
+        Answer::Refused => 8,
+    }
+}
+
+fn bound(flag: u32, value: i64) -> Bound {
+    if flag == 0 {
+        Bound::Free
+    } else {
+        Bound::At(value)
+    }
+}

@@ -1,2 +1,0 @@
-// The draw of a plan's lists: preliminary positions, then the three passes.
-pub mod draw;

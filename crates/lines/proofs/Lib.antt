@@ -1,7 +1,0 @@
-pub mod Partly
-pub mod Boxes
-pub mod Listed
-pub mod ByNumber
-pub mod AllLines
-pub mod Lengths
-pub mod Rooms

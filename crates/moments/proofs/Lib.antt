@@ -1,8 +1,0 @@
-pub mod RunEnds
-pub mod Settle
-pub mod StartMarks
-pub mod JoinedLevels
-pub mod Ready
-pub mod Due
-pub mod TablesKept
-pub mod Near

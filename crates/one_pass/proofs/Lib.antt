@@ -1,4 +1,0 @@
-pub mod EnterLaws
-pub mod Along
-pub mod DownLaws
-pub mod UpLaws

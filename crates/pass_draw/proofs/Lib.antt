@@ -1,0 +1,5 @@
+pub mod CopyLaws
+pub mod MadeLaws
+pub mod StartLaws
+pub mod ThreeLaws
+pub mod TurnLaws

@@ -1,0 +1,3 @@
+// The draw of a plan's lists: preliminary positions, then the three passes.
+pub mod draw;
+pub mod three;

@@ -1,0 +1,11 @@
+pub mod Added
+pub mod Decoded
+pub mod EntryLaws
+pub mod Fitting
+pub mod LevelLaws
+pub mod ListLaws
+pub mod Padded
+pub mod PassEnd
+pub mod PassWritten
+pub mod Steps
+pub mod TurnLaws

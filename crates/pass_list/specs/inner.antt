@@ -1,0 +1,5 @@
+-- Words of inner contracts: what loops keep and which arrays hold what. No public promise rests on them.
+pub mod Added
+pub mod Ended
+pub mod Listing
+pub mod PassList

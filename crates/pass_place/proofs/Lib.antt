@@ -1,0 +1,9 @@
+pub mod Asks
+pub mod Boxes
+pub mod LevelEnds
+pub mod Next
+pub mod OutcomeLaws
+pub mod Reach
+pub mod Rows
+pub mod Sides
+pub mod Tests

@@ -1,0 +1,22 @@
+-- `place_one` meets its contract: the working space is as long as the run.
+use borrow.Author.Needs.{needs}
+use mathlib.Core.Path.{sym}
+use lib.Seq.{length-take-le}
+use Rattle.pass_place.proofs.Next.{few-boxes}
+use Rattle.pass_place.proofs.one.place_one.Statement.{statement}
+use Rattle.pass_place.proofs.one.place_one.Tie as tie
+
+array-borrow-prefix-answer : tie.Need-array-borrow-prefix-answer
+array-borrow-prefix-answer c = few-boxes (c .before .before .before .before .before .pre .is)
+
+slice-aggregate-place-with : tie.Need-slice-aggregate-place-with
+slice-aggregate-place-with c = sym (length-take-le _ _ (few-boxes (c .before .before .before .before .before .before .pre .is)))
+
+place-with-requires : tie.Need-place-with-requires
+place-with-requires c κs = (c .before .before .before .before .before .before .pre, length-take-le _ _ (few-boxes (c .before .before .before .before .before .before .pre .is)))
+
+pub place-one-spec : {M : Type 1} → statement M
+place-one-spec =
+    tie.close
+    (tie.spec (λ c. search needs) array-borrow-prefix-answer slice-aggregate-place-with place-with-requires (λ c. search needs)
+    (λ c. search needs) (λ c. search needs))

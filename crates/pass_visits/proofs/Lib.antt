@@ -1,0 +1,5 @@
+pub mod DueLaws
+pub mod EnterLaws
+pub mod Midway
+pub mod PassLaws
+pub mod VisitLaws

@@ -1,2 +1,0 @@
-pub mod Arranged
-pub mod Walks

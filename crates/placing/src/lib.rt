@@ -1,2 +1,0 @@
-// Placing one run where the passes are: from what they hold to what they hold afterwards.
-pub mod one;

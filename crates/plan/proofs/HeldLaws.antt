@@ -1,0 +1,47 @@
+-- The limits of a plan that passes the checks, said of the lists that a program holds of it. Assumes nothing.
+use mathlib.Core.Bool.{Bool, true}
+use mathlib.Core.List.{List}
+use mathlib.Core.Path.{_≡_}
+use Prim.Native.Nat.{ℕ, _<_, _≤_}
+use lib.ListN.{length, getD}
+use Rattle.ints.specs.Lists.{sum}
+use Rattle.plan.specs.Limits.{maxLevels, maxGap, maxHalfWidth, maxVertices, maxSegments}
+use Rattle.plan.specs.Plan.{PlanData}
+use Rattle.plan.specs.inner.Graph.{Below}
+use Rattle.plan.specs.Acceptable.{acceptable}
+use Rattle.plan.specs.inner.Held.{HoldsPlan}
+use Rattle.plan.proofs.Sound.{sound}
+
+pub record Bounds (gap : ℕ) (sizes : List ℕ) (vias : List Bool) (halves uppers lowers : List ℕ) : Type 0 where
+  pub gaps : gap ≤ maxGap
+  pub levels : length sizes ≤ maxLevels
+  pub vertices : sum sizes ≡ length vias
+  pub few : length vias ≤ maxVertices
+  pub boxes : length halves ≡ length vias
+  pub within : (i : ℕ) → i < length halves → getD halves i 0 ≤ maxHalfWidth
+  pub segments : length uppers ≤ maxSegments
+  pub ends : length uppers ≡ length lowers
+  pub upperEnds : Below (length vias) uppers
+  pub lowerEnds : Below (length vias) lowers
+
+pub bounds : (p : PlanData) → acceptable p ≡ true → Bounds (p .gap) (p .sizes) (p .vias) (p .halves) (p .uppers) (p .lowers)
+bounds p q =
+    let S = sound p q in
+    let l = S .limits in
+    record {
+      gaps = l .gap-high;
+      levels = l .lists .levels;
+      vertices = l .sizes-sum;
+      few = l .vertices;
+      boxes = l .halves-long;
+      within = λ i h. l .halves-high i;
+      segments = l .segments;
+      ends = l .lists .ends;
+      upperEnds = S .ends .upper;
+      lowerEnds = S .ends .lower;
+    }
+
+pub held-bounds : (p : PlanData) (gap : ℕ) (sizes : List ℕ) (vias : List Bool) (halves uppers lowers : List ℕ)
+    → HoldsPlan p gap sizes vias halves uppers lowers → Bounds gap sizes vias halves uppers lowers
+held-bounds p gap sizes vias halves uppers lowers l =
+    rw (l .gapIs, l .sizesAre, l .viasAre, l .halvesAre, l .uppersAre, l .lowersAre) at (bounds p (l .ok))

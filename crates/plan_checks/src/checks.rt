@@ -1,0 +1,104 @@
+// Checks 3 and 4 of document 01, over slices that are as long as the data, and checks 3 to 6 in this order. Each stops at the first
+// that fails.
+use crate::levels::levels;
+use ints::wide;
+use plan::data::Plan;
+use plan_vias::vias::check_inner;
+use plan_vias::vias::check_vias;
+ghost use mathlib.Core.Path.{_≡_};
+ghost use mathlib.Core.Bool.{Bool, true, false, cond, _&&_};
+ghost use mathlib.Core.List.{List};
+ghost use Prim.Native.Nat.{ℕ, _<_};
+ghost use lib.ListN.{length};
+ghost use Rattle.plan.specs.Checks.{comesBefore, check3, check4};
+ghost use Rattle.plan.specs.inner.Graph.{graphOf, segment, Levelled, oneDown, InLimits, through, firstFailed};
+
+// Whether a and b are vertices, b one level below a.
+fn one_down(level: &[u16], a: u32, b: u32) -> bool
+    ensures { λ r. ⌜ r ≡ oneDown (now (level .entry)) (segment a b) ⌝ }
+{
+    let upper = a as usize;
+    let lower = b as usize;
+    if level.len() <= upper {
+        return false;
+    }
+    if level.len() <= lower {
+        return false;
+    }
+    wide(level[lower]) == wide(level[upper]) + 1
+}
+
+// 3: the ends of each segment are vertices, B one level below A. `level` has the level of every vertex.
+pub fn check_ends(level: &[u16], uppers: &[u32], lowers: &[u32]) -> bool
+    requires { ⌜ length (now uppers) ≡ length (now lowers) ⌝ }
+    ensures { λ r. ⌜ ((sizes : List ℕ) (vias : List Bool) → Levelled sizes (now (level .entry)) → length vias ≡ length (now (level .entry))
+        → r ≡ check3 (graphOf sizes vias (now (uppers .entry)) (now (lowers .entry)))) ⌝ }
+{
+    let mut i: usize = 0;
+    while i < uppers.len() {
+        if !one_down(level, uppers[i], lowers[i]) {
+            return false;
+        }
+        i += 1;
+    }
+    true
+}
+
+// Whether the segment from a to b comes before that from c to d.
+fn comes_before(a: u32, b: u32, c: u32, d: u32) -> bool
+    ensures { λ r. ⌜ r ≡ comesBefore (segment a b) (segment c d) ⌝ }
+{
+    a < c || (a == c && b < d)
+}
+
+// 4: segments strictly rising by A, then B.
+pub fn check_order(uppers: &[u32], lowers: &[u32]) -> bool
+    requires { ⌜ length (now uppers) ≡ length (now lowers) ⌝ }
+    ensures { λ r. ⌜ ((sizes : List ℕ) (vias : List Bool) → r ≡ check4 (graphOf sizes vias (now (uppers .entry)) (now (lowers .entry)))) ⌝ }
+{
+    let mut i: usize = 0;
+    while i + 1 < uppers.len() {
+        if !comes_before(uppers[i], lowers[i], uppers[i + 1], lowers[i + 1]) {
+            return false;
+        }
+        i += 1;
+    }
+    true
+}
+
+// 3, with the level of every vertex worked out first.
+pub fn check_levels(sizes: &[u16], vias: &[bool], uppers: &[u32], lowers: &[u32]) -> bool
+    requires { ⌜ InLimits (now sizes) (now vias) (now uppers) (now lowers) ⌝ }
+    ensures { λ r. ⌜ r ≡ check3 (graphOf (now (sizes .entry)) (now (vias .entry)) (now (uppers .entry)) (now (lowers .entry))) ⌝ }
+{
+    let mut level = [0u16; Plan::MAX_VERTICES];
+    let n = vias.len();
+    levels(sizes, &mut level[..n]);
+    check_ends(&level[..n], uppers, lowers)
+}
+
+// The number of the first of two checks that fails, 0 if both hold.
+pub fn first_of(m: u32, a: bool, n: u32, b: bool) -> u32
+    ensures { λ r. ⌜ r ≡ cond a (cond b 0 n) m ⌝ }
+{
+    if !a {
+        return m;
+    }
+    if b { 0 } else { n }
+}
+
+// Checks 3 to 6 in this order: the number of the first that fails, 0 if none does.
+pub fn check_plan(sizes: &[u16], vias: &[bool], uppers: &[u32], lowers: &[u32]) -> u32
+    requires { ⌜ InLimits (now sizes) (now vias) (now uppers) (now lowers) ⌝ }
+    ensures { λ r. ⌜ r ≡ firstFailed (graphOf (now (sizes .entry)) (now (vias .entry)) (now (uppers .entry)) (now (lowers .entry))) ⌝ }
+{
+    let ends = check_levels(sizes, vias, uppers, lowers);
+    let order = check_order(uppers, lowers);
+    let failed = first_of(3, ends, 4, order);
+    if failed != 0 {
+        return failed;
+    }
+    let through = check_vias(vias, uppers, lowers);
+    let apart = check_inner(vias, uppers, lowers);
+    first_of(5, through, 6, apart)
+}

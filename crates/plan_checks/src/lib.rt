@@ -1,0 +1,3 @@
+// See specs/ and proofs/.
+pub mod checks;
+pub mod levels;

@@ -1,0 +1,2 @@
+pub mod InnerLaws
+pub mod SegmentLaws

@@ -1,0 +1,6 @@
+// Classes of strands, and where the strands stand before the classes are shifted.
+pub mod arrange;
+pub mod classes;
+pub mod place;
+pub mod siblings;
+pub mod stand;

@@ -1,0 +1,2 @@
+// The lines of a report by their forms.
+pub mod forms;

@@ -1,0 +1,5 @@
+pub mod Listed
+pub mod ByNumber
+pub mod AllLines
+pub mod Lengths
+pub mod Rooms

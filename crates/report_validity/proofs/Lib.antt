@@ -1,0 +1,9 @@
+pub mod Walks
+pub mod Whole
+pub mod RunTests
+pub mod PlacingTests
+pub mod Decoded
+pub mod Drawn
+pub mod AllHold
+pub mod Limits
+pub mod Stored

@@ -1,0 +1,5 @@
+// Refusal 13, of a drawing.
+pub mod decision;
+pub mod drawing;
+pub mod placings;
+pub mod runs;

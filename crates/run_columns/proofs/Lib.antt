@@ -1,0 +1,6 @@
+pub mod ColumnLaws
+pub mod Sized
+pub mod Fill
+pub mod OffsetLaws
+pub mod Beside
+pub mod CountLaws

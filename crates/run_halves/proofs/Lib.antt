@@ -1,0 +1,7 @@
+pub mod Boxes
+pub mod SmallBox
+pub mod ByHalves
+pub mod Given
+pub mod Bisect
+pub mod Cut
+pub mod Small

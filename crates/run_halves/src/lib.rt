@@ -1,0 +1,3 @@
+// Placing a run by halves.
+pub mod halves;
+pub mod meet;

@@ -1,0 +1,2 @@
+// Refusal 8: whether place-run takes a run.
+pub mod refusal;

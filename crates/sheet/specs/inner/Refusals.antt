@@ -1,0 +1,33 @@
+-- What the inner functions promise. They take the parts of a sheet that they need.
+use mathlib.Core.Bool.{not}
+use mathlib.Core.List.{[], _∷_}
+use Prim.Native.Nat.{ℕ}
+use Rattle.plan.specs.declared.data.Plan.{Plan}
+use Rattle.report.specs.declared.data.Counts.{Counts}
+use Rattle.report.specs.declared.data.NewDrawing.{NewDrawing}
+use Rattle.sheet_data.specs.inner.Parts.{isPlanWith}
+use Rattle.sheet.specs.declared.types.Stage.{Stage}
+use Rattle.sheet.specs.declared.types.Stage.the-variants.{Drawn}
+use Rattle.sheet.specs.declared.types.Sheet.{Sheet}
+use Rattle.sheet.specs.Sheet.{isEmpty, verticesIn, segmentsIn, placingsIn}
+use Rattle.sheet.specs.Results.{test, firstRefusal}
+
+-- The counts of a stage; 0 where it has none.
+abbrev pub countsIn : Stage → Counts
+countsIn t = record { vertices = verticesIn t; segments = segmentsIn t; placings = placingsIn t }
+
+-- 13 of the plan, else 0.
+unfoldable pub planRefusal : Plan → Counts → ℕ
+planRefusal p c = firstRefusal (test 13 (not (isPlanWith p c)) ∷ [])
+
+-- The number by which draw is refused, 0 if it is not.
+unfoldable pub drawRefusal : Stage → Plan → ℕ
+drawRefusal t p = firstRefusal (test 11 (isEmpty t) ∷ test 13 (not (isPlanWith p (countsIn t))) ∷ [])
+
+-- A sheet with another drawing of its plan, as it lies in arrays.
+abbrev pub withDrawing : Sheet → NewDrawing → Sheet
+withDrawing s n = record {
+  header = record { stage = Drawn (verticesIn (s .header .stage)) (segmentsIn (s .header .stage)) (n .placings) };
+  plan = s .plan;
+  drawing = n .drawing;
+}

@@ -1,0 +1,4 @@
+pub mod Cuts
+pub mod ValidLaws
+pub mod Rooms
+pub mod ReadBack

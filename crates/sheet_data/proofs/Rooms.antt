@@ -1,0 +1,131 @@
+-- What the lines and the marks of a drawing that is not refused ask for is there: the parts of its arrays that the counts cut off.
+use mathlib.Core.Path.{_≡_, refl, sym, _∙_, ap}
+use mathlib.Core.Bool.{true}
+use mathlib.Core.List.{List, [], _∷_}
+use Prim.Native.Nat.{ℕ, _*_, _≤_, _<_}
+use native.Mathlib.Omega.{arith}
+use borrow.Author.Tests.{leb-true}
+use lib.Dec.{leb}
+use lib.ListN.{length, take}
+use lib.Seq.{length-take-le}
+use Rattle.ints.specs.Lists.{sum, concat}
+use Rattle.plan.specs.Limits.{maxVertices, maxSegments}
+use Rattle.plan.specs.declared.data.Plan.{Plan}
+use Rattle.plan.specs.Acceptable.{acceptable}
+use Rattle.ints.proofs.Tests.{conj-at}
+use Rattle.text_write.specs.inner.Written.{Fronts}
+use Rattle.report_validity.proofs.Stored.{stored-of}
+use Rattle.passes.specs.Words.{maxListed}
+use Rattle.report.specs.Lines.{reportLines}
+use Rattle.report.specs.Refusal13.{isDrawing, isDrawingIn}
+use Rattle.report_lines.specs.inner.Stored.{planPart, lineOf, Stored, LineRoom, ReportRoom, maxLine, maxReport}
+use Rattle.report_lines.proofs.ByNumber.{HasPart, same-lines}
+use Rattle.report_lines.proofs.Listed.{final-within}
+use Rattle.report_lines.proofs.Rooms.{line-room, report-room, drawing-within}
+use Rattle.marks.specs.Marks.{markCount}
+use Rattle.marks.specs.inner.Asked.{AskedAll, Asked, DataOf}
+use Rattle.marks.proofs.Acceptable.{asked-all}
+use Rattle.marks.proofs.All.{all-long}
+use Rattle.report.specs.declared.data.Drawing.{Drawing as Arrays}
+use Rattle.report.specs.declared.data.Counts.{Counts}
+use Rattle.sheet_data.specs.inner.Parts.{planWith, drawingWith, isPlanWith, Holds, linesOf, lineWith, reportWith, marksOf, numbersWith}
+use Rattle.sheet_data.proofs.Cuts.{PlanArrays, DrawingArrays, PlanCut, DrawingCut, plan-cut, drawing-cut}
+
+-- ---- as many vertices and segments as the counts say
+module _ (p : Plan) (c : Counts) (h : isPlanWith p c ≡ true) (a : PlanArrays p) where
+  vias-long : length (take (c .vertices) (p .vias)) ≡ c .vertices
+  vias-long = length-take-le (c .vertices) (p .vias) (plan-cut a c h .vias)
+
+  uppers-long : length (take (c .segments) (p .uppers)) ≡ c .segments
+  uppers-long = length-take-le (c .segments) (p .uppers) (plan-cut a c h .uppers)
+
+  pub marks-are : markCount (planWith p c) ≡ marksOf c
+  marks-are = omega (arith, vias-long, uppers-long)
+
+  -- so all marks have five numbers each
+  pub numbers-long : (d : Arrays) → length (numbersWith p d c) ≡ 5 * marksOf c
+  numbers-long d = omega (arith, all-long (planWith p c) (drawingWith d c .final), vias-long, uppers-long)
+
+module _ (p : Plan) (d : Arrays) (c : Counts) (h : Holds p d c) where
+  plan-ok : acceptable (planWith p c) ≡ true
+  plan-ok = stored-of p (c .vertices) (c .segments) (h .plan) .plan
+
+  record Parts : Type 0 where
+    pub placings : c .placings ≤ maxListed
+    pub boxes : sum (take (c .placings) (d .counts)) ≤ maxListed
+    pub drawing : isDrawing (planWith p c) (drawingWith d c) ≡ true
+
+  parts : Parts
+  unfolding isDrawingIn
+  parts =
+      let t = conj-at (leb (c .placings) maxListed) (leb (sum (take (c .placings) (d .counts))) maxListed ∷ isDrawing (planWith p c) (drawingWith d c) ∷ []) (h .drawing) in
+      record {
+        placings = leb-true (c .placings) maxListed (t 0);
+        boxes = leb-true (sum (take (c .placings) (d .counts))) maxListed (t 1);
+        drawing = t 2;
+      }
+
+  -- how many there are of each
+  pub record Few : Type 0 where
+    pub vertices : c .vertices ≤ maxVertices
+    pub segments : c .segments ≤ maxSegments
+    pub placings : c .placings ≤ maxListed
+
+  pub few : Few
+  few = let s = stored-of p (c .vertices) (c .segments) (h .plan) in record { vertices = s .vertices; segments = s .segments; placings = parts .placings }
+
+  module _ (a : PlanArrays p) (b : DrawingArrays d) where
+    pub in-plan : PlanCut p c
+    in-plan = plan-cut a c (h .plan)
+
+    pub in-drawing : DrawingCut d c
+    in-drawing = drawing-cut b c (in-plan .few) (parts .placings)
+
+    preliminary-long : length (take (c .vertices) (d .preliminary)) ≡ c .vertices
+    preliminary-long = length-take-le (c .vertices) (d .preliminary) (in-drawing .preliminary)
+
+    passes-long : length (take (c .placings) (d .passes)) ≡ c .placings
+    passes-long = length-take-le (c .placings) (d .passes) (in-drawing .passes)
+
+    has-part : HasPart (planWith p c) (p .spacing) (take (p .levels) (p .sizes)) (length (take (c .vertices) (d .preliminary)))
+    has-part = record { ofSpacing = refl; ofSizes = refl; ofVertices = length-take-le (c .vertices) (p .vias) (in-plan .vias) ∙ sym preliminary-long }
+
+    stored : Stored (take (c .vertices) (d .preliminary)) (take (c .vertices) (d .finals)) (take (c .placings) (d .passes)) (take (c .placings) (d .levels)) (take (c .placings) (d .counts)) (d .vertices) (d .positions)
+    stored = record {
+      ofFinals = length-take-le (c .vertices) (d .finals) (in-drawing .finals) ∙ sym preliminary-long;
+      ofLevels = length-take-le (c .placings) (d .levels) (in-drawing .levels) ∙ sym passes-long;
+      ofCounts = length-take-le (c .placings) (d .counts) (in-drawing .counts) ∙ sym passes-long;
+      few = parts .boxes;
+      ofVertices = omega (arith, parts .boxes, b .vertices);
+      ofPositions = omega (arith, parts .boxes, b .positions);
+      within = drawing-within (planWith p c) (drawingWith d c) (parts .drawing);
+    }
+
+    -- ---- lines
+    pub line-asked : {o : List ℕ} (n : ℕ) → n < linesOf c → maxLine ≤ length o
+        → LineRoom (p .spacing) (take (p .levels) (p .sizes)) (take (c .vertices) (d .preliminary)) (take (c .vertices) (d .finals)) (take (c .placings) (d .passes)) (take (c .placings) (d .levels)) (take (c .placings) (d .counts)) (d .vertices) (d .positions) n o
+    line-asked n l m = line-room plan-ok has-part stored (parts .drawing) n (omega (arith, preliminary-long, passes-long)) m
+
+    pub line-fronts : {o out : List ℕ} {r : ℕ} (n : ℕ) → Fronts (lineOf (planPart (p .spacing) (take (p .levels) (p .sizes)) (length (take (c .vertices) (d .preliminary)))) (drawingWith d c) n) o r out
+        → Fronts (lineWith p d c n) o r out
+    line-fronts n f = rw (same-lines has-part (drawingWith d c)) f
+
+    pub report-asked : {o : List ℕ} → maxReport ≤ length o
+        → ReportRoom (p .spacing) (take (p .levels) (p .sizes)) (take (c .vertices) (d .preliminary)) (take (c .vertices) (d .finals)) (take (c .placings) (d .passes)) (take (c .placings) (d .levels)) (take (c .placings) (d .counts)) (d .vertices) (d .positions) o
+    report-asked m = report-room plan-ok has-part stored (parts .drawing) m
+
+    pub report-same : reportWith p d c ≡ concat (reportLines (planPart (p .spacing) (take (p .levels) (p .sizes)) (length (take (c .vertices) (d .preliminary)))) (drawingWith d c))
+    report-same = ap concat (same-lines has-part (drawingWith d c))
+
+    -- ---- marks
+    pub marks-asked : AskedAll (p .spacing) (take (p .levels) (p .sizes)) (take (c .vertices) (p .vias)) (take (c .vertices) (p .halves)) (take (c .segments) (p .uppers)) (take (c .segments) (p .lowers)) (take (c .vertices) (d .finals))
+    marks-asked =
+        asked-all (planWith p c) (take (c .vertices) (d .finals)) plan-ok (final-within (drawingWith d c) (drawing-within (planWith p c) (drawingWith d c) (parts .drawing)))
+        (length-take-le (c .vertices) (d .finals) (in-drawing .finals) ∙ sym (vias-long p c (h .plan) a))
+
+    pub mark-asked : (n : ℕ) → n < marksOf c
+        → Asked (p .spacing) (take (p .levels) (p .sizes)) (take (c .vertices) (p .vias)) (take (c .vertices) (p .halves)) (take (c .segments) (p .uppers)) (take (c .segments) (p .lowers)) (take (c .vertices) (d .finals)) n
+    mark-asked n l = record { lists = marks-asked; number = omega (arith, vias-long p c (h .plan) a, uppers-long p c (h .plan) a) }
+
+  pub mark-data : DataOf (planWith p c) (p .spacing) (take (p .levels) (p .sizes)) (take (c .vertices) (p .vias)) (take (c .vertices) (p .halves)) (take (c .segments) (p .uppers)) (take (c .segments) (p .lowers))
+  mark-data = refl

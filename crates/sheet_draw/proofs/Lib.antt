@@ -1,0 +1,2 @@
+pub mod NewLaws
+pub mod DrawLaws

@@ -1,0 +1,155 @@
+-- What line, report, mark and marks give, as the program meets it: after the tests 11, 12 and 13, which are the same for all, and
+-- after 7 and 14.
+use mathlib.Core.Path.{_≡_, refl, sym, _∙_, ap}
+use mathlib.Core.Bool.{Bool, true, false, cond, not}
+use mathlib.Core.List.{List, [], _∷_}
+use Prim.Native.Nat.{ℕ, _≤_, _<_}
+use native.Mathlib.Omega.{arith}
+use borrow.Author.Tests.{lt-ltb, le-ltb, ne-eqb}
+use lib.ListN.{length, take, drop, replicate, length-append, length-replicate}
+use lib.Seq.{take-at}
+use lib.Ieee.{Float}
+use Rattle.ints.specs.Lists.{over}
+use Rattle.plan.specs.declared.data.Plan.{Plan}
+use Rattle.text_write.specs.inner.Written.{Fronts}
+use Rattle.report.specs.declared.data.Drawing.{Drawing as Arrays}
+use Rattle.report.specs.declared.data.Counts.{Counts}
+use Rattle.sheet_data.specs.inner.Parts.{isPlanWith, isDrawingWith, Holds, linesOf, lineWith, reportWith, marksOf, markWith}
+use Rattle.sheet.specs.declared.types.Sheet.{Sheet}
+use Rattle.sheet.specs.declared.types.LineAnswer.{LineAnswer}
+use Rattle.sheet.specs.declared.types.LineAnswer.the-variants.{Written}
+use Rattle.sheet.specs.Sheet.{isEmpty, isDrawn}
+use Rattle.sheet.specs.Results.{gives, refuses, Test, firstRefusal}
+use Rattle.sheet.specs.Tests.{test11, test12, holdsPlan, test13Plan, holdsDrawing, test13Drawing, test7Line, marksIn, test7Mark, test14, lineOf, reportOf, numbersOf}
+use Rattle.sheet.specs.Calls.{BufferOut, bufferAfter, line, report, mark, marks, Writes}
+use Rattle.sheet.specs.inner.Refusals.{countsIn}
+use Rattle.sheet_show.specs.inner.Shown.{showRefusal, fitted, fittedText, lineFrom, markFrom, marksFrom}
+
+-- The tests that line, report, mark and marks begin with.
+abbrev begun : Sheet → List Test → List Test
+begun s more = test11 s ∷ test12 s ∷ test13Plan s ∷ test13Drawing s ∷ more
+
+abbrev chain : Bool → Bool → Bool → Bool → ℕ → ℕ
+chain a b c d x = cond a 11 (cond b 12 (cond (not c) 13 (cond (not d) 13 x)))
+
+-- ---- a sheet that they refuse
+one-refuses : (a b c d : Bool) (x m : ℕ) → m ≡ chain a b c d 0 → (m ≡ 0 → ⊥) → chain a b c d x ≡ m
+one-refuses true b c d x m e z = sym e
+one-refuses false true c d x m e z = sym e
+one-refuses false false false d x m e z = sym e
+one-refuses false false true false x m e z = sym e
+one-refuses false false true true x m e z = absurd (z e)
+
+module _ (s : Sheet) (m : ℕ) (e : m ≡ showRefusal (s .header .stage) (s .plan) (s .drawing)) (z : m ≡ 0 → ⊥) where
+  refusal : (more : List Test) → firstRefusal (begun s more) ≡ m
+  unfolding showRefusal firstRefusal
+  refusal more = one-refuses (isEmpty (s .header .stage)) (not (isDrawn (s .header .stage))) (holdsPlan s) (holdsDrawing s) (firstRefusal more) m e z
+
+  buffer-refused : {A : Type 0} (more : List Test) (n : ℕ) (w b : List A) → bufferAfter (firstRefusal (begun s more)) n w b ≡ record { result = refuses m; buffer = b }
+  buffer-refused more n w b = rw (refusal more, ne-eqb m 0 z)
+
+  pub line-refused : (n : ℕ) (b : List ℕ) → line s n b ≡ record { result = refuses m; buffer = b }
+  unfolding line
+  line-refused n b = buffer-refused (test7Line s n ∷ test14 (lineOf s n) b ∷ []) (length (lineOf s n)) (lineOf s n) b
+
+  pub report-refused : (b : List ℕ) → report s b ≡ record { result = refuses m; buffer = b }
+  unfolding report
+  report-refused b = buffer-refused (test14 (reportOf s) b ∷ []) (length (reportOf s)) (reportOf s) b
+
+  pub mark-refused : (n : ℕ) → mark s n ≡ refuses m
+  unfolding mark
+  mark-refused n = rw (refusal (test7Mark s n ∷ []), ne-eqb m 0 z)
+
+  pub marks-refused : (b : List Float) → marks s b ≡ record { result = refuses m; buffer = b }
+  unfolding marks
+  marks-refused b = buffer-refused (test14 (numbersOf s) b ∷ []) (marksIn s) (numbersOf s) b
+
+-- ---- a sheet that they do not refuse
+none-refuses : (a b c d : Bool) (x : ℕ) → 0 ≡ chain a b c d 0 → chain a b c d x ≡ x
+none-refuses true b c d x e = absurd (omega arith)
+none-refuses false true c d x e = absurd (omega arith)
+none-refuses false false false d x e = absurd (omega arith)
+none-refuses false false true false x e = absurd (omega arith)
+none-refuses false false true true x e = refl
+
+both-hold : (p : Plan) (d : Arrays) (c : Counts) (a b h k : Bool) → isPlanWith p c ≡ h → isDrawingWith p d c ≡ k → 0 ≡ chain a b h k 0 → Holds p d c
+both-hold p d c true b h k f g e = absurd (omega arith)
+both-hold p d c false true h k f g e = absurd (omega arith)
+both-hold p d c false false false k f g e = absurd (omega arith)
+both-hold p d c false false true false f g e = absurd (omega arith)
+both-hold p d c false false true true f g e = record { plan = f; drawing = g }
+
+module _ (s : Sheet) (m : ℕ) (e : m ≡ showRefusal (s .header .stage) (s .plan) (s .drawing)) (z : m ≡ 0) where
+  pub holds : Holds (s .plan) (s .drawing) (countsIn (s .header .stage))
+  unfolding showRefusal firstRefusal
+  holds = both-hold (s .plan) (s .drawing) (countsIn (s .header .stage)) (isEmpty (s .header .stage)) (not (isDrawn (s .header .stage))) (holdsPlan s) (holdsDrawing s) refl refl (sym z ∙ e)
+
+  left : (more : List Test) → firstRefusal (begun s more) ≡ firstRefusal more
+  unfolding showRefusal firstRefusal
+  left more = none-refuses (isEmpty (s .header .stage)) (not (isDrawn (s .header .stage))) (holdsPlan s) (holdsDrawing s) (firstRefusal more) (sym z ∙ e)
+
+  pub line-shown : (n : ℕ) (b : List ℕ) → line s n b ≡ lineFrom (s .plan) (s .drawing) (countsIn (s .header .stage)) n b
+  unfolding line lineFrom lineOf
+  line-shown n b = rw (left (test7Line s n ∷ test14 (lineOf s n) b ∷ []))
+
+  pub report-shown : (b : List ℕ) → report s b ≡ fittedText (reportWith (s .plan) (s .drawing) (countsIn (s .header .stage))) b
+  unfolding report reportOf
+  report-shown b = rw (left (test14 (reportOf s) b ∷ []))
+
+  pub mark-shown : (n : ℕ) → mark s n ≡ markFrom (s .plan) (s .drawing) (countsIn (s .header .stage)) n
+  unfolding mark markFrom
+  mark-shown n = rw (left (test7Mark s n ∷ []))
+
+  pub marks-shown : (b : List Float) → marks s b ≡ marksFrom (s .plan) (s .drawing) (countsIn (s .header .stage)) b
+  unfolding marks numbersOf
+  marks-shown b = rw (left (test14 (numbersOf s) b ∷ []))
+
+-- ---- 7 and 14
+module _ {A : Type 0} (n : ℕ) (w b : List A) where
+  pub fitted-short : length b < length w → fitted n w b ≡ record { result = refuses 14; buffer = b }
+  unfolding firstRefusal
+  fitted-short h = rw (lt-ltb (length b) (length w) h)
+
+  pub fitted-long : length w ≤ length b → fitted n w b ≡ record { result = gives n; buffer = over w b }
+  unfolding firstRefusal
+  fitted-long h = rw (le-ltb (length b) (length w) h)
+
+module _ (p : Plan) (d : Arrays) (c : Counts) (n : ℕ) where
+  pub no-line : (b : List ℕ) → linesOf c ≤ n → lineFrom p d c n b ≡ record { result = refuses 7; buffer = b }
+  unfolding lineFrom firstRefusal
+  no-line b h = rw (le-ltb n (linesOf c) h)
+
+  pub a-line : (b : List ℕ) → n < linesOf c → lineFrom p d c n b ≡ fittedText (lineWith p d c n) b
+  unfolding lineFrom firstRefusal
+  a-line b h = rw (lt-ltb n (linesOf c) h)
+
+  pub no-mark : marksOf c ≤ n → markFrom p d c n ≡ refuses 7
+  unfolding markFrom firstRefusal
+  no-mark h = rw (le-ltb n (marksOf c) h)
+
+  pub a-mark : n < marksOf c → markFrom p d c n ≡ gives (markWith p d c n)
+  unfolding markFrom firstRefusal
+  a-mark h = rw (lt-ltb n (marksOf c) h)
+
+-- ---- what is written into a lent buffer
+pub writes : {A : Type 0} {o q : BufferOut A} {a : LineAnswer} {b : List A} → o ≡ q → Writes q a b → Writes o a b
+writes e h = rw e h
+
+pub wrote : {w o out : List ℕ} {n : ℕ} → Fronts w o n out → Writes (record { result = gives (length w); buffer = over w o }) (Written n) out
+wrote f = record { answered = ap gives (f .count); left = f .bytes }
+
+-- what stands at the front of a buffer
+module _ {w o out : List ℕ} {n : ℕ} (f : Fronts w o n out) where
+  pub front-long : n ≤ length out
+  front-long = omega (arith, f .count, ap length (f .bytes), length-append w (drop (length w) o))
+
+  pub front-is : take n out ≡ w
+  front-is = rw (f .bytes) (take-at w (drop (length w) o) n (sym (f .count)))
+
+-- what was made at the front of a buffer with room for it fits that
+pub wrote-all : {w o out : List ℕ} {n : ℕ} → Fronts w o n out → length out ≡ length o → Writes (fittedText w o) (Written n) out
+wrote-all {w} {o} f e = writes (fitted-long (length w) w o (omega (arith, f .count, front-long f))) (wrote f)
+
+-- a buffer of zeros
+pub zeros-long : (n : ℕ) → n ≤ length {A = ℕ} (replicate n 0)
+zeros-long n = omega (arith, length-replicate {A = ℕ} n 0)

@@ -1,0 +1,55 @@
+// All marks in one call.
+use crate::fit::fit_marks;
+use crate::refusals::show_refusal;
+use plan::data::Plan;
+use plan::numbers::wide;
+use report::data::Counts;
+use report::data::Drawing;
+use sheet::refusals::counts_in;
+use sheet::types::LineAnswer;
+use sheet::types::Sheet;
+ghost use Rattle.sheet_data.specs.inner.Parts.{Holds};
+ghost use Rattle.sheet.specs.Calls as spec;
+ghost use Rattle.sheet.specs.Calls.{Writes};
+ghost use Rattle.sheet_show.specs.inner.Shown.{marksFrom};
+
+// 14, and the marks.
+fn marks_of(plan: Plan, drawing: Drawing, counts: Counts, out: &mut [f64]) -> LineAnswer
+    requires { ⌜ Holds plan drawing counts ⌝ }
+    ensures { λ r. ⌜ Writes (marksFrom plan drawing counts (now (out .entry))) r (now (out .exit)) ⌝ }
+{
+    let v = counts.vertices;
+    let e = counts.segments;
+    let k = wide(plan.levels);
+    let sizes = plan.sizes;
+    let vias = plan.vias;
+    let halves = plan.halves;
+    let uppers = plan.uppers;
+    let lowers = plan.lowers;
+    let finals = drawing.finals;
+    fit_marks(
+        plan.spacing,
+        &sizes[..k],
+        &vias[..v],
+        &halves[..v],
+        &uppers[..e],
+        &lowers[..e],
+        &finals[..v],
+        out,
+    )
+}
+
+// All marks one after another in a lent buffer, five numbers each, with how many there are; later numbers stay.
+pub fn marks(sheet: Sheet, out: &mut [f64]) -> LineAnswer
+    ensures { λ r. ⌜ Writes (spec.marks sheet (now (out .entry))) r (now (out .exit)) ⌝ }
+{
+    let header = sheet.header;
+    let stage = header.stage;
+    let plan = sheet.plan;
+    let drawing = sheet.drawing;
+    let refused = show_refusal(stage, plan, drawing);
+    if refused != 0 {
+        return LineAnswer::Refused(refused);
+    }
+    marks_of(plan, drawing, counts_in(stage), out)
+}

@@ -1,4 +1,0 @@
-// Shifting classes of strands.
-mod keys;
-mod middle;
-pub mod shift;

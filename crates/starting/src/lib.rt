@@ -1,2 +1,0 @@
-// Preliminary positions of a plan that passes the checks.
-pub mod start;

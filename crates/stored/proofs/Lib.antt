@@ -1,5 +1,0 @@
-pub mod Cuts
-pub mod ValidLaws
-pub mod Rooms
-pub mod ReadBack
-pub mod NewLaws

@@ -1,0 +1,90 @@
+// Reading a plan text: checks 1 to 6 of document 01, "in this order".
+use plan::data::Plan;
+use plan::numbers::wide;
+use plan_checks::checks::check_plan;
+use plan_checks::checks::first_of;
+use text_scan::form::Scanned;
+use text_scan::form::scan;
+ghost use mathlib.Core.Path.{_≡_};
+ghost use mathlib.Core.Bool.{true};
+ghost use Rattle.text.specs.Reading.{refused, reading};
+ghost use Rattle.text_read.specs.Answer.{answerOf};
+ghost use Rattle.text_read.specs.inner.Failed.{Fronts, failedOf};
+
+// "over 65,536 bytes" is no plan text.
+pub const MAX_BYTES: usize = 65536;
+
+// A plan with its numbers of vertices and segments, or the number of the first check that fails.
+pub enum Answer {
+    Accepted(usize, usize),
+    Refused(u32),
+}
+
+// What reading a text gives. Where it is refused the plan is 0 throughout.
+pub struct ReadText {
+    pub answer: Answer,
+    pub plan: Plan,
+}
+
+fn refuse(n: u32) -> ReadText
+    ensures { λ r. ⌜ r ≡ answerOf (refused n) ⌝ }
+{
+    ReadText {
+        answer: Answer::Refused(n),
+        plan: Plan::empty(),
+    }
+}
+
+// The number of the first check that a scanned text fails, 0 if it fails none.
+fn first_failed(s: Scanned, sizes: &[u16], vias: &[bool], uppers: &[u32], lowers: &[u32]) -> u32
+    requires { ⌜ (s .form ≡ true → s .limits ≡ true → Fronts s (now sizes) (now vias) (now uppers) (now lowers)) ⌝ }
+    ensures { λ r. ⌜ r ≡ failedOf s (now (sizes .entry)) (now (vias .entry)) (now (uppers .entry)) (now (lowers .entry)) ⌝ }
+{
+    let failed = first_of(1, s.form, 2, s.limits);
+    if failed != 0 {
+        return failed;
+    }
+    let k = wide(s.levels);
+    let n = s.vertices;
+    let e = s.segments;
+    check_plan(&sizes[..k], &vias[..n], &uppers[..e], &lowers[..e])
+}
+
+// Reads a plan text.
+pub fn read(text: &[u8]) -> ReadText
+    ensures { λ r. ⌜ r ≡ answerOf (reading (now (text .entry))) ⌝ }
+{
+    if MAX_BYTES < text.len() {
+        return refuse(1);
+    }
+    let mut sizes = [0u16; Plan::MAX_LEVELS];
+    let mut vias = [false; Plan::MAX_VERTICES];
+    let mut halves = [0u16; Plan::MAX_VERTICES];
+    let mut uppers = [0u32; Plan::MAX_SEGMENTS];
+    let mut lowers = [0u32; Plan::MAX_SEGMENTS];
+    let s = scan(
+        text,
+        &mut sizes,
+        &mut vias,
+        &mut halves,
+        &mut uppers,
+        &mut lowers,
+    );
+    let failed = first_failed(s, &sizes, &vias, &uppers, &lowers);
+    if failed != 0 {
+        return refuse(failed);
+    }
+    ReadText {
+        answer: Answer::Accepted(s.vertices, s.segments),
+        plan: Plan {
+            levels: s.levels,
+            gap: s.gap,
+            spacing: s.spacing,
+            sizes,
+            vias,
+            halves,
+            uppers,
+            lowers,
+        },
+    }
+}

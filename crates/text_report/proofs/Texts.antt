@@ -1,0 +1,136 @@
+-- What becomes of a text, as the programs meet it: by what reading it answered; what its report has at most, and what is printed.
+use mathlib.Core.Path.{_≡_, refl, _∙_, ap}
+use mathlib.Core.Bool.{Bool, true, false, cond}
+use mathlib.Core.List.{List, [], _∷_}
+use Prim.Native.Nat.{ℕ, _≤_}
+use native.Mathlib.Omega.{arith}
+use lib.Dec.{eqb}
+use lib.ListN.{length}
+use lib.IntN.{ℤ}
+use lib.Ieee.{Float}
+use Rattle.ints.specs.Lists.{concat, over}
+use Rattle.plan.specs.Plan.{PlanData, vertexCount}
+use Rattle.plan.proofs.Sound.{sound}
+use Rattle.text.specs.Reading.{Reading, accepted, refused, reading}
+use Rattle.text.proofs.RoundTrip.{read-acceptable}
+use Rattle.text.proofs.Words.{never}
+use Rattle.text_write.specs.Again.{refusedLine}
+use Rattle.text_write.specs.inner.Written.{Fronts}
+use Rattle.passes.specs.Drawing.{drawingOf}
+use Rattle.report.specs.Lines.{reportLines}
+use Rattle.report.specs.Printed as report
+use Rattle.report.specs.Printed.{printedOf, printed}
+use Rattle.report_validity.proofs.Drawn.{drawn-valid}
+use Rattle.report_lines.specs.inner.Stored.{maxReport}
+use Rattle.report_lines.proofs.Lengths.{report-short}
+use Rattle.report_lines.proofs.Rooms.{small}
+use Rattle.marks.specs.Marks.{markCount, allNumbers}
+use Rattle.sheet.specs.declared.types.LineAnswer.the-variants.{Written, Refused}
+use Rattle.sheet.specs.Results.{gives, refuses, firstRefusal, resultAfter}
+use Rattle.sheet.specs.Tests.{test14}
+use Rattle.sheet.specs.Calls.{TextOut, Writes}
+use Rattle.sheet_show.specs.inner.Shown.{fitted, fittedText}
+use Rattle.sheet_show.proofs.ShowLaws.{fitted-long}
+use Rattle.text_report.specs.Texts.{reportOf}
+use Rattle.text_report.specs.Marks.{marksOf}
+use Rattle.text_report.specs.Positions.{bothOf, positionsOf}
+
+-- ---- a text that is accepted, and one that is refused
+module _ (p : PlanData) where
+  pub report-of : (b : List ℕ) → reportOf (accepted p) b ≡ fittedText (concat (reportLines p (drawingOf p))) b
+  unfolding reportOf
+  report-of b = refl
+
+  pub marks-of : (b : List Float) → marksOf (accepted p) b ≡ fitted (markCount p) (allNumbers p (drawingOf p .final)) b
+  unfolding marksOf
+  marks-of b = refl
+
+  pub positions-of : (b : List ℤ) → positionsOf (accepted p) b ≡ fitted (vertexCount p) (bothOf p) b
+  unfolding positionsOf
+  positions-of b = refl
+
+module _ (n : ℕ) where
+  pub report-not : (b : List ℕ) → Writes (reportOf (refused n) b) (Refused n) b
+  unfolding reportOf
+  report-not b = record { answered = refl; left = refl }
+
+  pub marks-not : (b : List Float) → Writes (marksOf (refused n) b) (Refused n) b
+  unfolding marksOf
+  marks-not b = record { answered = refl; left = refl }
+
+  pub positions-not : (b : List ℤ) → Writes (positionsOf (refused n) b) (Refused n) b
+  unfolding positionsOf
+  positions-not b = record { answered = refl; left = refl }
+
+-- ---- how much a call gives
+given : (k n c : ℕ) → resultAfter k c ≡ gives n → n ≡ c
+given k n c = by (eqb k 0)
+  where
+    by : (t : Bool) → cond t (gives c) (refuses k) ≡ gives n → n ≡ c
+    by true e = cc
+    by false e = never (cc)
+
+module _ (text : List ℕ) where
+  short : (p : PlanData) → reading text ≡ accepted p → length (concat (reportLines p (drawingOf p))) ≤ maxReport
+  short p e = let a = read-acceptable text p e in report-short (small p (drawingOf p) a (drawn-valid p a))
+
+  pub report-few : (b : List ℕ) (n : ℕ) → reportOf (reading text) b .result ≡ gives n → n ≤ maxReport
+  unfolding reportOf
+  report-few b n = go (reading text) refl
+    where
+      go : (g : Reading) → reading text ≡ g → reportOf g b .result ≡ gives n → n ≤ maxReport
+      go (accepted p) e h =
+          let w = concat (reportLines p (drawingOf p)) in
+          omega (arith, short p e, given (firstRefusal (test14 w b ∷ [])) n (length w) h)
+      go (refused k) e h = never (cc)
+
+  pub marks-few : (b : List Float) (n : ℕ) → marksOf (reading text) b .result ≡ gives n → n ≤ 3072
+  unfolding marksOf
+  marks-few b n = go (reading text) refl
+    where
+      go : (g : Reading) → reading text ≡ g → marksOf g b .result ≡ gives n → n ≤ 3072
+      go (accepted p) e h =
+          let l = sound p (read-acceptable text p e) .limits in
+          omega (arith, l .vertices, l .segments, given (firstRefusal (test14 (allNumbers p (drawingOf p .final)) b ∷ [])) n (markCount p) h)
+      go (refused k) e h = never (cc)
+
+  pub positions-few : (b : List ℤ) (n : ℕ) → positionsOf (reading text) b .result ≡ gives n → n ≤ 1024
+  unfolding positionsOf
+  positions-few b n = go (reading text) refl
+    where
+      go : (g : Reading) → reading text ≡ g → positionsOf g b .result ≡ gives n → n ≤ 1024
+      go (accepted p) e h =
+          let l = sound p (read-acceptable text p e) .limits in
+          omega (arith, l .vertices, given (firstRefusal (test14 (bothOf p) b ∷ [])) n (vertexCount p) h)
+      go (refused k) e h = never (cc)
+
+-- ---- what is printed, by what the report answers in a buffer that has room for every report
+module _ (text b out : List ℕ) (n : ℕ) (m : maxReport ≤ length b) where
+  fits : (p : PlanData) → reading text ≡ accepted p
+      → reportOf (accepted p) b ≡ record { result = gives (length (concat (reportLines p (drawingOf p)))); buffer = over (concat (reportLines p (drawingOf p))) b }
+  unfolding reportOf
+  fits p e = let w = concat (reportLines p (drawingOf p)) in fitted-long (length w) w b (omega (arith, short text p e))
+
+  pub prints-report : Writes (reportOf (reading text) b) (Written n) out → Fronts (printed text) b n out
+  unfolding printed printedOf reportOf
+  prints-report = go (reading text) refl
+    where
+      go : (g : Reading) → reading text ≡ g → Writes (reportOf g b) (Written n) out → Fronts (printedOf g) b n out
+      go (accepted p) e w =
+          let told : gives n ≡ gives (length (concat (reportLines p (drawingOf p)))) = w .answered ∙ ap (λ (o : TextOut). o .result) (fits p e) in
+          record { count = cc told; bytes = w .left ∙ ap (λ (o : TextOut). o .buffer) (fits p e) }
+      go (refused k) e w = let told : gives n ≡ refuses k = w .answered in never (cc)
+
+  -- the line that says so is written after the report was refused
+  pub prints-refused : {r : ℕ} {after : List ℕ} → Writes (reportOf (reading text) b) (Refused n) out → Fronts (refusedLine n) out r after → Fronts (printed text) b r after
+  unfolding printed printedOf reportOf refusedLine report.refusedLine
+  prints-refused {r} {after} w f = go (reading text) refl w
+    where
+      go : (g : Reading) → reading text ≡ g → Writes (reportOf g b) (Refused n) out → Fronts (printedOf g) b r after
+      go (accepted p) e w =
+          let told : refuses n ≡ gives (length (concat (reportLines p (drawingOf p)))) = w .answered ∙ ap (λ (o : TextOut). o .result) (fits p e) in
+          never (cc)
+      go (refused k) e w =
+          let told : refuses n ≡ refuses k = w .answered in
+          let same : n ≡ k = cc told in
+          rw (same, w .left) at f

@@ -1,0 +1,5 @@
+pub mod Levels
+pub mod Rows
+pub mod SegmentLines
+pub mod Stores
+pub mod Texts

@@ -1,0 +1,15 @@
+-- `text::form::in_limits` meets its contract: each step is one more question of `inLimits`.
+use borrow.Author.Needs.{needs}
+use Rattle.text_scan.proofs.form.in_limits.Statement.{statement}
+use Rattle.text_scan.proofs.form.in_limits.Tie as tie
+
+returns : tie.Need-returns
+returns c =
+    simp (c .both6 .ensures, c .before .both5 .ensures, c .before .before .before .both4 .ensures, c .before .before .before .before .both3 .ensures, c .before .before .before .before .before .before .wide .ensures, c .before .before .before .before .before .before .before .both2 .ensures, c .before .before .before .before .before .before .before .before .in-range3 .ensures, c .before .before .before .before .before .before .before .before .before .both .ensures, c .before .before .before .before .before .before .before .before .before .before .in-range2 .ensures, c .before .before .before .before .before .before .before .before .before .before .before .in-range .ensures)
+
+pub in-limits-spec : {M : Type 1} → statement M
+in-limits-spec =
+    tie.close
+    (tie.spec (λ c. search needs) (λ c κs. search needs) (λ c κs. search needs) (λ c κs. search needs) (λ c κs. search needs)
+    (λ c κs. search needs) (λ c κs. search needs) (λ c κs. search needs) (λ c κs. search needs) (λ c κs. search needs)
+    (λ c κs. search needs) returns)

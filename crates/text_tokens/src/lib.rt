@@ -1,0 +1,3 @@
+// What stands at a position of a plan text, and whether it is within its limits.
+pub mod limits;
+pub mod scanners;

@@ -1,0 +1,102 @@
+// A plan text read and written again.
+use crate::lines::text as write_text;
+use crate::number::put_then;
+use crate::number::put_word;
+use plan::data::Plan;
+use plan::numbers::wide;
+use text_read::Answer;
+use text_read::read;
+ghost use mathlib.Core.Path.{_≡_};
+ghost use Prim.Native.Nat.{_≤_};
+ghost use lib.ListN.{length};
+ghost use Rattle.plan.specs.Stored.{planData};
+ghost use Rattle.text.specs.Reading.{reading};
+ghost use Rattle.text.specs.Writing.{textOf};
+ghost use Rattle.text_write.specs.inner.Written.{Fronts};
+ghost use Rattle.text_write.specs.inner.Data.{maxText};
+ghost use Rattle.text_write.specs.inner.Stored.{StoredPlan};
+ghost use Rattle.text_write.specs.Again.{refusedLine, writtenAgain, Leaves, textIfShort, rewritten};
+
+// What writing a text again gives: how many bytes were written, the number of the text's refusal, or that the buffer is too
+// short.
+pub enum Rewritten {
+    Written(usize),
+    Refused(u32),
+    Short,
+}
+
+// "(refused N)", at the front of the buffer: how many bytes it has.
+pub fn refuse(n: u32, out: &mut [u8]) -> usize
+    requires { ⌜ 21 ≤ length (now out) ⌝ }
+    ensures { λ r. ⌜ Fronts (refusedLine n) (now (out .entry)) r (now (out .exit)) ⌝ }
+{
+    let at = put_word(out, 0, b"(refused ");
+    put_then(out, at, n as u64, b")\n")
+}
+
+// The text of a plan with these numbers of vertices and segments that is that of a text, at the front of a buffer that has
+// room for it.
+fn stored_text(plan: Plan, vertices: usize, segments: usize, out: &mut [u8]) -> usize
+    requires { ⌜ StoredPlan plan vertices segments × (length (textOf (planData plan vertices segments)) ≤ length (now out)) ⌝ }
+    ensures { λ r. ⌜ Fronts (textOf (planData plan vertices segments)) (now (out .entry)) r (now (out .exit)) ⌝ }
+{
+    let k = wide(plan.levels);
+    let sizes = plan.sizes;
+    let vias = plan.vias;
+    let halves = plan.halves;
+    let uppers = plan.uppers;
+    let lowers = plan.lowers;
+    write_text(
+        plan.levels,
+        plan.gap,
+        plan.spacing,
+        &sizes[..k],
+        &vias[..vertices],
+        &halves[..vertices],
+        &uppers[..segments],
+        &lowers[..segments],
+        out,
+    )
+}
+
+// The plan's text again, or the line "(refused N)", at the front of the buffer: how many bytes it has.
+pub fn reread(text: &[u8], out: &mut [u8]) -> usize
+    requires { ⌜ maxText ≤ length (now out) ⌝ }
+    ensures { λ r. ⌜ Fronts (writtenAgain (reading (now (text .entry)))) (now (out .entry)) r (now (out .exit)) ⌝ }
+{
+    let r = read(text);
+    let answer = r.answer;
+    match answer {
+        Answer::Accepted(v, e) => stored_text(r.plan, v, e, out),
+        Answer::Refused(n) => refuse(n, out),
+    }
+}
+
+// The text of such a plan, which has n bytes, if the buffer has room for it.
+fn text_if_short(
+    plan: Plan,
+    vertices: usize,
+    segments: usize,
+    n: usize,
+    out: &mut [u8],
+) -> Rewritten
+    requires { ⌜ StoredPlan plan vertices segments × (n ≡ length (textOf (planData plan vertices segments))) ⌝ }
+    ensures { λ r. ⌜ Leaves (textIfShort (textOf (planData plan vertices segments)) (now (out .entry))) r (now (out .exit)) ⌝ }
+{
+    if out.len() < n {
+        return Rewritten::Short;
+    }
+    Rewritten::Written(stored_text(plan, vertices, segments, out))
+}
+
+// The plan's text again, at the front of the buffer, if it has room for it. Else the buffer stays as it is.
+pub fn rewrite(text: &[u8], out: &mut [u8]) -> Rewritten
+    ensures { λ r. ⌜ Leaves (rewritten (reading (now (text .entry))) (now (out .entry))) r (now (out .exit)) ⌝ }
+{
+    let r = read(text);
+    let answer = r.answer;
+    match answer {
+        Answer::Accepted(v, e) => text_if_short(r.plan, v, e, text.len(), out),
+        Answer::Refused(n) => Rewritten::Refused(n),
+    }
+}

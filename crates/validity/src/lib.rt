@@ -1,4 +1,0 @@
-// Refusal 13, of a drawing.
-pub mod drawing;
-pub mod placings;
-pub mod runs;

@@ -1,3 +1,0 @@
-pub mod Written
-pub mod Data
-pub mod Again

@@ -1,0 +1,316 @@
+//! Random scripts, the same for the same seed.
+//!
+//! A script is answered while it is made, so that its commands know how many lines, marks and entries there are to ask for
+//! or to alter.
+
+use crate::generate::generate;
+use crate::pokes::{self, Damage};
+use crate::random::Random;
+use crate::requests::Request;
+use crate::run_line;
+use crate::script::Script;
+use crate::sheet::Stage;
+use crate::words::escaped;
+
+/// Most bytes in the line of a load.
+const MOST_IN_LOAD: usize = 200_000;
+
+/// Most bytes in the line of a request for place-run.
+const MOST_IN_REQUEST: usize = 2_000;
+
+/// Lines that are no commands.
+const UNKNOWN: [&str; 50] = [
+    " ",
+    "drow 1",
+    "Draw 1",
+    " draw 1",
+    "draw",
+    "draw x",
+    "draw 1 1",
+    "draw 1 ",
+    "clear",
+    "clear 1 1",
+    "stage",
+    "stage 1 1",
+    "line 1",
+    "line 1 x",
+    "line 1 -1",
+    "line 1 0 -1",
+    "line 1 0 99 99",
+    "lines",
+    "lines 1 0",
+    "mark 1",
+    "mark 1 x",
+    "mark 1 -1",
+    "load",
+    "load 1",
+    "load 1 loose (end)\\n",
+    "load 1 strict \\q",
+    "load 1 strict \\x4",
+    "load 1 strict (plan 1 1 1)\\",
+    "placerun",
+    "placerun r=0",
+    "placerun r=0 old= counts= nbrs= dist= top=1",
+    "placerun r=0 old= counts= nbrs= nbrs= dist=",
+    "placerun r=x old= counts= nbrs= dist=",
+    "poke",
+    "poke 1",
+    "poke 1 stage",
+    "poke 1 stage full",
+    "poke 1 stage loaded 1",
+    "poke 1 stage drawn 1 0",
+    "poke 1 k",
+    "poke 1 k x",
+    "poke 1 g 1 1",
+    "poke 1 size 64 1",
+    "poke 1 vertex 1024 box 1",
+    "poke 1 vertex 0 bix 1",
+    "poke 1 seg 2048 0 1",
+    "poke 1 pre 1024 0",
+    "poke 1 pos 0 18446744073709551616",
+    "poke 1 pass 2048 1",
+    "poke 1 level 2048 1",
+];
+
+/// Commands at the edges of the form.
+const EDGES: [&str; 10] = [
+    "load 1 strict ",
+    "load 1 strict \\x28end)\\n",
+    "load 1 strict \\x28plan 1 1 1)\\x0A(level (box 1))\\x0a(end)\\n",
+    "line 1 18446744073709551615",
+    "mark 1 18446744073709551615",
+    "placerun dist= nbrs=3 counts=1 old=0 r=1",
+    "placerun r=0 old= counts= nbrs= dist= answer=0",
+    "placerun r=2 old=1,2 counts=0,0 nbrs= dist=-1",
+    "placerun r=18446744073709551615 old= counts= nbrs= dist= answer=0",
+    "poke 1 stage loaded 18446744073709551615 18446744073709551615",
+];
+
+/// Commands of later requests, as long as they have not landed no commands either.
+const LATER: [&str; 16] = [
+    "draw 2",
+    "mark 1 1 0",
+    "marks 1 1",
+    "load 1 tangled (plan 1 1 1)\\n(level (box 1))\\n(end)\\n",
+    "load 1 generous (plan 1 1 1)\\n(level (box 1))\\n(end)\\n",
+    "text 1 0",
+    "walk 1 (plan 1 1 1)\\n(level (box 1))\\n(end)\\n",
+    "placerun r=1 old=0 counts=1 nbrs=3 dist= ratings=1",
+    "poke 1 slope none",
+    "poke 1 seg 0 0 1 1",
+    "tidy 1 0",
+    "hide 1 1 1",
+    "exchange 1 0",
+    "preview 1 0 0",
+    "taps 1 0 0,0",
+    "total",
+];
+
+/// So many scripts from a seed on, as one: each starts with a remark that has its seed, and a clear.
+pub fn scripts(count: u64, seed: u64) -> String {
+    let one = |seed: u64| format!("# script {seed}\nclear 1\n{}", script(seed));
+    (0..count).map(|i| one(seed.wrapping_add(i))).collect()
+}
+
+/// The script of a seed.
+pub fn script(seed: u64) -> String {
+    let random = Random::new("script", seed);
+    let mut maker = Maker { random, run: Script::new(), text: String::new(), repairs: Vec::new() };
+    let pokes = maker.random.once_in(3);
+    for _ in 0..maker.random.within(5, 40) {
+        if pokes && maker.random.once_in(2) {
+            maker.poke();
+        } else {
+            maker.step();
+        }
+    }
+    maker.say("stage 1");
+    maker.say("lines 1");
+    maker.say("marks 1");
+    maker.text
+}
+
+/// A script that is being made.
+struct Maker {
+    random: Random,
+    /// What the lines so far have done.
+    run: Script,
+    text: String,
+    /// Pokes that take back those before, the latest last.
+    repairs: Vec<String>,
+}
+
+impl Maker {
+    fn say(&mut self, line: &str) {
+        self.run.answers(line.as_bytes());
+        self.text += line;
+        self.text.push('\n');
+    }
+
+    /// Any command; seldom one that an empty sheet refuses.
+    fn step(&mut self) {
+        if self.run.sheet.stage == Stage::Empty && !self.random.once_in(4) {
+            return self.load();
+        }
+        match self.random.below(24) {
+            0..=2 => self.load(),
+            3..=5 => self.say("draw 1"),
+            6 => self.say("stage 1"),
+            7..=10 => self.line(),
+            11..=13 => self.mark(),
+            14 | 15 => self.ask(),
+            16..=18 => self.place_run(),
+            19 => self.say("clear 1"),
+            20 => self.say_one_of(&UNKNOWN),
+            21 => self.say_one_of(&LATER),
+            22 => self.say_one_of(&EDGES),
+            _ => self.say_one_of(&["", "# a remark", "#draw 1"]),
+        }
+    }
+
+    fn say_one_of(&mut self, lines: &[&str]) {
+        let line = self.random.pick(lines);
+        self.say(line);
+    }
+
+    /// A text of any kind, drawn at once two times in three.
+    fn load(&mut self) {
+        let kinds = ["small", "small", "small", "medium", "vias", "vias", "tangled", "damaged", "damaged"];
+        let large = ["wide", "deep", "max"];
+        let kind = if self.random.once_in(50) { self.random.pick(&large) } else { self.random.pick(&kinds) };
+        let seed = self.random.next();
+        let line = format!("load 1 strict {}", escaped(&generate(kind, seed).unwrap_or_default()));
+        if line.len() <= MOST_IN_LOAD {
+            self.say(&line);
+            self.repairs.clear();
+        }
+        if !self.random.once_in(3) {
+            self.say("draw 1");
+        }
+    }
+
+    /// One of the calls that show whether a sheet is as it should be.
+    fn ask(&mut self) {
+        match self.random.below(5) {
+            0 => self.say("draw 1"),
+            1 => self.say("lines 1"),
+            2 => self.say("marks 1"),
+            3 => self.line(),
+            _ => self.mark(),
+        }
+    }
+
+    /// A line, at times with a buffer that just holds it or just not.
+    fn line(&mut self) {
+        let lines = self.run.sheet.lines().unwrap_or_default();
+        let n = self.number_below(lines.len());
+        let length = lines.get(n).map_or(20, Vec::len);
+        let room = match self.random.below(8) {
+            0 => length,
+            1 => length - 1,
+            2 => length + 1,
+            3 => self.random.pick(&[0, 1, 5, 1_421]),
+            _ => return self.say(&format!("line 1 {n}")),
+        };
+        self.say(&format!("line 1 {n} {room}"));
+    }
+
+    fn mark(&mut self) {
+        let n = self.number_below(self.run.sheet.marks().unwrap_or_default().len());
+        self.say(&format!("mark 1 {n}"));
+    }
+
+    /// A number that one of so many items has, or the next, or seldom any.
+    fn number_below(&mut self, count: usize) -> usize {
+        if self.random.once_in(8) {
+            self.random.pick(&[0, 1, 7, 3_000, usize::MAX])
+        } else {
+            self.random.below(count + 1)
+        }
+    }
+
+    fn place_run(&mut self) {
+        let line = run_line::line(&Request::any(&mut self.random));
+        if line.len() <= MOST_IN_REQUEST {
+            self.say(&line);
+        }
+    }
+
+    /// Damage, small or large, or the repair of all damage that was done; then the sheet is asked.
+    fn poke(&mut self) {
+        if self.run.sheet.stage == Stage::Empty && self.repairs.is_empty() {
+            self.load();
+        }
+        if !self.repairs.is_empty() && self.random.once_in(2) {
+            while let Some(repair) = self.repairs.pop() {
+                self.say(&repair);
+            }
+        } else {
+            for _ in 0..self.random.pick(&[1, 1, 1, 2, 5]) {
+                self.damage();
+            }
+        }
+        for _ in 0..self.random.below(3) {
+            self.ask();
+        }
+    }
+
+    fn damage(&mut self) {
+        for Damage { poke, repair } in pokes::damage(&mut self.random, &self.run.sheet) {
+            self.say(&poke);
+            self.repairs.push(repair);
+        }
+    }
+}
+
+#[cfg(test)]
+mod tests {
+    use super::*;
+    use crate::script;
+
+    #[test]
+    fn lines_that_are_no_commands() {
+        for line in UNKNOWN.iter().chain(&LATER) {
+            assert_eq!(Script::new().answers(line.as_bytes()), ["unknown"], "{line}");
+        }
+    }
+
+    #[test]
+    fn commands_at_the_edges_of_the_form() {
+        for line in EDGES {
+            assert_ne!(Script::new().answers(line.as_bytes()), ["unknown"], "{line}");
+        }
+    }
+
+    #[test]
+    fn damage_is_repaired() {
+        for seed in 0..300 {
+            let random = &mut Random::new("damage", seed);
+            let mut run = Script::new();
+            run.sheet.load(&generate("vias", seed).expect("a kind")).expect("an acceptable plan");
+            run.sheet.draw().expect("a plan");
+            let before = run.sheet.clone();
+            let damage = pokes::damage(random, &run.sheet);
+            for Damage { poke, .. } in &damage {
+                assert_eq!(run.answers(poke.as_bytes()), ["ok"], "{poke}");
+            }
+            for Damage { repair, .. } in damage.iter().rev() {
+                assert_eq!(run.answers(repair.as_bytes()), ["ok"], "{repair}");
+            }
+            assert!(run.sheet == before, "{seed}");
+        }
+    }
+
+    #[test]
+    fn scripts_meet_every_answer() {
+        let answers = script::answers(scripts(300, 0).as_bytes());
+        let answers = String::from_utf8(answers).expect("ASCII");
+        for number in [1, 2, 3, 4, 5, 6, 7, 8, 11, 12, 13, 14] {
+            let refused = format!("refused {number}");
+            assert!(answers.lines().any(|line| line == refused), "{number}");
+        }
+        for start in ["ok", "unknown", "ok empty", "ok loaded ", "ok drawn ", "ok box ", "ok bend ", "ok line "] {
+            assert!(answers.lines().any(|line| line.starts_with(start)), "{start}");
+        }
+    }
+}
