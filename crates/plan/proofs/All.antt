@@ -21,7 +21,7 @@ pub data All {A : Type 0} (Q : A → Type 0) : List A → Type 0 where
   all-nil : All Q []
   all-cons : {x : A} {xs : List A} → Q x → All Q xs → All Q (x ∷ xs)
 
--- the same membership, as crate plan writes it
+-- the same membership, as `Sound` writes it
 pub member : {A : Type 0} {x : A} {xs : List A} → List·Memᴰ x xs → Mem x xs
 member (List·Memᴰ·head e) = inl e
 member (List·Memᴰ·tail m) = inr (member m)

@@ -1,3 +1,3 @@
-// See specs/ and proofs/.
+// Checks 3 to 6 in their order; the level and the height of every vertex.
 pub mod checks;
 pub mod levels;

@@ -1,2 +1,2 @@
-// Checks 5 and 6: see src/vias.rt.
+// Checks 5 and 6: the segments of vias.
 pub mod vias;

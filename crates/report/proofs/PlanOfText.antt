@@ -4,15 +4,15 @@ use mathlib.Core.Bool.{true}
 use mathlib.Core.List.{List}
 use mathlib.Core.Logic.{_↔_}
 use Prim.Native.Nat.{ℕ}
+use Rattle.ints.proofs.Tests.{test}
 use Rattle.plan.specs.Plan.{PlanData}
 use Rattle.plan.specs.Acceptable.{acceptable}
-use Rattle.ints.proofs.Tests.{test}
 use Rattle.text.specs.Reading.{Reading, accepted, refused, reading}
 use Rattle.text.specs.Writing.{textOf}
-use Rattle.report.specs.Refusal13.{readsAs, isPlanOfText}
 use Rattle.text.proofs.Words.{never}
-use Rattle.report.proofs.SameData.{data-equal, data-same}
 use Rattle.text.proofs.RoundTrip.{read-written, read-acceptable}
+use Rattle.report.specs.Refusal13.{readsAs, isPlanOfText}
+use Rattle.report.proofs.SameData.{data-equal, data-same}
 
 reads-as : (p : PlanData) (r : Reading) → readsAs r p ≡ true → r ≡ accepted p
 reads-as p (accepted q) e = ap accepted (data-equal q p e)

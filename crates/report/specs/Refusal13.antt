@@ -5,15 +5,15 @@ use mathlib.Core.Bool.{Bool, true, false, cond, _&&_}
 use mathlib.Core.List.{List, [], _∷_, map}
 use Prim.Native.Nat.{ℕ}
 use lib.Dec.{eqb, leb}
+use lib.ListN.{length, take}
 use Rattle.ints.specs.Lists.{sum}
 use Rattle.plan.specs.Plan.{PlanData}
-use Rattle.text.specs.Reading.{Reading, accepted, refused, reading}
-use Rattle.text.specs.Writing.{textOf}
-use lib.ListN.{length, take}
 use Rattle.plan.specs.Limits.{maxVertices, maxSegments, within}
 use Rattle.plan.specs.Stored.{planData}
 use Rattle.plan.specs.declared.data.Plan.{Plan}
 use Rattle.plan.specs.Checks.{every, any}
+use Rattle.text.specs.Reading.{Reading, accepted, refused, reading}
+use Rattle.text.specs.Writing.{textOf}
 use Rattle.passes.specs.Runs.{Run, runsOf}
 use Rattle.passes.specs.Drawing.{BoxAt, Placing, Drawing}
 use Rattle.passes.specs.Words.{drawingWithin, maxListed}

@@ -3,13 +3,13 @@ use mathlib.Core.Path.{_≡_, sym, _∙_}
 use mathlib.Core.Bool.{true}
 use mathlib.Core.List.{[], _∷_}
 use Prim.Native.Nat.{ℕ}
-use borrow.Author.Tests.{leb-true}
 use lib.Dec.{leb}
+use borrow.Author.Tests.{leb-true}
+use Rattle.ints.proofs.Tests.{conj-at, test}
 use Rattle.plan.specs.Limits.{maxVertices, maxSegments}
 use Rattle.plan.specs.Stored.{planData}
 use Rattle.plan.specs.Acceptable.{acceptable}
 use Rattle.plan.specs.declared.data.Plan.{Plan}
-use Rattle.ints.proofs.Tests.{conj-at, test}
 use Rattle.plan.proofs.Sound.{sound}
 use Rattle.report.specs.Refusal13.{isPlanOfText, isStoredPlan}
 use Rattle.report.proofs.PlanOfText.{plan-of-text}

@@ -1,4 +1,4 @@
-// Refusal 13, of a drawing.
+// Refusal 13, of a plan and of a drawing.
 pub mod decision;
 pub mod drawing;
 pub mod placings;

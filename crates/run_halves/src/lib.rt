@@ -1,3 +1,3 @@
-// Placing a run by halves.
+// Placing a run by halves, and where two halves meet.
 pub mod halves;
 pub mod meet;

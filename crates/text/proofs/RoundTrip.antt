@@ -1,6 +1,5 @@
--- Which plans are those of a text. The text of an acceptable plan reads as the plan, a plan that was read is acceptable, and
--- its text is the text that was read, byte for byte. So a plan is that of some text exactly if it is acceptable, which is
--- decided over its data alone.
+-- Reading and writing are inverse: the text of an acceptable plan reads as the plan, a plan that was read is acceptable, and its
+-- text is the text that was read, byte for byte. Assumes nothing.
 use mathlib.Core.Path.{_≡_, refl, sym, _∙_, ap}
 use mathlib.Core.Bool.{Bool, true, false, cond}
 use mathlib.Core.List.{List, [], _∷_}
@@ -113,5 +112,3 @@ read-acceptable s p e =
     let a = accepted-of s p e in
     let within = stored-limits (a .lines) (form-writes s (a .lines) (a .form) .1) (check2-of (a .lines) (a .two)) in
     acceptable-holds p (record { limits = rw (a .stores) at within; three = a .three; four = a .four; five = a .five; six = a .six })
-
--- ---- refusal 13

@@ -1,4 +1,4 @@
-// A plan's text: which plans are those of a text, and the text written again.
+// A plan's text: its numbers, its lines, and a text written again.
 pub mod again;
 pub mod lines;
 pub mod number;

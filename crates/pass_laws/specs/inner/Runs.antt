@@ -4,10 +4,10 @@ use mathlib.Core.Bool.{true, false, cond}
 use mathlib.Core.Option.{Option, none, some}
 use Prim.Native.Nat.{ℕ, zero, suc, _+_, _-_, _≤_, _<_}
 use lib.ListN.{length}
-use Rattle.plan.specs.Plan.{PlanData, isVia, numbers}
 use Rattle.ints.specs.Lists.{sum}
-use Rattle.passes.specs.Runs.{Run, runsOn, runAt}
+use Rattle.plan.specs.Plan.{PlanData, isVia, numbers}
 use Rattle.plan.specs.inner.Levels.{firstOn, sizeOn}
+use Rattle.passes.specs.Runs.{Run, runsOn, runAt}
 
 -- the n vertices from v on are boxes
 abbrev pub Boxes : PlanData → ℕ → ℕ → Type 0

@@ -2,10 +2,10 @@
 use mathlib.Core.List.{List, [], _∷_, _++_, map, reverse}
 use Prim.Native.Nat.{ℕ, _+_}
 use Rattle.plan.specs.Plan.{PlanData, numbers}
+use Rattle.preliminary.specs.Positions.{preliminary}
 use Rattle.passes.specs.Runs.{Run, runsOn}
 use Rattle.passes.specs.State.{State, startAt}
 use Rattle.passes.specs.Passes.{visit, pass}
-use Rattle.preliminary.specs.Positions.{preliminary}
 
 pub record Visit : Type 0 where
   pub pass : ℕ

@@ -1,8 +1,8 @@
 -- Levels as stretches of vertex numbers: level l begins at vertex `firstOn` and has `sizeOn` vertices.
 use Prim.Native.Nat.{ℕ, _+_, _-_, _≤_, _<_}
 use lib.ListN.{length, getD, take}
-use Rattle.plan.specs.Plan.{PlanData, levelOf}
 use Rattle.ints.specs.Lists.{sum}
+use Rattle.plan.specs.Plan.{PlanData, levelOf}
 
 unfoldable pub firstOn : PlanData → ℕ → ℕ
 firstOn p l = sum (take (l - 1) (p .sizes))

@@ -1,4 +1,4 @@
--- `begins_with` is safe and ends: what is left of the text falls.
+-- `report_vectors::begins_with` is safe and ends: what is left of the text falls.
 use mathlib.Core.Path.{_≡_}
 use Prim.Native.Nat.{_-_, _≤_}
 use lib.ListN.{length}

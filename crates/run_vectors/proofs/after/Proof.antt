@@ -1,4 +1,4 @@
--- `after` is safe and ends: what is left of n falls.
+-- `run_vectors::after` is safe and ends: what is left of n falls.
 use borrow.Author.Needs.{needs}
 use Prim.Native.Nat.{_-_}
 use Rattle.run_vectors.proofs.after.Statement.{statement}

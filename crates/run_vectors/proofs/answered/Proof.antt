@@ -1,4 +1,4 @@
--- `answered` is safe, and each lent slice keeps its length.
+-- `run_vectors::answered` is safe, and each lent slice keeps its length.
 use borrow.Author.Needs.{needs}
 use Rattle.run_vectors.proofs.answered.Statement.{statement}
 use Rattle.run_vectors.proofs.answered.Tie as tie

@@ -1,4 +1,4 @@
--- `cut_and_answered` is safe: no cut is longer than what it is cut from.
+-- `run_vectors::cut_and_answered` is safe: no cut is longer than what it is cut from.
 use mathlib.Core.Path.{sym}
 use lib.Seq.{length-take-le}
 use borrow.Author.Needs.{needs}

@@ -1,4 +1,4 @@
--- `magnitude` is safe: of a negative x, -1 - x is not negative and fits an i64.
+-- `run_vectors::magnitude` is safe: of a negative x, -1 - x is not negative and fits an i64.
 use borrow.Author.Needs.{needs}
 use native.Mathlib.Omega.{arith}
 use mathlib.Core.Path.{_≡_}

@@ -1,4 +1,4 @@
--- `next` is safe and ends: what is left of the text falls.
+-- `run_vectors::next` is safe and ends: what is left of the text falls.
 use Prim.Native.Nat.{_-_}
 use lib.ListN.{length}
 use borrow.Author.Needs.{needs}

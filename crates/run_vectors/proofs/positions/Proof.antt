@@ -1,4 +1,4 @@
--- `positions` is safe and ends: out keeps its length, and what is left of it falls.
+-- `run_vectors::positions` is safe and ends: out keeps its length, and what is left of it falls.
 use mathlib.Core.Path.{_≡_}
 use Prim.Native.Nat.{_-_}
 use lib.ListN.{length}

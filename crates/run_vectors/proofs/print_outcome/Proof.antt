@@ -1,4 +1,4 @@
--- `print_outcome` is safe and ends: what is left of the buffer falls.
+-- `run_vectors::print_outcome` is safe and ends: what is left of the buffer falls.
 use Prim.Native.Nat.{_≤_, _-_}
 use lib.ListN.{length}
 use borrow.Author.Needs.{needs}

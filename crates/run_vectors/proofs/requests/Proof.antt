@@ -1,4 +1,4 @@
--- `requests` is safe and ends: it stops where the position does not rise, so what is left of the text falls.
+-- `run_vectors::requests` is safe and ends: it stops where the position does not rise, so what is left of the text falls.
 use Prim.Native.Nat.{_-_}
 use lib.ListN.{length}
 use borrow.Author.Needs.{needs}

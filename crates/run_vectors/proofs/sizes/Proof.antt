@@ -1,4 +1,4 @@
--- `sizes` is safe and ends: out keeps its length, and what is left of it falls.
+-- `run_vectors::sizes` is safe and ends: out keeps its length, and what is left of it falls.
 use mathlib.Core.Path.{_≡_}
 use Prim.Native.Nat.{_-_}
 use lib.ListN.{length}

@@ -1,4 +1,4 @@
--- `reading::first_failed` meets its contract: where checks 1 and 2 hold, the parts lent are the text's data.
+-- `text_read::first_failed` meets its contract: where checks 1 and 2 hold, the parts lent are the text's data.
 use mathlib.Core.Bool.{Bool, true, false, cond}
 use mathlib.Core.Path.{_≡_, refl, sym}
 use Prim.Native.Nat.{ℕ}

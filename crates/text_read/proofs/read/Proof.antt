@@ -1,4 +1,4 @@
--- `reading::read` meets its contract: each way out is one of `reading`'s; `Verdict` says which check fails first.
+-- `text_read::read` meets its contract: each way out is one of `reading`'s; `Verdict` says which check fails first.
 use mathlib.Core.Path.{sym, _∙_, ap}
 use borrow.Author.Needs.{needs}
 use Rattle.text_read.specs.Answer.{answerOf}

@@ -1,4 +1,4 @@
--- `reading::refuse` meets its contract: by its definition.
+-- `text_read::refuse` meets its contract: by its definition.
 use borrow.Author.Needs.{needs}
 use Rattle.text_read.specs.Answer.{answerOf}
 use Rattle.text_read.proofs.refuse.Statement.{statement}

@@ -1,4 +1,4 @@
--- `marks::mark` meets its contract: the list has the height of each vertex.
+-- `marks::marks::mark` meets its contract: the list has the height of each vertex.
 use mathlib.Core.Path.{_≡_, sym, _∙_}
 use native.Mathlib.Omega.{arith}
 use lib.ListN.{length, length-append}

@@ -1,4 +1,4 @@
--- `marks::mark_at` meets its contract: by `vertex-is` and `segment-is` what the two kinds of mark are made of is the plan's.
+-- `marks::marks::mark_at` meets its contract: by `vertex-is` and `segment-is` what the two kinds of mark are made of is the plan's.
 use mathlib.Core.Path.{refl, sym}
 use Prim.Native.Nat.{_-_, _<_}
 use borrow.Author.Needs.{needs}

@@ -1,4 +1,4 @@
--- `marks::point_at` meets its contract: a position within ±2^40 reads back from its bits, and is taken.
+-- `marks::marks::point_at` meets its contract: a position within ±2^40 reads back from its bits, and is taken.
 use mathlib.Core.Path.{_≡_, _∙_}
 use borrow.Author.Needs.{needs}
 use native.Mathlib.Omega.{arith}

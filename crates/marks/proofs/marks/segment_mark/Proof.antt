@@ -1,4 +1,4 @@
--- `marks::segment_mark` meets its contract.
+-- `marks::marks::segment_mark` meets its contract.
 use mathlib.Core.Path.{refl}
 use borrow.Author.Needs.{needs}
 use Rattle.marks.proofs.marks.segment_mark.Statement.{statement}

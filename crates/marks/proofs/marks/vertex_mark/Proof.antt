@@ -1,4 +1,4 @@
--- `marks::vertex_mark` meets its contract.
+-- `marks::marks::vertex_mark` meets its contract.
 use borrow.Author.Needs.{needs}
 use Rattle.marks.specs.Half.{wholeOf}
 use Rattle.marks.proofs.marks.vertex_mark.Statement.{statement}

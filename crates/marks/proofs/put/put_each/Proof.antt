@@ -1,4 +1,4 @@
--- `put::put_each` meets its contract: at each turn the first n marks stand in the slice and the others are left.
+-- `marks::put::put_each` meets its contract: at each turn the first n marks stand in the slice and the others are left.
 use mathlib.Core.Path.{_≡_, refl, _∙_}
 use Prim.Native.Nat.{_+_, _-_, _≤_}
 use borrow.Author.Needs.{needs}

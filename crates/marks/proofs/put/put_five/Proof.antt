@@ -1,4 +1,4 @@
--- `put::put_five` meets its contract.
+-- `marks::put::put_five` meets its contract.
 use borrow.Author.Needs.{needs}
 use native.Mathlib.Omega.{arith}
 use lib.ListN.{length-set}

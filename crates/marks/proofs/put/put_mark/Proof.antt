@@ -1,4 +1,4 @@
--- `put::put_mark` meets its contract.
+-- `marks::put::put_mark` meets its contract.
 use mathlib.Core.Path.{_∙_}
 use borrow.Author.Needs.{needs}
 use Rattle.marks.specs.Marks.{fiveOf}

@@ -1,4 +1,4 @@
--- `put::put_marks` meets its contract: the list has the height of each vertex.
+-- `marks::put::put_marks` meets its contract: the list has the height of each vertex.
 use mathlib.Core.Path.{_≡_, sym, _∙_}
 use borrow.Author.Needs.{needs}
 use native.Mathlib.Omega.{arith}

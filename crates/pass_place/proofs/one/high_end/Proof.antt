@@ -1,4 +1,4 @@
--- `high_end` meets its contract: by the test.
+-- `pass_place::one::high_end` meets its contract: by the test.
 use borrow.Author.Needs.{needs}
 use borrow.Author.Tests.{lt-ltb, le-ltb}
 use Rattle.pass_place.proofs.one.high_end.Statement.{statement}

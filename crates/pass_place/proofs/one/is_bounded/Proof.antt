@@ -1,4 +1,4 @@
--- `is_bounded` meets its contract: by the first test.
+-- `pass_place::one::is_bounded` meets its contract: by the first test.
 use borrow.Author.Tests.{lt-ltb, le-ltb}
 use Rattle.pass_place.proofs.one.is_bounded.Statement.{statement}
 use Rattle.pass_place.proofs.one.is_bounded.Tie as tie

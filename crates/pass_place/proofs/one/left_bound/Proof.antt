@@ -1,4 +1,4 @@
--- `left_bound` meets its contract: by the test.
+-- `pass_place::one::left_bound` meets its contract: by the test.
 use borrow.Author.Needs.{needs}
 use mathlib.Core.Path.{ap}
 use Prim.Native.Nat.{_-_}

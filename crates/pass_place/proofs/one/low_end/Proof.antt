@@ -1,4 +1,4 @@
--- `low_end` meets its contract: by the test.
+-- `pass_place::one::low_end` meets its contract: by the test.
 use borrow.Author.Needs.{needs}
 use borrow.Author.Tests.{lt-ltb, le-ltb}
 use Rattle.pass_place.proofs.one.low_end.Statement.{statement}

@@ -1,4 +1,4 @@
--- `place_boxes` meets its contract, with either working space.
+-- `pass_place::one::place_boxes` meets its contract, with either working space.
 use borrow.Author.Needs.{needs}
 use native.Mathlib.Omega.{arith}
 use Rattle.pass_place.proofs.Rows.{row-order}

@@ -1,4 +1,4 @@
--- `place_many` meets its contract: a plan has no more segments than there is space for.
+-- `pass_place::one::place_many` meets its contract: a plan has no more segments than there is space for.
 use borrow.Author.Needs.{needs}
 use native.Mathlib.Omega.{arith}
 use Rattle.pass_place.proofs.one.place_many.Statement.{statement}

@@ -1,4 +1,4 @@
--- `place_near` meets its contract: counts and neighbours are those of the run that it asks for.
+-- `pass_place::one::place_near` meets its contract: counts and neighbours are those of the run that it asks for.
 use borrow.Author.Needs.{needs}
 use mathlib.Core.Path.{sym, _∙_, ap}
 use Prim.Native.Nat.{_-_}

@@ -1,4 +1,4 @@
--- `place_one` meets its contract: the working space is as long as the run.
+-- `pass_place::one::place_one` meets its contract: the working space is as long as the run.
 use borrow.Author.Needs.{needs}
 use mathlib.Core.Path.{sym}
 use lib.Seq.{length-take-le}

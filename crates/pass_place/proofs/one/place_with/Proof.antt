@@ -1,4 +1,4 @@
--- `place_with` meets its contract: the run that it asks for is that of the visit, and its outcome is written back.
+-- `pass_place::one::place_with` meets its contract: the run that it asks for is that of the visit, and its outcome is written back.
 use borrow.Author.Needs.{needs}
 use mathlib.Core.Path.{_≡_, sym, _∙_}
 use mathlib.Core.List.{[], _∷_, _++_}

@@ -1,4 +1,4 @@
--- `right_bound` meets its contract: by the test.
+-- `pass_place::one::right_bound` meets its contract: by the test.
 use borrow.Author.Needs.{needs}
 use mathlib.Core.Path.{ap}
 use borrow.Author.Tests.{lt-ltb, le-ltb}

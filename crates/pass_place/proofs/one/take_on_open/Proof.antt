@@ -1,4 +1,4 @@
--- `take_on_open` meets its contract: a bounded run keeps its distances, an open one takes on those of its members.
+-- `pass_place::one::take_on_open` meets its contract: a bounded run keeps its distances, an open one takes on those of its members.
 use borrow.Author.Needs.{needs}
 use mathlib.Core.Path.{sym, _∙_}
 use Rattle.pass_place.proofs.one.take_on_open.Statement.{statement}

@@ -1,4 +1,4 @@
--- `call::place_run` meets its contract: a run that is not taken leaves the answer as it was; one that is taken has r old
+-- `place_run::call::place_run` meets its contract: a run that is not taken leaves the answer as it was; one that is taken has r old
 -- positions, is what `place` requires, and has there what `place` puts there.
 use mathlib.Core.Path.{_≡_, refl, sym, ap, _∙_}
 use mathlib.Core.Bool.{true}

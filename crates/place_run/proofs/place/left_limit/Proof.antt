@@ -1,4 +1,4 @@
--- `left_limit` meets its contract: by the cases of the bound.
+-- `place_run::place::left_limit` meets its contract: by the cases of the bound.
 use borrow.Author.Needs.{needs}
 use mathlib.Core.Path.{sym, _∙_, ap, subst}
 use native.Mathlib.Omega.{arith}

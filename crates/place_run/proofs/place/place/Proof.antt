@@ -1,4 +1,4 @@
--- `place` meets its contract: a run that is taken fits what placing between limits asks, and that gives the definition's outcome.
+-- `place_run::place::place` meets its contract: a run that is taken fits what placing between limits asks, and that gives the definition's outcome.
 use borrow.Author.Needs.{needs}
 use mathlib.Core.Path.{_≡_, sym, _∙_, ap}
 use native.Mathlib.Omega.{arith}

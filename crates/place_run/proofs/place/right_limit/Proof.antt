@@ -1,4 +1,4 @@
--- `right_limit` meets its contract: by the cases of the bound.
+-- `place_run::place::right_limit` meets its contract: by the cases of the bound.
 use borrow.Author.Needs.{needs}
 use mathlib.Core.Path.{sym, _∙_, ap, subst}
 use native.Mathlib.Omega.{arith}

@@ -1,4 +1,4 @@
--- `in_range` meets its contract: the two tests are those of `within`.
+-- `plan::numbers::in_range` meets its contract: the two tests are those of `within`.
 use borrow.Author.Tests.{le-leb, lt-leb}
 use Rattle.plan.proofs.numbers.in_range.Statement.{statement}
 use Rattle.plan.proofs.numbers.in_range.Tie as tie

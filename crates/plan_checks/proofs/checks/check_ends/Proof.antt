@@ -1,4 +1,4 @@
--- `plan::checks::check_ends` meets its contract: whether every segment goes one level down is whether those from the i-th on do.
+-- `plan_checks::checks::check_ends` meets its contract: whether every segment goes one level down is whether those from the i-th on do.
 use Prim.Native.Nat.{_≤_, _-_}
 use mathlib.Core.Path.{_≡_, refl, sym, _∙_}
 use borrow.Author.Needs.{needs}

@@ -1,4 +1,4 @@
--- `plan::checks::check_levels` meets its contract: the part of the working array that is lent is as long as the vertices, and
+-- `plan_checks::checks::check_levels` meets its contract: the part of the working array that is lent is as long as the vertices, and
 -- is written whole.
 use mathlib.Core.Path.{_≡_, sym, _∙_}
 use borrow.Author.Needs.{needs}

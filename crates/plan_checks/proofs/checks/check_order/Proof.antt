@@ -1,4 +1,4 @@
--- `plan::checks::check_order` meets its contract: whether the segments rise is whether those from the i-th on rise.
+-- `plan_checks::checks::check_order` meets its contract: whether the segments rise is whether those from the i-th on rise.
 use Prim.Native.Nat.{_≤_, _-_}
 use mathlib.Core.Path.{_≡_, refl, sym, _∙_}
 use borrow.Author.Needs.{needs}

@@ -1,4 +1,4 @@
--- `plan::checks::check_plan` meets its contract: two by two, the tests are those of `firstFailed`, and check 3 makes every end
+-- `plan_checks::checks::check_plan` meets its contract: two by two, the tests are those of `firstFailed`, and check 3 makes every end
 -- a vertex, which checks 5 and 6 ask for.
 use mathlib.Core.Bool.{true, cond}
 use mathlib.Core.Path.{_≡_}

@@ -1,4 +1,4 @@
--- `plan::checks::comes_before` meets its contract: its tests are those of `comesBefore`.
+-- `plan_checks::checks::comes_before` meets its contract: its tests are those of `comesBefore`.
 use borrow.Author.Tests.{lt-ltb, le-ltb, eq-eqb, ne-eqb}
 use Rattle.plan_checks.proofs.checks.comes_before.Statement.{statement}
 use Rattle.plan_checks.proofs.checks.comes_before.Tie as tie

@@ -1,4 +1,4 @@
--- `plan::checks::first_of` meets its contract: its tests are those of the `cond`s.
+-- `plan_checks::checks::first_of` meets its contract: its tests are those of the `cond`s.
 use borrow.Author.Tests.{not-true, not-false}
 use Rattle.plan_checks.proofs.checks.first_of.Statement.{statement}
 use Rattle.plan_checks.proofs.checks.first_of.Tie as tie

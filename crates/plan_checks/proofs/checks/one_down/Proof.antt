@@ -1,4 +1,4 @@
--- `plan::checks::one_down` meets its contract: its tests are those of `oneDown`.
+-- `plan_checks::checks::one_down` meets its contract: its tests are those of `oneDown`.
 use borrow.Author.Needs.{needs}
 use borrow.Author.Tests.{lt-ltb, le-ltb}
 use native.Mathlib.Omega.{arith}

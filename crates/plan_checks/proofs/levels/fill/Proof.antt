@@ -1,4 +1,4 @@
--- `plan::levels::fill` meets its contract: what is left to fill is the same at every turn.
+-- `plan_checks::levels::fill` meets its contract: what is left to fill is the same at every turn.
 use Prim.Native.Nat.{_+_, _-_}
 use mathlib.Core.Path.{_≡_, sym, _∙_}
 use borrow.Author.Needs.{needs}

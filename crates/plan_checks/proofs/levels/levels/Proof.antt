@@ -1,4 +1,4 @@
--- `plan::levels::levels` meets its contract: by `Walked`, at each turn the vertices up to `from` have their level, and the
+-- `plan_checks::levels::levels` meets its contract: by `Walked`, at each turn the vertices up to `from` have their level, and the
 -- others stand on the levels below the i-th.
 use Prim.Native.Nat.{_≤_, _-_, _+_, min}
 use mathlib.Core.Path.{_≡_, refl, _∙_, ap}

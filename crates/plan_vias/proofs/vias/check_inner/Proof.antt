@@ -1,4 +1,4 @@
--- `plan::checks::check_inner` meets its contract: whether the lower ends of the inner segments rise is whether those from the
+-- `plan_vias::vias::check_inner` meets its contract: whether the lower ends of the inner segments rise is whether those from the
 -- i-th segment on rise from the last one's; and that is check 6 (Crossings.antt).
 use Prim.Native.Nat.{ℕ, _+_, _≤_, _-_}
 use mathlib.Core.Bool.{true}

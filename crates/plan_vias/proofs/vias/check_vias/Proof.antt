@@ -1,4 +1,4 @@
--- `plan::checks::check_vias` meets its contract: the counts are the numbers of a vertex's segments, and whether every via is
+-- `plan_vias::vias::check_vias` meets its contract: the counts are the numbers of a vertex's segments, and whether every via is
 -- passed through is whether those from v on are.
 use Prim.Native.Nat.{_≤_, _-_, _+_}
 use mathlib.Core.Path.{_≡_, sym, _∙_}

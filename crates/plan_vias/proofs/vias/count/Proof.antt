@@ -1,4 +1,4 @@
--- `plan::checks::count` meets its contract: by `Counting`, each count and what is still ahead make the whole.
+-- `plan_vias::vias::count` meets its contract: by `Counting`, each count and what is still ahead make the whole.
 use Prim.Native.Nat.{_<_, _≤_, _-_}
 use mathlib.Core.Path.{_≡_, refl}
 use borrow.Author.Needs.{needs}

@@ -1,4 +1,4 @@
--- `plan::checks::is_inner` meets its contract: its tests are those of the contract.
+-- `plan_vias::vias::is_inner` meets its contract: its tests are those of the contract.
 use borrow.Author.Needs.{needs}
 use Rattle.plan_vias.proofs.vias.is_inner.Statement.{statement}
 use Rattle.plan_vias.proofs.vias.is_inner.Tie as tie

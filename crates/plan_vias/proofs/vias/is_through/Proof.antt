@@ -1,4 +1,4 @@
--- `plan::checks::is_through` meets its contract: its tests are those of `through`.
+-- `plan_vias::vias::is_through` meets its contract: its tests are those of `through`.
 use borrow.Author.Tests.{eq-eqb, ne-eqb}
 use Rattle.plan_vias.proofs.vias.is_through.Statement.{statement}
 use Rattle.plan_vias.proofs.vias.is_through.Tie as tie

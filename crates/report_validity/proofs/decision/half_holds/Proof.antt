@@ -1,4 +1,4 @@
--- `half_holds` meets its contract: the tests are those of `halfHolds`.
+-- `report_validity::decision::half_holds` meets its contract: the tests are those of `halfHolds`.
 use borrow.Author.Needs.{needs}
 use borrow.Author.Tests.{le-leb, lt-leb}
 use Rattle.report_validity.proofs.decision.half_holds.Statement.{statement}

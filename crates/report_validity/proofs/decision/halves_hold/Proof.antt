@@ -1,4 +1,4 @@
--- `halves_hold` meets its contract: whether the half-widths hold is whether those from v on do.
+-- `report_validity::decision::halves_hold` meets its contract: whether the half-widths hold is whether those from v on do.
 use Rattle.report_validity.proofs.AllHold.{halves-on, halves-stop, halves-end, halves-apart}
 use Rattle.plan.specs.Acceptable.{halvesHold}
 use lib.ListN.{length, drop}

@@ -1,4 +1,4 @@
--- `is_acceptable` meets its contract: data are acceptable if they are within the limits and no check fails.
+-- `report_validity::decision::is_acceptable` meets its contract: data are acceptable if they are within the limits and no check fails.
 use Rattle.report_validity.proofs.Limits.{accept-not, accept-first}
 use Rattle.plan.proofs.LimitLaws.{limits}
 use borrow.Author.Tests.{not-true, not-false}

@@ -1,4 +1,4 @@
--- `is_plan_of_text` meets its contract: counts over the arrays' lengths are no text's plan; else the parts lent are the plan's data.
+-- `report_validity::decision::is_plan_of_text` meets its contract: counts over the arrays' lengths are no text's plan; else the parts lent are the plan's data.
 use lib.Seq.{length-take-le}
 use lib.ListN.{length}
 use Rattle.plan.specs.Limits.{maxLevels, maxVertices, maxSegments}

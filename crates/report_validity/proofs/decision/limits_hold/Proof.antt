@@ -1,4 +1,4 @@
--- `limits_hold` meets its contract: each test is one of `limitsHold`, and fails with it.
+-- `report_validity::decision::limits_hold` meets its contract: each test is one of `limitsHold`, and fails with it.
 use Rattle.report_validity.proofs.Limits.{few-levels, limits-not, limits-last, limits-many}
 use Rattle.ints.proofs.Tests.{_and_}
 use Rattle.text.proofs.Words.{never}

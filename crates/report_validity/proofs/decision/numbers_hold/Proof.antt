@@ -1,4 +1,4 @@
--- `numbers_hold` meets its contract: its three tests are those of the limits.
+-- `report_validity::decision::numbers_hold` meets its contract: its three tests are those of the limits.
 use borrow.Author.Tests.{not-true, not-false}
 use mathlib.Core.Path.{sym, _∙_}
 use borrow.Author.Needs.{needs}

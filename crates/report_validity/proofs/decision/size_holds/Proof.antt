@@ -1,4 +1,4 @@
--- `size_holds` meets its contract: the two tests are those of `within`.
+-- `report_validity::decision::size_holds` meets its contract: the two tests are those of `within`.
 use borrow.Author.Needs.{needs}
 use borrow.Author.Tests.{le-leb, lt-leb}
 use Rattle.report_validity.proofs.decision.size_holds.Statement.{statement}

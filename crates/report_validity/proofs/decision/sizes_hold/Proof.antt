@@ -1,4 +1,4 @@
--- `sizes_hold` meets its contract: whether every size holds is whether those from i on do.
+-- `report_validity::decision::sizes_hold` meets its contract: whether every size holds is whether those from i on do.
 use Rattle.report_validity.proofs.AllHold.{all-on, all-stop, all-end}
 use Rattle.plan.specs.Checks.{every}
 use Rattle.plan.specs.Limits.{within, maxOnLevel}

@@ -1,4 +1,4 @@
--- `count_up_to` meets its contract: the count lies between `lo` and `hi`, and each look at an entry halves what is between them.
+-- `run_columns::count::count_up_to` meets its contract: the count lies between `lo` and `hi`, and each look at an entry halves what is between them.
 use native.Mathlib.Omega.{arith}
 use Prim.Native.Nat.{_+_, _-_, _/_, _≤_}
 use lib.ListN.{length, getD}

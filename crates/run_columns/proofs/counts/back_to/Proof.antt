@@ -1,4 +1,4 @@
--- `back_to` meets its contract: where p is right of m nothing is asked; where it is not, at most their distance is given.
+-- `run_columns::counts::back_to` meets its contract: where p is right of m nothing is asked; where it is not, at most their distance is given.
 use borrow.Author.Needs.{needs}
 use mathlib.Core.Path.{_≡_}
 use native.Mathlib.Omega.{arith}

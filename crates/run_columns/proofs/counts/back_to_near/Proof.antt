@@ -1,4 +1,4 @@
--- `back_to_near` meets its contract: it is `back_to` the last of the first n.
+-- `run_columns::counts::back_to_near` meets its contract: it is `back_to` the last of the first n.
 use borrow.Author.Needs.{needs}
 use mathlib.Core.Path.{_≡_}
 use native.Mathlib.Omega.{arith}

@@ -1,4 +1,4 @@
--- `count_box` meets its contract: its test is the definition's, neighbours less the offset that are at most m are those that are
+-- `run_columns::counts::count_box` meets its contract: its test is the definition's, neighbours less the offset that are at most m are those that are
 -- at most m plus the offset, and up to the nearest positions on both sides nothing of that changes.
 use borrow.Author.Needs.{needs}
 use mathlib.Core.Path.{_≡_, sym, _∙_, ap}

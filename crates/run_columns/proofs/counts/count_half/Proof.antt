@@ -1,4 +1,4 @@
--- `count_half` meets its contract: after i boxes, with `at` neighbours, what is counted and what the rest holds make up the whole.
+-- `run_columns::counts::count_half` meets its contract: after i boxes, with `at` neighbours, what is counted and what the rest holds make up the whole.
 use borrow.Author.Needs.{needs}
 use native.Mathlib.Omega.{arith}
 use mathlib.Core.Path.{_≡_, refl, sym, _∙_}

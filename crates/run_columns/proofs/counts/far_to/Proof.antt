@@ -1,4 +1,4 @@
--- `far_to` meets its contract: where p is right of m at most their distance is given, and that is above 0.
+-- `run_columns::counts::far_to` meets its contract: where p is right of m at most their distance is given, and that is above 0.
 use borrow.Author.Needs.{needs}
 use mathlib.Core.Path.{_≡_}
 use native.Mathlib.Omega.{arith}

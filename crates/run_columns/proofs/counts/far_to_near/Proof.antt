@@ -1,4 +1,4 @@
--- `far_to_near` meets its contract: it is `far_to` the first after the first n.
+-- `run_columns::counts::far_to_near` meets its contract: it is `far_to` the first after the first n.
 use borrow.Author.Needs.{needs}
 use mathlib.Core.Path.{_≡_}
 use native.Mathlib.Omega.{arith}

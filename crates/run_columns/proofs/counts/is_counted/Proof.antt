@@ -1,4 +1,4 @@
--- `is_counted` meets its contract: at or left of m is not right of m.
+-- `run_columns::counts::is_counted` meets its contract: at or left of m is not right of m.
 use mathlib.Core.Path.{_≡_}
 use mathlib.Core.Bool.{not}
 use lib.IntN.{ℤ}

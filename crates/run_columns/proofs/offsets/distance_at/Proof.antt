@@ -1,4 +1,4 @@
--- `distance_at` meets its contract: past the end the definition reads 0.
+-- `run_columns::offsets::distance_at` meets its contract: past the end the definition reads 0.
 use mathlib.Core.Path.{sym}
 use lib.ListN.{List·getD-eq-default}
 use borrow.Author.Needs.{needs}

@@ -1,4 +1,4 @@
--- `fill_offsets` meets its contract: what is written and what is left to write make up the outcome.
+-- `run_columns::offsets::fill_offsets` meets its contract: what is written and what is left to write make up the outcome.
 use borrow.Author.Needs.{needs}
 use mathlib.Core.Path.{_≡_, refl}
 use mathlib.Core.List.{_++_}

@@ -1,4 +1,4 @@
--- `plus_offsets` meets its contract: what is written and what is left to write make up the outcome.
+-- `run_columns::offsets::plus_offsets` meets its contract: what is written and what is left to write make up the outcome.
 use mathlib.Core.Path.{_≡_, refl}
 use mathlib.Core.List.{_++_}
 use native.Mathlib.Omega.{arith}

@@ -1,4 +1,4 @@
--- `lowered` meets its contract: by the cases of the bound.
+-- `run_halves::halves::lowered` meets its contract: by the cases of the bound.
 use borrow.Author.Needs.{needs}
 use mathlib.Core.Path.{sym, _∙_, ap}
 use Rattle.ints.proofs.Laws.{back, back′}

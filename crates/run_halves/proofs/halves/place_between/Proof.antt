@@ -1,4 +1,4 @@
--- `place_between` meets its contract: its steps are those of the definition, on columns.
+-- `run_halves::halves::place_between` meets its contract: its steps are those of the definition, on columns.
 use borrow.Author.Needs.{needs}
 use mathlib.Core.Path.{_≡_, sym, _∙_, ap}
 use lib.ListN.{length}

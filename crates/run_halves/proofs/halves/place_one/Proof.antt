@@ -1,4 +1,4 @@
--- `place_one` meets its contract: it is the steps of the definition, and taking the offset off first or last is the same.
+-- `run_halves::halves::place_one` meets its contract: it is the steps of the definition, and taking the offset off first or last is the same.
 use borrow.Author.Needs.{needs}
 use mathlib.Core.Path.{_≡_, sym, _∙_, ap}
 use native.Mathlib.Omega.{arith}

@@ -1,4 +1,4 @@
--- `start` meets its contract: of s neighbours, the one at ⌊(s − 1)/2⌋ is the ⌈s/2⌉-th.
+-- `run_halves::halves::start` meets its contract: of s neighbours, the one at ⌊(s − 1)/2⌋ is the ⌈s/2⌉-th.
 use borrow.Author.Needs.{needs}
 use mathlib.Core.Path.{_≡_, refl, _∙_, sym}
 use native.Mathlib.Omega.{arith}

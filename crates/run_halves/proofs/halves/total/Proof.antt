@@ -1,4 +1,4 @@
--- `total` meets its contract: what is summed and what is left make up the sum.
+-- `run_halves::halves::total` meets its contract: what is summed and what is left make up the sum.
 use borrow.Author.Needs.{needs}
 use mathlib.Core.Path.{_≡_}
 use native.Mathlib.Omega.{arith}

@@ -1,4 +1,4 @@
--- `cut` meets its contract: the boxes before i are cut at m, the others as they were.
+-- `run_halves::meet::cut` meets its contract: the boxes before i are cut at m, the others as they were.
 use borrow.Author.Needs.{needs}
 use mathlib.Core.Path.{_≡_, _∙_}
 use mathlib.Core.List.{_++_, map}

@@ -1,4 +1,4 @@
--- `join` meets its contract: where the halves overlap, the first part is cut and then the second raised at their meeting place.
+-- `run_halves::meet::join` meets its contract: where the halves overlap, the first part is cut and then the second raised at their meeting place.
 use borrow.Author.Needs.{needs}
 use mathlib.Core.Path.{_≡_}
 use native.Mathlib.Omega.{arith}

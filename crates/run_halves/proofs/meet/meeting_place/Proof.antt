@@ -1,4 +1,4 @@
--- `meeting_place` meets its contract: before what is still to be searched the test fails, at its end it holds, and each test takes
+-- `run_halves::meet::meeting_place` meets its contract: before what is still to be searched the test fails, at its end it holds, and each test takes
 -- away half of it and the places beside the middle at which the test has the same outcome.
 use borrow.Author.Needs.{needs}
 use mathlib.Core.Path.{_≡_, _∙_}

@@ -1,4 +1,4 @@
--- `more_up_to` meets its contract: it counts the two halves' columns, which are those of a cut.
+-- `run_halves::meet::more_up_to` meets its contract: it counts the two halves' columns, which are those of a cut.
 use borrow.Author.Needs.{needs}
 use mathlib.Core.Path.{_≡_, _∙_}
 use mathlib.Core.Bool.{true, false}

@@ -1,4 +1,4 @@
--- `raise` meets its contract: the boxes before i are raised to m, the others as they were.
+-- `run_halves::meet::raise` meets its contract: the boxes before i are raised to m, the others as they were.
 use borrow.Author.Needs.{needs}
 use mathlib.Core.Path.{_≡_, _∙_}
 use mathlib.Core.List.{_++_, map}

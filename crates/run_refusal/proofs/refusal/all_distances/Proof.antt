@@ -1,4 +1,4 @@
--- `refusal::all_distances` meets its contract: whether all are distances is whether those from the i-th on are.
+-- `run_refusal::refusal::all_distances` meets its contract: whether all are distances is whether those from the i-th on are.
 use Prim.Native.Nat.{_≤_, _-_}
 use mathlib.Core.Path.{_≡_, refl, sym, _∙_}
 use native.Mathlib.Omega.{arith}

@@ -1,4 +1,4 @@
--- `refusal::bound_within` meets its contract: a free side has no position, a bound the one that is tested.
+-- `run_refusal::refusal::bound_within` meets its contract: a free side has no position, a bound the one that is tested.
 use borrow.Author.Needs.{needs}
 use Rattle.ints.proofs.Laws.{back′}
 use Rattle.ints.specs.Reach.{allWithin}

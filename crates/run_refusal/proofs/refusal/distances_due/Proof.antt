@@ -1,4 +1,4 @@
--- `refusal::distances_due` meets its contract: a side adds at most one member, so the sum fits.
+-- `run_refusal::refusal::distances_due` meets its contract: a side adds at most one member, so the sum fits.
 use native.Mathlib.Omega.{arith}
 use borrow.Author.Needs.{needs}
 use Rattle.run_refusal.proofs.RefusalLaws.{member-le}

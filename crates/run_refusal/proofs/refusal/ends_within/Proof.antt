@@ -1,4 +1,4 @@
--- `refusal::ends_within` meets its contract: of no positions it asks nothing, of others the first and the last.
+-- `run_refusal::refusal::ends_within` meets its contract: of no positions it asks nothing, of others the first and the last.
 use mathlib.Core.Path.{_≡_, refl, sym, _∙_}
 use mathlib.Core.Bool.{true, _&&_}
 use mathlib.Core.List.{List, [], _∷_}

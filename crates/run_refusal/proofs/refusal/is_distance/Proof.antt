@@ -1,4 +1,4 @@
--- `refusal::is_distance` meets its contract: its tests are those of `isDistance`.
+-- `run_refusal::refusal::is_distance` meets its contract: its tests are those of `isDistance`.
 use borrow.Author.Tests.{le-leb, lt-leb}
 use Rattle.run_refusal.proofs.refusal.is_distance.Statement.{statement}
 use Rattle.run_refusal.proofs.refusal.is_distance.Tie as tie

@@ -1,4 +1,4 @@
--- `refusal::is_nondecreasing` meets its contract: whether all are in order is whether those from the one before the i-th on are.
+-- `run_refusal::refusal::is_nondecreasing` meets its contract: whether all are in order is whether those from the one before the i-th on are.
 use Prim.Native.Nat.{_+_, _-_, _<_}
 use mathlib.Core.Path.{_≡_, refl, sym, _∙_}
 use mathlib.Core.Bool.{true, false}

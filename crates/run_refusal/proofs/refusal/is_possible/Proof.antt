@@ -1,4 +1,4 @@
--- `refusal::is_possible` meets its contract: with a bound at both sides all the distances lie between them, and by the
+-- `run_refusal::refusal::is_possible` meets its contract: with a bound at both sides all the distances lie between them, and by the
 -- limits neither their sum nor the difference of the bounds leaves an i64.
 use mathlib.Core.Path.{_≡_, refl}
 use native.Mathlib.Omega.{arith}

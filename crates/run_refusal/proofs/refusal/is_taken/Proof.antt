@@ -1,4 +1,4 @@
--- `refusal::is_taken` meets its contract: the flag after each test is the tests so far (`to-small` to `to-neighbours-taken`), those
+-- `run_refusal::refusal::is_taken` meets its contract: the flag after each test is the tests so far (`to-small` to `to-neighbours-taken`), those
 -- are `isTaken` with its tests in one row (`taken-list`), and what the tests so far say is what the next one's function
 -- requires.
 use mathlib.Core.Path.{_≡_, sym, _∙_, ap}

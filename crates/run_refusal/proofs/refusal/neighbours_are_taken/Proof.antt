@@ -1,4 +1,4 @@
--- `refusal::neighbours_are_taken` meets its contract: the counts from the i-th on take up the neighbours from there on, and
+-- `run_refusal::refusal::neighbours_are_taken` meets its contract: the counts from the i-th on take up the neighbours from there on, and
 -- whether all are taken is whether those are.
 use Prim.Native.Nat.{_+_, _-_, _≤_}
 use mathlib.Core.Path.{_≡_, refl, sym, _∙_}

@@ -1,4 +1,4 @@
--- `refusal::neighbours_in_all` meets its contract: the total and the counts from the i-th on are the sum, and the total is
+-- `run_refusal::refusal::neighbours_in_all` meets its contract: the total and the counts from the i-th on are the sum, and the total is
 -- within the limit.
 use Prim.Native.Nat.{_+_, _-_, _≤_}
 use mathlib.Core.Path.{_≡_}

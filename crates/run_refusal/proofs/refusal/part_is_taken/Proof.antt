@@ -1,4 +1,4 @@
--- `refusal::part_is_taken` meets its contract: out of order it is not taken; in order, its ends tell whether all are within reach.
+-- `run_refusal::refusal::part_is_taken` meets its contract: out of order it is not taken; in order, its ends tell whether all are within reach.
 use mathlib.Core.Path.{sym, _∙_}
 use borrow.Author.Needs.{needs}
 use Rattle.ints.proofs.Tests.{and-true, and-false}

@@ -1,4 +1,4 @@
--- `text::form::in_limits` meets its contract: each step is one more question of `inLimits`.
+-- `text_scan::form::in_limits` meets its contract: each step is one more question of `inLimits`.
 use borrow.Author.Needs.{needs}
 use Rattle.text_scan.proofs.form.in_limits.Statement.{statement}
 use Rattle.text_scan.proofs.form.in_limits.Tie as tie

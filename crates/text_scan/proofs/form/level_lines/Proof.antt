@@ -1,4 +1,4 @@
--- `text::form::level_lines` meets its contract: the loop follows `many`: `RowsSoFar` says what was found and stored. A line that begins as a level line and is not in
+-- `text_scan::form::level_lines` meets its contract: the loop follows `many`: `RowsSoFar` says what was found and stored. A line that begins as a level line and is not in
 -- the form ends it.
 use mathlib.Core.Path.{_≡_, _∙_}
 use mathlib.Core.Bool.{false}

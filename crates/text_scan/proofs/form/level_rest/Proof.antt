@@ -1,4 +1,4 @@
--- `text::form::level_rest` meets its contract: by the cases of `levelRest`: no vertex, no end of the line, or a line.
+-- `text_scan::form::level_rest` meets its contract: by the cases of `levelRest`: no vertex, no end of the line, or a line.
 use mathlib.Core.Path.{_≡_, sym, _∙_}
 use mathlib.Core.Bool.{true, false}
 use Prim.Native.Nat.{_+_}

@@ -1,4 +1,4 @@
--- `text::form::put` meets its contract: `set` past the end changes nothing.
+-- `text_scan::form::put` meets its contract: `set` past the end changes nothing.
 use mathlib.Core.Path.{sym}
 use borrow.Author.Needs.{needs}
 use lib.Seq.{set-out}

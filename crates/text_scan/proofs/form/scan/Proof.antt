@@ -1,4 +1,4 @@
--- `text::form::scan` meets its contract: by what stands on the lines, `Texts` says whether the text is in the form, and what is stored of it.
+-- `text_scan::form::scan` meets its contract: by what stands on the lines, `Texts` says whether the text is in the form, and what is stored of it.
 use mathlib.Core.Path.{_≡_, refl, _∙_}
 use mathlib.Core.Bool.{true, false}
 use borrow.Author.Needs.{needs}

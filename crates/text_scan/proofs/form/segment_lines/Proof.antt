@@ -1,4 +1,4 @@
--- `text::form::segment_lines` meets its contract: the loop follows `many`: `SegmentsSoFar` says what was found and stored.
+-- `text_scan::form::segment_lines` meets its contract: the loop follows `many`: `SegmentsSoFar` says what was found and stored.
 use Prim.Native.Nat.{_-_}
 use native.Mathlib.Omega.{arith}
 use borrow.Author.Needs.{needs}

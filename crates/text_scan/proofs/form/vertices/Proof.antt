@@ -1,4 +1,4 @@
--- `text::form::vertices` meets its contract: the loop follows `many`: `RowSoFar` says what was found and stored.
+-- `text_scan::form::vertices` meets its contract: the loop follows `many`: `RowSoFar` says what was found and stored.
 use mathlib.Core.Path.{_∙_}
 use Prim.Native.Nat.{_-_}
 use native.Mathlib.Omega.{arith}

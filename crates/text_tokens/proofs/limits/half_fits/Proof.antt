@@ -1,4 +1,4 @@
--- `text::form::half_fits` meets its contract: the tests are those of `halfInLimit`.
+-- `text_tokens::limits::half_fits` meets its contract: the tests are those of `halfInLimit`.
 use borrow.Author.Needs.{needs}
 use borrow.Author.Tests.{le-leb, lt-leb}
 use Rattle.text_tokens.proofs.limits.half_fits.Statement.{statement}

@@ -1,4 +1,4 @@
--- `text::form::half_of` meets its contract: a half-width above 200 is outside the limit, so nothing is asked of it.
+-- `text_tokens::limits::half_of` meets its contract: a half-width above 200 is outside the limit, so nothing is asked of it.
 use mathlib.Core.Path.{sym, _∙_, _≡_}
 use mathlib.Core.Bool.{false, _&&_}
 use borrow.Author.Needs.{needs}

@@ -1,4 +1,4 @@
--- `row_fits` meets its contract: its two tests are those of the limit and of the vertices.
+-- `text_tokens::limits::row_fits` meets its contract: its two tests are those of the limit and of the vertices.
 use borrow.Author.Tests.{le-leb, lt-leb}
 use Rattle.text_tokens.proofs.limits.row_fits.Statement.{statement}
 use Rattle.text_tokens.proofs.limits.row_fits.Tie as tie

@@ -1,4 +1,4 @@
--- `text::scanners::box_at` meets its contract: by the cases of `box`.
+-- `text_tokens::scanners::box_at` meets its contract: by the cases of `box`.
 use native.Mathlib.Omega.{arith}
 use borrow.Author.Needs.{needs}
 use borrow.Author.Tests.{not-true, not-false}

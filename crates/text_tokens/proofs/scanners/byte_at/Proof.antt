@@ -1,4 +1,4 @@
--- `text::scanners::byte_at` meets its contract: past the end `getD` gives 0.
+-- `text_tokens::scanners::byte_at` meets its contract: past the end `getD` gives 0.
 use mathlib.Core.Path.{sym}
 use borrow.Author.Needs.{needs}
 use lib.ListN.{List·getD-eq-default}

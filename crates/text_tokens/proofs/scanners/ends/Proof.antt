@@ -1,4 +1,4 @@
--- `text::form::ends` meets its contract: by whether the word stands there and whether the text ends after it.
+-- `text_tokens::scanners::ends` meets its contract: by whether the word stands there and whether the text ends after it.
 use Prim.Native.Nat.{_+_}
 use native.Mathlib.Omega.{arith}
 use native.Mathlib.Decide.{ℕ-discrete}

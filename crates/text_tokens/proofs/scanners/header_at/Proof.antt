@@ -1,4 +1,4 @@
--- `text::scanners::header_at` meets its contract: by the cases of `planLine`.
+-- `text_tokens::scanners::header_at` meets its contract: by the cases of `planLine`.
 use mathlib.Core.Path.{_≡_}
 use mathlib.Core.Bool.{true}
 use native.Mathlib.Omega.{arith}

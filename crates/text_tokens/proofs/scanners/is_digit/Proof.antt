@@ -1,4 +1,4 @@
--- `text::scanners::is_digit` meets its contract: the two tests are those of `isDigit`.
+-- `text_tokens::scanners::is_digit` meets its contract: the two tests are those of `isDigit`.
 use borrow.Author.Tests.{le-leb, lt-leb}
 use Rattle.text_tokens.proofs.scanners.is_digit.Statement.{statement}
 use Rattle.text_tokens.proofs.scanners.is_digit.Tie as tie

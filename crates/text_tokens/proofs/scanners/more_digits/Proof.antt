@@ -1,4 +1,4 @@
--- `text::scanners::more_digits` meets its contract: before each turn the digits still to come, after the value so far, give what all of them give; the value stays below
+-- `text_tokens::scanners::more_digits` meets its contract: before each turn the digits still to come, after the value so far, give what all of them give; the value stays below
 -- 10 to the digits read.
 use mathlib.Core.Path.{_≡_, refl, sym, _∙_}
 use mathlib.Core.Bool.{true, false}

@@ -1,4 +1,4 @@
--- `text::scanners::number_at` meets its contract: by the cases of `number`: no digit, 0, or a first digit and at most four more.
+-- `text_tokens::scanners::number_at` meets its contract: by the cases of `number`: no digit, 0, or a first digit and at most four more.
 use mathlib.Core.Path.{_≡_, sym, _∙_}
 use mathlib.Core.Bool.{true, false}
 use native.Mathlib.Omega.{arith}

@@ -1,4 +1,4 @@
--- `text::scanners::number_then` meets its contract: by the cases of `numberThen`: no number, no word after it, or both.
+-- `text_tokens::scanners::number_then` meets its contract: by the cases of `numberThen`: no number, no word after it, or both.
 use mathlib.Core.Path.{_≡_, _∙_}
 use mathlib.Core.Bool.{true, false}
 use native.Mathlib.Omega.{arith}

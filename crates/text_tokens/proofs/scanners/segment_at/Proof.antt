@@ -1,4 +1,4 @@
--- `text::scanners::segment_at` meets its contract: by the cases of `segmentLine`.
+-- `text_tokens::scanners::segment_at` meets its contract: by the cases of `segmentLine`.
 use mathlib.Core.Path.{_≡_}
 use mathlib.Core.Bool.{true}
 use native.Mathlib.Omega.{arith}

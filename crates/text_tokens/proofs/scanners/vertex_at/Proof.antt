@@ -1,4 +1,4 @@
--- `text::scanners::vertex_at` meets its contract: a box, or else a via, or neither.
+-- `text_tokens::scanners::vertex_at` meets its contract: a box, or else a via, or neither.
 use mathlib.Core.Path.{_∙_}
 use native.Mathlib.Omega.{arith}
 use borrow.Author.Needs.{needs}

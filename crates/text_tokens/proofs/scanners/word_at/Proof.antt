@@ -1,4 +1,4 @@
--- `text::scanners::word_at` meets its contract: the loop passes the bytes of the word that stand in the text; the word from there on is found exactly if the whole is.
+-- `text_tokens::scanners::word_at` meets its contract: the loop passes the bytes of the word that stand in the text; the word from there on is found exactly if the whole is.
 use mathlib.Core.Path.{_≡_, _∙_}
 use Prim.Native.Nat.{_≤_, _+_, _-_}
 use native.Mathlib.Omega.{arith}

@@ -1,4 +1,4 @@
--- `writing::again::refuse` meets its contract: the line has at most 21 bytes.
+-- `text_write::again::refuse` meets its contract: the line has at most 21 bytes.
 use Rattle.text_write.proofs.AgainLaws.{refused-short}
 use Rattle.text_write.proofs.Written.{room-after, wrote-long, and-then, and-both, front-of}
 use Rattle.text_write.specs.Again.{refusedLine}

@@ -1,4 +1,4 @@
--- `writing::again::reread` meets its contract: what was read is stored with the very data of the reading.
+-- `text_write::again::reread` meets its contract: what was read is stored with the very data of the reading.
 use Rattle.text_write.proofs.AgainLaws.{read-accepted, read-refused, again-accepted, again-refused}
 use native.Mathlib.Omega.{arith}
 use borrow.Author.Needs.{needs}

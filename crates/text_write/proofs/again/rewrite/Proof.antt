@@ -1,4 +1,4 @@
--- `writing::again::rewrite` meets its contract: a text that was read has as many bytes as its plan's text.
+-- `text_write::again::rewrite` meets its contract: a text that was read has as many bytes as its plan's text.
 use mathlib.Core.Path.{sym, ap}
 use lib.ListN.{length}
 use borrow.Author.Needs.{needs}

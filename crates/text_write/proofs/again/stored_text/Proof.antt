@@ -1,4 +1,4 @@
--- `writing::again::stored_text` meets its contract: the parts lent are the plan's data.
+-- `text_write::again::stored_text` meets its contract: the parts lent are the plan's data.
 use Rattle.text_write.specs.inner.Stored.{StoredPlan}
 use lib.Seq.{length-take-le}
 use lib.ListN.{length}

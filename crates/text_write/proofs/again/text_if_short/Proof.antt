@@ -1,4 +1,4 @@
--- `writing::again::text_if_short` meets its contract: its test is that of `textIfShort`.
+-- `text_write::again::text_if_short` meets its contract: its test is that of `textIfShort`.
 use native.Mathlib.Omega.{arith}
 use Rattle.text_write.proofs.AgainLaws.{leaves-short, leaves-written}
 use Rattle.text_write.proofs.again.text_if_short.Statement.{statement}

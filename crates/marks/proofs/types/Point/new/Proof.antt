@@ -1,4 +1,4 @@
--- `types::Point::new` meets its contract: within 2^40 and 2^53 the casts are taken, and x times 0.5 is `halfOf`.
+-- `marks::types::Point::new` meets its contract: within 2^40 and 2^53 the casts are taken, and x times 0.5 is `halfOf`.
 use mathlib.Core.Path.{refl}
 use Rattle.ints.proofs.Laws.{back}
 use Rattle.marks.specs.Half.{point5, halfOf, wholeOf}

@@ -1,4 +1,4 @@
--- `sheet_data::types::Drawing::empty` meets its contract: each array is made as a repeat.
+-- `report::data::Drawing::empty` meets its contract: each array is made as a repeat.
 use mathlib.Core.Path.{refl}
 use Rattle.passes.specs.Words.{boxesListed}
 use Rattle.report.specs.Arrays.{arraysOf}
