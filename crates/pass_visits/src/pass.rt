@@ -9,9 +9,10 @@ use plan::data::Plan;
 ghost use mathlib.Core.Path.{_≡_};
 ghost use Rattle.pass_tables.specs.inner.Moments.{Some, Leaves};
 ghost use Rattle.pass_visits.specs.inner.Visits.{LevelDone};
-ghost use Rattle.pass_visits.specs.inner.Passing.{PassWork, passWork, LevelNext, PassNext, PassDone};
+ghost use Rattle.pass_visits.specs.inner.Passing.{PassWork, passWork, TableRoom, LevelNext, PassNext, PassDone};
 
-// Visits the runs of the level from `start` up to `to`; the level that precedes it stands from `low` up to `high`.
+// Visits the runs of the level from `start` up to `to`; the level that precedes it stands from `low` up to `high`. The tables that tell
+// which runs are ready are made in what is lent for them.
 fn enter_level(
     q: u16,
     low: usize,
@@ -21,22 +22,22 @@ fn enter_level(
     vias: &[bool],
     first: &[u16],
     ends: &[u32],
+    before: &mut [u32],
+    after: &mut [u32],
+    counts: &mut [u16],
     at: &mut [i64],
     apart: &mut [u64],
     marks: &mut [bool],
 )
     ghost { PassWork }
     requires { λ k. ⌜ passWork (now first) (now ends) (now at) (now apart) (now marks) ≡ k ⌝ }
-    requires { λ k. ⌜ Some (LevelNext q low high start to (now vias) k) ⌝ }
+    requires { λ k. ⌜ Some (LevelNext q low high start to (now vias) k) × TableRoom (now before) (now after) (now counts) ⌝ }
     ensures { λ k _. ⌜ Leaves (LevelNext q low high start to (now (vias .entry)) k)
         (LevelDone q (now (at .exit)) (now (apart .exit)) (now (marks .exit))) ⌝ }
 {
-    let mut before = [0u32; Plan::MAX_VERTICES];
-    let mut after = [0u32; Plan::MAX_VERTICES];
-    let mut counts = [0u16; Plan::MAX_VERTICES];
-    nearest_before(vias, first, ends, start, to, &mut before);
-    nearest_after(vias, first, ends, start, to, &mut after);
-    count_marks(marks, low, high, &mut counts);
+    nearest_before(vias, first, ends, start, to, before);
+    nearest_after(vias, first, ends, start, to, after);
+    count_marks(marks, low, high, counts);
     visit_level(
         q,
         start,
@@ -44,9 +45,9 @@ fn enter_level(
         vias,
         first,
         ends,
-        &before,
-        &after,
-        &counts,
+        before,
+        after,
+        counts,
         at,
         apart,
         marks,
@@ -70,6 +71,9 @@ pub fn pass(
     ensures { λ k _. ⌜ Leaves (PassNext q (now (starts .entry)) (now (vias .entry)) k)
         (PassDone q (now (at .exit)) (now (apart .exit)) (now (marks .exit))) ⌝ }
 {
+    let mut before = [0u32; Plan::MAX_VERTICES];
+    let mut after = [0u32; Plan::MAX_VERTICES];
+    let mut counts = [0u16; Plan::MAX_VERTICES];
     let n = starts.len() - 1;
     let mut low: usize = 0;
     let mut high: usize = 0;
@@ -78,7 +82,22 @@ pub fn pass(
         let i = turn(q, k, n);
         let start = wide(starts[i]);
         let to = wide(starts[i + 1]);
-        enter_level(q, low, high, start, to, vias, first, ends, at, apart, marks);
+        enter_level(
+            q,
+            low,
+            high,
+            start,
+            to,
+            vias,
+            first,
+            ends,
+            &mut before,
+            &mut after,
+            &mut counts,
+            at,
+            apart,
+            marks,
+        );
         low = start;
         high = to;
         k += 1;

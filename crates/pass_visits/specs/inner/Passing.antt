@@ -9,6 +9,8 @@ use Rattle.pass_laws.specs.inner.Schedule.{passVisits}
 use Rattle.pass_tables.specs.inner.Moments.{Held, Neighbouring, Range, AtLevel, AtPass}
 use Rattle.pass_neighbours.specs.inner.Order.{inTurn, Starts}
 use Rattle.pass_visits.specs.inner.Visits.{Entering}
+use lib.ListN.{length}
+use Rattle.plan.specs.Limits.{maxVertices}
 
 -- What a pass works on: its neighbours, and what the visits change.
 pub record PassWork : Type 0 where
@@ -20,6 +22,12 @@ pub record PassWork : Type 0 where
 
 abbrev pub passWork : List ℕ → List ℕ → List ℤ → List ℕ → List Bool → PassWork
 passWork first ends at apart marks = record { first = first; ends = ends; at = at; apart = apart; marks = marks }
+
+-- Room for the tables of any level.
+pub record TableRoom (before after counts : List ℕ) : Type 0 where
+  pub lefts : length before ≡ maxVertices
+  pub rights : length after ≡ maxVertices
+  pub numbers : length counts ≡ maxVertices
 
 -- The visits of pass q to the runs of a level come next; the level that precedes it stands from `low` up to `high`.
 pub record LevelNext (q low high start to : ℕ) (vias : List Bool) (k : PassWork) (m : AtLevel) : Type 0 where
