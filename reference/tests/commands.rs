@@ -143,7 +143,7 @@ fn scripts_and_their_answers() {
 
 #[test]
 fn wrong_requests() {
-    let wrong: [&[&str]; 18] = [
+    let wrong: [&[&str]; 23] = [
         &[],
         &[""],
         &["draw"],
