@@ -7,7 +7,8 @@ use Rattle.sheet.specs.declared.types.LineAnswer.{LineAnswer}
 use Rattle.sheet.specs.declared.types.LineAnswer.the-variants.{Written, Refused}
 use Rattle.sheet.specs.Results.{Result, gives, lineResultOf}
 use Rattle.sheet.specs.Calls.{BufferOut, Writes}
-use Rattle.c_calls.specs.Code.{codeOf, Codes, Few}
+use Rattle.c_calls.specs.Code.{codeOf, Codes}
+use Rattle.c_calls.specs.inner.Few.{Few}
 
 pub codes : {A : Type 0} {o : BufferOut A} {a : LineAnswer} {r : ℤ} {out : List A} → Writes o a out → r ≡ codeOf (lineResultOf a) → Codes o r out
 codes w e = record { code = e ∙ ap codeOf (w .answered); buffer = w .left }

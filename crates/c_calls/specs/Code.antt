@@ -1,10 +1,8 @@
 -- The numbers that stand for what a call gives.
 use mathlib.Core.Path.{_≡_}
 use mathlib.Core.List.{List}
-use Prim.Native.Nat.{ℕ, _≤_}
+use Prim.Native.Nat.{ℕ}
 use lib.IntN.{ℤ, pos, _-ℤ_}
-use Rattle.sheet.specs.declared.types.LineAnswer.{LineAnswer}
-use Rattle.sheet.specs.declared.types.LineAnswer.the-variants.{Written, Refused}
 use Rattle.sheet.specs.Results.{Result, gives, refuses}
 use Rattle.sheet.specs.Calls.{BufferOut}
 
@@ -17,8 +15,3 @@ codeOf (refuses n) = pos 0 -ℤ pos n
 pub record Codes {A : Type 0} (o : BufferOut A) (r : ℤ) (out : List A) : Type 0 where
   pub code : r ≡ codeOf (o .result)
   pub buffer : out ≡ o .buffer
-
--- No length or count is over a million.
-abbrev pub Few : LineAnswer → Type 0
-Few (Written n) = n ≤ 1000000
-Few (Refused n) = Unit

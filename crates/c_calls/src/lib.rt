@@ -17,7 +17,8 @@ ghost use Rattle.sheet.specs.Results.{lineResultOf};
 ghost use Rattle.text_report.specs.Marks.{marksOf};
 ghost use Rattle.text_report.specs.Positions.{positionsOf};
 ghost use Rattle.text_report.specs.Texts.{reportOf};
-ghost use Rattle.c_calls.specs.Code.{codeOf, Few, Codes};
+ghost use Rattle.c_calls.specs.Code.{codeOf, Codes};
+ghost use Rattle.c_calls.specs.inner.Few.{Few};
 ghost use Rattle.c_calls.specs.Again as again;
 
 // What a call answers, as one number.
