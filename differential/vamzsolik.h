@@ -38,6 +38,10 @@ int64_t draw_c(const uint8_t *text, size_t text_length, int64_t *out, size_t out
 /* Writes the plan's text again into out and returns its length. Refusals as for report_c. What lies beyond the text stays. */
 int64_t reread_c(const uint8_t *text, size_t text_length, uint8_t *out, size_t out_length);
 
+/* Carries out the commands of a script, one a line, from an empty sheet on; writes their answers into out and returns how many bytes they
+   have, or -14 if out is too short; out is then untouched. What lies beyond the answers stays. */
+int64_t script_c(const uint8_t *script, size_t script_length, uint8_t *out, size_t out_length);
+
 /* Places one run of r boxes: writes their positions into answer and returns 0, or returns 8 if the run is refused; answer is then
    untouched. A flag that is not 0 says that there is that bound. */
 uint32_t place_run_c(uint64_t r, uint32_t has_left, int64_t left, uint32_t has_right, int64_t right,

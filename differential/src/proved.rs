@@ -39,6 +39,8 @@ extern "C" {
 
     fn marks_c(text: *const u8, text_len: usize, out: *mut f64, out_len: usize) -> i64;
 
+    fn script_c(script: *const u8, script_len: usize, out: *mut u8, out_len: usize) -> i64;
+
     fn draw_c(text: *const u8, text_len: usize, out: *mut i64, out_len: usize) -> i64;
 }
 
@@ -81,6 +83,12 @@ pub fn reread(text: &[u8], out: &mut [u8]) -> Result<usize, u32> {
 pub fn write_report(text: &[u8], out: &mut [u8]) -> Result<usize, u32> {
     // The function reads and writes the lent slices alone, within their lengths.
     answer(unsafe { report_c(text.as_ptr(), text.len(), out.as_mut_ptr(), out.len()) })
+}
+
+/// Writes the answers to a script's commands into the buffer: how many bytes they have. Else 14, and the buffer is as it was.
+pub fn write_answers(script: &[u8], out: &mut [u8]) -> Result<usize, u32> {
+    // The function reads and writes the lent slices alone, within their lengths.
+    answer(unsafe { script_c(script.as_ptr(), script.len(), out.as_mut_ptr(), out.len()) })
 }
 
 /// Writes the marks of a plan's drawing into the buffer, five numbers each: how many marks there are. Else as for `reread`.

@@ -4,6 +4,7 @@ use ints::plus;
 use place_run::call::place_run;
 use run::types::Answer;
 use run::types::Bound;
+use script_run::script::answers;
 use sheet::types::LineAnswer;
 use text_report::all_marks::marks_text;
 use text_report::positions::positions_text;
@@ -11,15 +12,18 @@ use text_report::whole::report_text;
 use text_write::again::Rewritten;
 use text_write::again::rewrite;
 ghost use mathlib.Core.Path.{_≡_};
+ghost use Rattle.run.specs.Call.{callOf};
 ghost use Rattle.text.specs.Reading.{reading};
 ghost use Rattle.text_write.specs.Again.{rewritten};
 ghost use Rattle.sheet.specs.Results.{lineResultOf};
+ghost use Rattle.script_run.specs.Scripts.{scriptOf};
 ghost use Rattle.text_report.specs.Marks.{marksOf};
 ghost use Rattle.text_report.specs.Positions.{positionsOf};
 ghost use Rattle.text_report.specs.Texts.{reportOf};
 ghost use Rattle.c_calls.specs.Code.{codeOf, Codes};
 ghost use Rattle.c_calls.specs.inner.Few.{Few};
 ghost use Rattle.c_calls.specs.Again as again;
+ghost use Rattle.c_calls.specs.Run.{boundOf, Answers};
 
 // What a call answers, as one number.
 fn code(answer: LineAnswer) -> i64
@@ -76,6 +80,16 @@ pub extern "C" fn reread_c(text: &[u8], out: &mut [u8]) -> i64
     }
 }
 
+// How many bytes the answers to a script's commands have, which are at the front of the buffer; -14 if the buffer is shorter than the
+// answers. Where it is negative the buffer stays as it is.
+#[no_mangle]
+pub extern "C" fn script_c(script: &[u8], out: &mut [u8]) -> i64
+    ensures { λ r. ⌜ Codes (scriptOf (now (script .entry)) (now (out .entry))) r (now (out .exit)) ⌝ }
+{
+    let answer = answers(script, out);
+    code(answer)
+}
+
 // 0 if the run is accepted, 8 if it is refused. A flag that is not 0 means that there is that bound.
 #[no_mangle]
 pub extern "C" fn place_run_c(
@@ -89,7 +103,17 @@ pub extern "C" fn place_run_c(
     counts: &[u64],
     neighbours: &[i64],
     answer: &mut [i64],
-) -> u32 {
+) -> u32
+    ensures { λ n. ⌜ Answers (callOf (record {
+      boxes = r;
+      left = boundOf «has_left» left;
+      right = boundOf «has_right» right;
+      old = now (old .entry);
+      distances = now (distances .entry);
+      counts = now (counts .entry);
+      neighbours = now (neighbours .entry);
+    }) (now (answer .entry))) n (now (answer .exit)) ⌝ }
+{
     let outcome = place_run(
         r,
         bound(has_left, left),
@@ -106,7 +130,9 @@ pub extern "C" fn place_run_c(
     }
 }
 
-fn bound(flag: u32, value: i64) -> Bound {
+fn bound(flag: u32, value: i64) -> Bound
+    ensures { λ r. ⌜ r ≡ boundOf flag value ⌝ }
+{
     if flag == 0 {
         Bound::Free
     } else {

@@ -19,10 +19,10 @@ use Rattle.passes.specs.State.{State, positionOf}
 use Rattle.passes.specs.Words.{rise, bendsBetween, bendsAt, bendCount, strandBendsTwice, bendsAtMostTwice}
 use Rattle.plan.proofs.All.{all-every}
 use Rattle.plan.proofs.Levels.{all-numbers}
-use Rattle.pass_laws.proofs.Sound.{Sound}
+use Rattle.passes.proofs.Sound.{Sound}
 use Rattle.demand3.proofs.Upright.{inner-mem, inner-same}
-use Rattle.pass_laws.proofs.Trace.{Reached}
-use Rattle.pass_laws.proofs.Preliminary.{Preliminary}
+use Rattle.passes.proofs.Trace.{Reached}
+use Rattle.passes.proofs.Preliminary.{Preliminary}
 
 abbrev pub segment : ℕ → ℕ → Segment
 segment u v = record { upper = u; lower = v }

@@ -18,14 +18,14 @@ use Rattle.passes.specs.Passes.{boxesAt, placed}
 use Rattle.passes.specs.Drawing.{traceOf}
 use Rattle.passes.specs.Words.{runOf, before, stepAt, distancesThen, farApart, isPlacementThen, sidewaysSum, sidewaysThen}
 use Rattle.passes.specs.Demand3.{Best}
-use Rattle.pass_laws.proofs.Sound.{Sound}
-use Rattle.pass_laws.proofs.Spaced.{isPlacementIn, inForce, standing, placement-is}
-use Rattle.pass_laws.proofs.Placing.{placed-optimal, placed-length, boxes-length}
-use Rattle.pass_laws.specs.inner.Schedule.{schedule, start}
-use Rattle.pass_laws.proofs.Moments.{Moment, then, step, final-trace, step-is, before-is, visit-run, reached-then, run-is}
-use Rattle.pass_laws.proofs.Distances.{force-then}
+use Rattle.passes.proofs.Sound.{Sound}
+use Rattle.passes.proofs.Spaced.{isPlacementIn, inForce, standing, placement-is}
+use Rattle.passes.proofs.Placing.{placed-optimal, placed-length, boxes-length}
+use Rattle.passes.specs.inner.Schedule.{schedule, start}
+use Rattle.passes.proofs.Moments.{Moment, then, step, final-trace, step-is, before-is, visit-run, reached-then, run-is}
+use Rattle.passes.proofs.Distances.{force-then}
 use Rattle.demand3.proofs.Sideways.{sum-is}
-use Rattle.pass_laws.proofs.Preliminary.{Preliminary}
+use Rattle.passes.proofs.Preliminary.{Preliminary}
 
 module _ {p : PlanData} (so : Sound p) (pre : Preliminary p) {n : ℕ} (m : Moment p (schedule p) (start p) n) where
   pub stepAt-is : stepAt (traceOf p) n ≡ step m

@@ -21,23 +21,23 @@ use Rattle.passes.specs.Demand3.{Best}
 use Rattle.plan.proofs.All.{All, all-map, all-get, all-right, every-all}
 use Rattle.plan.specs.inner.Levels.{On, HasLevel}
 use Rattle.plan.proofs.Levels.{level-on, has-level}
-use Rattle.pass_laws.proofs.Sound.{Sound, via-vertex}
-use Rattle.pass_laws.specs.inner.Runs.{IsRun}
-use Rattle.pass_laws.proofs.RunsOn.{bounds, run-at, run-level}
-use Rattle.pass_laws.proofs.Spaced.{SpacedAt}
-use Rattle.pass_laws.proofs.Invariant.{in-order}
-use Rattle.pass_laws.proofs.Placing.{placement-points}
-use Rattle.pass_laws.proofs.Edges.{left-at, right-at, right-of-left, left-of-right}
-use Rattle.pass_laws.proofs.Schedule.{ToRuns, visit-append}
-use Rattle.pass_laws.specs.inner.Schedule.{Visit, visitAll, schedule, start}
-use Rattle.pass_laws.proofs.Trace.{Reached}
-use Rattle.pass_laws.proofs.Moments.{Moment, then, step, final, visit-run, reached-then, reached-final, finished-is, before-is, run-is, runs-of}
+use Rattle.passes.proofs.Sound.{Sound, via-vertex}
+use Rattle.passes.specs.inner.Runs.{IsRun}
+use Rattle.passes.proofs.RunsOn.{bounds, run-at, run-level}
+use Rattle.passes.proofs.Spaced.{SpacedAt}
+use Rattle.passes.proofs.Invariant.{in-order}
+use Rattle.passes.proofs.Placing.{placement-points}
+use Rattle.passes.proofs.Edges.{left-at, right-at, right-of-left, left-of-right}
+use Rattle.passes.proofs.Schedule.{ToRuns, visit-append}
+use Rattle.passes.specs.inner.Schedule.{Visit, visitAll, schedule, start}
+use Rattle.passes.proofs.Trace.{Reached}
+use Rattle.passes.proofs.Moments.{Moment, then, step, final, visit-run, reached-then, reached-final, finished-is, before-is, run-is, runs-of}
 use Rattle.demand3.proofs.BestThen.{stepAt-is, then-is, best-then}
 use Rattle.demand3.proofs.Settled.{settled-from, stands-still}
-use Rattle.pass_laws.proofs.Covered.{box-range, found, between-vias}
+use Rattle.passes.proofs.Covered.{box-range, found, between-vias}
 use Rattle.demand3.proofs.ReadyVias.{levels-same, Beside, IsReady, ready, due-ready}
 use Rattle.demand3.proofs.Steady.{Steady, steady-right, steady-left, steady-same, place-out, place-in, SteadyFrom, steady-from, steady-none, SteadyAt, weightedSum, weighted-one, sum-steady}
-use Rattle.pass_laws.proofs.Preliminary.{Preliminary}
+use Rattle.passes.proofs.Preliminary.{Preliminary}
 
 settled-at : (p : PlanData) (s : State) (u w : ℕ) → settledBetween p s u w ≡ true → (k : ℕ) → k < length (runsOn p (levelOf p u))
     → liesBetween u w (getD (runsOn p (levelOf p u)) k noRun .left) (getD (runsOn p (levelOf p u)) k noRun .right) ≡ true → isSettled p s (getD (runsOn p (levelOf p u)) k noRun) ≡ true

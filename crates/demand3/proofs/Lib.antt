@@ -9,6 +9,7 @@ pub mod Settled
 pub mod ReadyVias
 pub mod Steady
 pub mod Lasting
--- The theorem, and case 1 as an instance of it.
+-- The theorem, case 1 as an instance of it, and the list entry by entry.
 pub mod Theorem
 pub mod Instance
+pub mod Entries

@@ -20,12 +20,12 @@ use Rattle.passes.specs.Passes.{isDue}
 use Rattle.plan.proofs.All.{all-mem, no-true}
 use Rattle.plan.specs.inner.Levels.{firstOn, sizeOn}
 use Rattle.plan.proofs.Levels.{level-is}
-use Rattle.pass_laws.proofs.Sound.{Sound}
+use Rattle.passes.proofs.Sound.{Sound}
 use Rattle.demand3.proofs.Upright.{inner-same}
 use Rattle.demand3.proofs.Bends.{segment, mem-below, mem-above}
-use Rattle.pass_laws.proofs.Trace.{Reached}
-use Rattle.pass_laws.proofs.Preliminary.{Preliminary}
-use Rattle.pass_laws.proofs.Options.{or-cases, never}
+use Rattle.passes.proofs.Trace.{Reached}
+use Rattle.passes.proofs.Preliminary.{Preliminary}
+use Rattle.passes.proofs.Options.{or-cases, never}
 
 -- ---- n is a neighbour of b on the preceding level: below in pass 2, else above
 abbrev pub Levels : Bool → ℕ → ℕ → Type 0

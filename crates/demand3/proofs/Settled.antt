@@ -15,15 +15,15 @@ use Rattle.passes.specs.Ready.{hasNoSlack, places, isSettled}
 use Rattle.passes.specs.Passes.{placed, isDue, visit}
 use Rattle.passes.specs.Words.{timesPlaced}
 use Rattle.plan.proofs.All.{all-nil, all-cons, no-true}
-use Rattle.pass_laws.proofs.Sound.{Sound}
-use Rattle.pass_laws.specs.inner.Runs.{IsRun}
-use Rattle.pass_laws.proofs.Schedule.{ToRuns, Other}
-use Rattle.pass_laws.specs.inner.Schedule.{Visit, visitAll}
-use Rattle.pass_laws.proofs.Trace.{Reached, reached-visit}
-use Rattle.pass_laws.proofs.Moments.{grown-visit}
-use Rattle.pass_laws.proofs.Counts.{times, times-append, any-none, slack-still, due-settled, settled-slack, settled-placed}
-use Rattle.pass_laws.proofs.Frame.{other-box, box-still, visit-keeps}
-use Rattle.pass_laws.proofs.Distances.{same-or-other}
+use Rattle.passes.proofs.Sound.{Sound}
+use Rattle.passes.specs.inner.Runs.{IsRun}
+use Rattle.passes.proofs.Schedule.{ToRuns, Other}
+use Rattle.passes.specs.inner.Schedule.{Visit, visitAll}
+use Rattle.passes.proofs.Trace.{Reached, reached-visit}
+use Rattle.passes.proofs.Moments.{grown-visit}
+use Rattle.passes.proofs.Counts.{times, times-append, any-none, slack-still, due-settled, settled-slack, settled-placed}
+use Rattle.passes.proofs.Frame.{other-box, box-still, visit-keeps}
+use Rattle.passes.proofs.Distances.{same-or-other}
 
 -- no slack, or placed before
 abbrev pub Settled : PlanData → State → Run → Type 0

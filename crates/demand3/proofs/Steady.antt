@@ -16,7 +16,7 @@ use Rattle.plan.specs.Segments.{Segment}
 use Rattle.passes.specs.State.{positionOf, put}
 use Rattle.passes.specs.Words.{placeOf, sidewaysFrom, sidewaysSum}
 use Rattle.plan.proofs.All.{All, all-nil, all-cons}
-use Rattle.pass_laws.proofs.Put.{put-in}
+use Rattle.passes.proofs.Put.{put-in}
 
 -- ---- a box at y or at z, a neighbour at a or at c
 abbrev pub Steady : ℤ → ℤ → ℤ → ℤ → Type 0

@@ -10,16 +10,16 @@ use Rattle.passes.specs.State.{Step}
 use Rattle.passes.specs.Drawing.{listed, traceOf, drawingOf}
 use Rattle.passes.specs.Words.{runOf, finished, stepAt}
 use Rattle.passes.specs.Demand3.{Best, Demand3}
-use Rattle.pass_laws.proofs.Sound.{Sound, sound}
-use Rattle.pass_laws.proofs.Moments.{step, final-trace, reached-final, finished-is, moment-of, run-is, drawing, drawing-is}
+use Rattle.passes.proofs.Sound.{Sound, sound}
+use Rattle.passes.proofs.Moments.{step, final-trace, reached-final, finished-is, moment-of, run-is, drawing, drawing-is}
 use Rattle.demand3.proofs.Upright.{order-kept, inner-upright}
 use Rattle.demand3.proofs.Bends.{bends-twice}
-use Rattle.pass_laws.proofs.Due.{placed-as-due}
+use Rattle.passes.proofs.Due.{placed-as-due}
 use Rattle.demand3.proofs.BestThen.{stepAt-is, best-then}
 use Rattle.demand3.proofs.Lasting.{best-last}
-use Rattle.pass_laws.proofs.DrawingWithin.{drawing-within}
-use Rattle.pass_laws.proofs.Preliminary.{Preliminary}
-use Rattle.pass_laws.proofs.Kept.{kept}
+use Rattle.passes.proofs.DrawingWithin.{drawing-within}
+use Rattle.passes.proofs.Preliminary.{Preliminary}
+use Rattle.passes.proofs.Kept.{kept}
 
 module _ {p : PlanData} (so : Sound p) (pre : Preliminary p) where
   last-bounded : (i : ℕ) (m : i < length (traceOf p)) → isBounded (runOf p (stepAt (traceOf p) i)) ≡ true → stepAt (traceOf p) i .pass ≤ 2 → Best p (traceOf p) i (finished p (traceOf p))
@@ -32,6 +32,8 @@ module _ {p : PlanData} (so : Sound p) (pre : Preliminary p) where
     started = refl;
     made = ap (listed p) (sym (final-trace p));
     ended = sym (finished-is so pre);
+    starts = pre .long;
+    ends = c .inv .at-length;
     order = order-kept (c .inv);
     upright = inner-upright pre c;
     bends = bends-twice so pre c;

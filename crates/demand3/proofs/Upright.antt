@@ -16,9 +16,9 @@ use Rattle.passes.specs.Ready.{equals}
 use Rattle.passes.specs.Words.{isApart, keepsOrder, isUpright, innerUpright}
 use Rattle.plan.proofs.All.{all-of-mem, all-every}
 use Rattle.plan.proofs.Levels.{sides-all}
-use Rattle.pass_laws.proofs.Invariant.{Inv}
-use Rattle.pass_laws.proofs.Trace.{Reached}
-use Rattle.pass_laws.proofs.Preliminary.{Preliminary}
+use Rattle.passes.proofs.Invariant.{Inv}
+use Rattle.passes.proofs.Trace.{Reached}
+use Rattle.passes.proofs.Preliminary.{Preliminary}
 
 pub order-kept : {p : PlanData} {s : State} → Inv p s → keepsOrder p (s .at) ≡ true
 unfolding keepsOrder

@@ -2,4 +2,5 @@ pub mod FrontLaws
 pub mod Laws
 pub mod Lists
 pub mod Reach
+pub mod Refusals
 pub mod Tests

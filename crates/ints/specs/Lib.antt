@@ -1,3 +1,4 @@
 pub mod Ints
 pub mod Lists
 pub mod Reach
+pub mod Refusals

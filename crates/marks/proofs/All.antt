@@ -1,10 +1,10 @@
 -- The numbers of all marks, as a loop writes them: those of the next mark, and what is left after it. Assumes nothing.
 use mathlib.Core.Path.{_≡_, refl, sym, _∙_}
-use mathlib.Core.List.{List, map}
+use mathlib.Core.List.{List, map, _++_, append-assoc}
 use Prim.Native.Nat.{ℕ, zero, suc, _+_, _*_, _-_, _≤_, _<_}
 use native.Mathlib.Omega.{arith}
-use lib.ListN.{length, length-append}
-use lib.Seq.{sets}
+use lib.ListN.{length, drop, length-append}
+use lib.Seq.{sets, drop-append-add}
 use lib.IntN.{ℤ}
 use lib.Ieee.{Float}
 use Rattle.ints.specs.Lists.{over, concat}
@@ -54,3 +54,19 @@ module _ (p : PlanData) (xs : List ℤ) where
   all-put n o o′ h r l =
       let k : markCount p - n ≡ 0 = omega arith in
       rw k at l ∙ sets-over o (allNumbers p xs) (omega (arith, all-long))
+
+  -- The n-th five numbers are those of the n-th mark.
+  from-at : (a k n : ℕ) (more : List Float) → n < k → (rest : List Float) × (drop (5 * n) (numbersFrom a k ++ more) ≡ fiveOf (markOf p xs (a + n)) ++ rest)
+  unfolding numbers concat
+  from-at a zero n more h = absurd (omega arith)
+  from-at a (suc k) zero more h = (numbersFrom (a + 1) k ++ more, let e : a + 0 ≡ a = omega arith in rw (e, append-assoc))
+  from-at a (suc k) (suc n) more h =
+      let five = fiveOf (markOf p xs a) in
+      let step : 5 * suc n ≡ length five + 5 * n = omega (arith, five-long (markOf p xs a)) in
+      let next : a + suc n ≡ a + 1 + n = omega arith in
+      let on = from-at (a + 1) k n more (omega arith) in
+      (on .0, rw (step, append-assoc, drop-append-add, next) (on .1))
+
+  pub mark-at : (n : ℕ) (more : List Float) → n < markCount p → (rest : List Float) × (drop (5 * n) (allNumbers p xs ++ more) ≡ fiveOf (markOf p xs n) ++ rest)
+  unfolding allNumbers
+  mark-at n more h = let e : 0 + n ≡ n = omega arith in let r = from-at 0 (markCount p) n more h in (r .0, rw e at (r .1))

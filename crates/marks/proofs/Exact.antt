@@ -2,7 +2,7 @@
 -- the product with 0.5 rounds. Assumes nothing.
 use mathlib.Core.Path.{_≡_, refl, sym, _∙_, subst}
 use mathlib.Core.Bool.{Bool, true, false, not, cond}
-use mathlib.Core.List.{List}
+use mathlib.Core.List.{List, _++_}
 use Prim.Native.Nat.{ℕ, suc, _-_, _*_, _^_, _≤_, _<_}
 use native.Mathlib.Nat.{eq-of-mul-eq-mul-right, lt-trans, lt-of-le-of-lt, mul-pos}
 use native.Mathlib.Omega.{arith}
@@ -15,13 +15,14 @@ use lib.Ieee.{Float, nan, inf, fin, binary64, mul, round, ofInt, ofBits, ofField
 use lib.Ieee.Fits.{down-pos}
 use lib.Ieee.Exact.{HasValue, round-exact}
 use lib.Ieee.Back.{round-whole}
-use Rattle.plan.specs.Plan.{PlanData, vertexCount, isVia, halfWidth, levelIn, levelOf, heightOf}
+use Rattle.ints.specs.Reach.{reach}
+use Rattle.plan.specs.Plan.{PlanData, vertexCount, isVia, halfWidth, levelOf, heightOf}
 use Rattle.passes.specs.State.{positionOf}
-use Rattle.marks.specs.declared.types.Point.{Point}
+use Rattle.marks.specs.declared.types.Mark.{Mark}
 use Rattle.marks.specs.declared.types.Mark.the-variants.{Box, Bend, Line}
 use Rattle.marks.specs.Half.{point5, halfOf, wholeOf, maxWhole}
-use Rattle.marks.specs.Marks.{pointAt, upperEnd, lowerEnd, markOf}
-use Rattle.marks.specs.Exact.{StandsAt, Exact}
+use Rattle.marks.specs.Marks.{WholeMark, box, bend, line, depthOf, upperEnd, lowerEnd, segmentMark, wholeMarkOf, pointOf, inF64, markOf, fiveOf}
+use Rattle.marks.specs.Exact.{IsHalf, IsWhole, ExactPoint, ExactMark, ExactFive}
 use Rattle.marks.specs.inner.Asked.{InReach}
 use Rattle.marks.proofs.Laws.{height-low, within-at}
 
@@ -40,9 +41,9 @@ unfolding ofInt
 int-exact (pos n) h = round-whole binary64 false n (omega arith)
 int-exact (negsuc n) h = round-whole binary64 true (suc n) (omega arith)
 
-pub whole-exact : (n : ℕ) → n < maxWhole → HasValue (wholeOf n) false n 1
+pub whole-exact : (n : ℕ) → n ≤ maxWhole → IsWhole n (wholeOf n)
 unfolding wholeOf ofInt
-whole-exact n h = round-whole binary64 false n (omega arith)
+whole-exact n h = round-whole binary64 false n h
 
 -- ---- times 0.5
 point5-is : point5 ≡ fin false 1 (negsuc 0)
@@ -80,45 +81,62 @@ halved (fin t m e) s n h v =
     (lt-trans (shl-lt 53 1073 (lt-of-le-of-lt h (lit< tt))) (lit< tt))
     (regroup (m * up e) n (down e) (2 ^ 1073) (v .1))))
 
-pub half-exact : (x : ℤ) → natAbs x ≤ 2 ^ 40 → HasValue (halfOf x) (not (nonNeg x)) (natAbs x) 2
+pub half-exact : (x : ℤ) → natAbs x ≤ reach → IsHalf x (halfOf x)
 unfolding halfOf
 half-exact x h = rw point5-is (halved (ofInt binary64 x) (not (nonNeg x)) (natAbs x) h (int-exact x h))
 
--- ---- the marks of a plan
-point-exact : (p : PlanData) (xs : List ℤ) → InReach (p .spacing) (p .sizes) xs → (v : ℕ) → StandsAt p xs v (pointAt p xs v)
-unfolding heightOf levelOf
-point-exact p xs h v = record {
-  across = half-exact (positionOf xs v) (within-at xs v (h .within));
-  down = whole-exact (p .spacing * (levelIn (p .sizes) v - 1)) (height-low h v);
-}
+pub point-exact : (x : ℤ) (y : ℕ) → natAbs x ≤ reach → y ≤ maxWhole → ExactPoint x y (pointOf x y)
+point-exact x y h l = record { across = half-exact x h; down = whole-exact y l }
 
--- A mark picked by two tests, and what it is made of.
-module _ (c a b q r : Point) (w z : Float) where
-  picked-box : (t u : Bool) → cond t (cond u (Bend c) (Box c w)) (Line a b) ≡ Box q z → (c ≡ q) × (w ≡ z)
-  picked-box true true e = absurd (let f : _≡_ {A = ℕ} 0 1 = cc in omega arith)
-  picked-box true false e = (cc, cc)
-  picked-box false u e = absurd (let f : _≡_ {A = ℕ} 0 1 = cc in omega arith)
+-- ---- marks
+-- So near, so low and so narrow that f64 has them.
+abbrev pub Fits : WholeMark → Type 0
+Fits (box x y w) = (natAbs x ≤ reach) × (y ≤ maxWhole) × (w ≤ maxWhole)
+Fits (bend x y) = (natAbs x ≤ reach) × (y ≤ maxWhole)
+Fits (line x y u v) = (natAbs x ≤ reach) × (y ≤ maxWhole) × (natAbs u ≤ reach) × (v ≤ maxWhole)
 
-  picked-bend : (t u : Bool) → cond t (cond u (Bend c) (Box c w)) (Line a b) ≡ Bend q → c ≡ q
-  picked-bend true true e = cc
-  picked-bend true false e = absurd (let f : _≡_ {A = ℕ} 0 1 = cc in omega arith)
-  picked-bend false u e = absurd (let f : _≡_ {A = ℕ} 0 1 = cc in omega arith)
+in-f64-exact : (m : WholeMark) → Fits m → ExactMark m (inF64 m)
+in-f64-exact (box x y w) h = (point-exact x y (h .0) (h .1), whole-exact w (h .2))
+in-f64-exact (bend x y) h = point-exact x y (h .0) (h .1)
+in-f64-exact (line x y u v) h = (point-exact x y (h .0) (h .1), point-exact u v (h .2) (h .3))
 
-  picked-line : (t u : Bool) → cond t (cond u (Bend c) (Box c w)) (Line a b) ≡ Line q r → (a ≡ q) × (b ≡ r)
-  picked-line true true e = absurd (let f : _≡_ {A = ℕ} 0 1 = cc in omega arith)
-  picked-line true false e = absurd (let f : _≡_ {A = ℕ} 0 1 = cc in omega arith)
-  picked-line false u e = (cc, cc)
+either-fits : (t via : Bool) (x : ℤ) (y w : ℕ) (m : WholeMark) → Fits (box x y w) → Fits m → Fits (cond t (cond via (bend x y) (box x y w)) m)
+either-fits true true x y w m h k = (h .0, h .1)
+either-fits true false x y w m h k = h
+either-fits false via x y w m h k = k
 
-pub mark-exact : (p : PlanData) (xs : List ℤ) (n : ℕ) → InReach (p .spacing) (p .sizes) xs → halfWidth p n < maxWhole → Exact p xs n
-unfolding markOf
-mark-exact p xs n h small =
-    let k = n - vertexCount p in
-    let c = pointAt p xs n in let a = pointAt p xs (upperEnd p k) in let b = pointAt p xs (lowerEnd p k) in
-    let w = wholeOf (halfWidth p n) in
-    let t = ltb n (vertexCount p) in let u = isVia p n in
-    record {
-      box = λ q z e. let i = picked-box c a b q q w z t u e in (rw (i .0) at (point-exact p xs h n), rw (i .1) at (whole-exact (halfWidth p n) small));
-      bend = λ q e. rw (picked-bend c a b q q w w t u e) at (point-exact p xs h n);
-      line = λ q r e. let i = picked-line c a b q r w w t u e in
-          (rw (i .0) at (point-exact p xs h (upperEnd p k)), rw (i .1) at (point-exact p xs h (lowerEnd p k)));
-    }
+-- those of a plan
+module _ (p : PlanData) (xs : List ℤ) (h : InReach (p .spacing) (p .sizes) xs) where
+  low : (v : ℕ) → depthOf p v ≤ maxWhole
+  unfolding heightOf levelOf
+  low v = omega (arith, height-low h v)
+
+  near : (v : ℕ) → natAbs (positionOf xs v) ≤ reach
+  near v = within-at xs v (h .within)
+
+  pub fits : (n : ℕ) → halfWidth p n ≤ maxWhole → Fits (wholeMarkOf p xs n)
+  unfolding wholeMarkOf
+  fits n w =
+      let k = n - vertexCount p in
+      let a = upperEnd p k in let b = lowerEnd p k in
+      either-fits (ltb n (vertexCount p)) (isVia p n) (positionOf xs n) (depthOf p n) (halfWidth p n) (segmentMark p xs k) (near n, low n, w) (near a, low a, near b, low b)
+
+  pub mark-exact : (n : ℕ) → halfWidth p n ≤ maxWhole → ExactMark (wholeMarkOf p xs n) (markOf p xs n)
+  unfolding markOf
+  mark-exact n w = in-f64-exact (wholeMarkOf p xs n) (fits n w)
+
+-- ---- five numbers
+whole-kind : (k : ℕ) → k ≤ 2 → IsWhole k (wholeOf k)
+whole-kind k h = whole-exact k (omega arith)
+
+pub five-exact : (w : WholeMark) (m : Mark) (more : List Float) → ExactMark w m → ExactFive w (fiveOf m ++ more)
+unfolding fiveOf
+five-exact (box x y w) (Box q z) more e = (whole-kind 0 (omega arith), e .0 .across, e .0 .down, e .1, whole-kind 0 (omega arith))
+five-exact (bend x y) (Bend q) more e = (whole-kind 1 (omega arith), e .across, e .down, whole-kind 0 (omega arith), whole-kind 0 (omega arith))
+five-exact (line x y u v) (Line q r) more e = (whole-kind 2 (omega arith), e .0 .across, e .0 .down, e .1 .across, e .1 .down)
+five-exact (box x y w) (Bend q) more e = absurd e
+five-exact (box x y w) (Line q r) more e = absurd e
+five-exact (bend x y) (Box q z) more e = absurd e
+five-exact (bend x y) (Line q r) more e = absurd e
+five-exact (line x y u v) (Box q z) more e = absurd e
+five-exact (line x y u v) (Bend q) more e = absurd e

@@ -1,5 +1,5 @@
 -- Bounds that the marks' numbers need, of a height and a position; and a plan's marks by its lists. Assumes nothing.
-use mathlib.Core.Path.{_≡_, sym, _∙_, ap}
+use mathlib.Core.Path.{_≡_, refl, sym, _∙_, ap}
 use mathlib.Core.Bool.{Bool, true, false, cond}
 use mathlib.Core.List.{List}
 use Prim.Native.Nat.{ℕ, _+_, _*_, _-_, _≤_, _<_}
@@ -16,8 +16,8 @@ use Rattle.plan_checks.specs.inner.Heights.{heightAt, HeightsOf}
 use Rattle.passes.specs.State.{positionOf}
 use Rattle.ints.specs.Reach.{reach, allWithin}
 use Rattle.marks.specs.declared.types.Mark.the-variants.{Box, Bend}
-use Rattle.marks.specs.Half.{wholeOf, maxWhole}
-use Rattle.marks.specs.Marks.{markOf, markCount}
+use Rattle.marks.specs.Half.{halfOf, wholeOf, maxWhole}
+use Rattle.marks.specs.Marks.{box, bend, pointOf, wholeMarkOf, inF64, markOf, markCount}
 use Rattle.marks.specs.inner.Asked.{pointIn, lineIn, DataOf, DataAt, AskedEach, InReach, AskedAll}
 
 pub height-low : {spacing : ℕ} {sizes : List ℕ} {xs : List ℤ} → InReach spacing sizes xs → (v : ℕ) → heightAt spacing sizes v < maxWhole
@@ -57,6 +57,10 @@ ends-stand h k l =
     (omega (arith, a .upper k l, a .positions), omega (arith, a .lower k (omega (arith, a .ends)), a .positions))
 
 -- ---- the n-th mark, by the plan's lists
+either-in-f64 : (via : Bool) (x : ℤ) (y w : ℕ) → inF64 (cond via (bend x y) (box x y w)) ≡ cond via (Bend (pointOf x y)) (Box (pointOf x y) (wholeOf w))
+either-in-f64 true x y w = refl
+either-in-f64 false x y w = refl
+
 module _ (p : PlanData) (heights : List ℕ) (vias : List Bool) (halves uppers lowers : List ℕ) (xs : List ℤ) (n : ℕ)
     (d : DataAt p heights vias halves uppers lowers) where
   abbrev e-vias : p .vias ≡ vias
@@ -68,12 +72,14 @@ module _ (p : PlanData) (heights : List ℕ) (vias : List Bool) (halves uppers l
 
   pub vertex-is : n < length vias → n < length heights
       → markOf p xs n ≡ cond (getD vias n false) (Bend (pointIn heights xs n)) (Box (pointIn heights xs n) (wholeOf (getD halves n 0)))
-  unfolding markOf heightOf levelOf
-  vertex-is h k = rw (e-vias, stands n k, ap (λ (q : PlanData). q .halves) (d .lists), lt-ltb n (length vias) h)
+  unfolding markOf wholeMarkOf heightOf levelOf
+  vertex-is h k =
+      rw (e-vias, stands n k, ap (λ (q : PlanData). q .halves) (d .lists), lt-ltb n (length vias) h)
+      (either-in-f64 (getD vias n false) (positionOf xs n) (getD heights n 0) (getD halves n 0))
 
   pub segment-is : (k : ℕ) → k ≡ n - length vias → length vias ≤ n → getD uppers k 0 < length heights → getD lowers k 0 < length heights
       → markOf p xs n ≡ lineIn heights xs (getD uppers k 0) (getD lowers k 0)
-  unfolding markOf heightOf levelOf
+  unfolding markOf wholeMarkOf heightOf levelOf halfOf wholeOf
   segment-is k e h a b =
       rw (
         e-vias,

@@ -14,9 +14,9 @@ use Rattle.preliminary.proofs.Positions.{preliminary-length, preliminary-size}
 use Rattle.passes.specs.State.{doubledIn, startAt}
 use Rattle.passes.specs.Drawing.{listed}
 use Rattle.passes.specs.Words.{boxesListed}
-use Rattle.pass_laws.proofs.Sound.{sound}
-use Rattle.pass_laws.proofs.Sums.{start-small}
-use Rattle.pass_laws.specs.inner.Schedule.{visitAll}
+use Rattle.passes.proofs.Sound.{sound}
+use Rattle.passes.proofs.Sums.{start-small}
+use Rattle.passes.specs.inner.Schedule.{visitAll}
 use Rattle.pass_tables.specs.inner.Tables.{levelwise, startsLoose, Measured}
 use Rattle.pass_tables.proofs.StartMarks.{marks-length, start-unsettled}
 use Rattle.pass_list.specs.inner.Listing.{Columns}

@@ -12,9 +12,9 @@ use Rattle.plan.specs.Acceptable.{acceptable}
 use Rattle.passes.specs.State.{State}
 use Rattle.passes.specs.Drawing.{Placing, drawingOf, listed}
 use Rattle.passes.specs.Words.{boxesListed}
-use Rattle.pass_laws.proofs.Sound.{sound}
-use Rattle.pass_laws.specs.inner.Schedule.{start, Visit, passVisits, firstPass, secondPass, thirdPass, schedule}
-use Rattle.pass_laws.proofs.Schedule.{three-is}
+use Rattle.passes.proofs.Sound.{sound}
+use Rattle.passes.specs.inner.Schedule.{start, Visit, passVisits, firstPass, secondPass, thirdPass, schedule}
+use Rattle.passes.proofs.Schedule.{three-is}
 use Rattle.plan.proofs.HeldLaws.{bounds as proper}
 use Rattle.pass_tables.specs.inner.Moments.{stateAfter, Held, AtPass}
 use Rattle.pass_neighbours.specs.inner.Order.{inTurn}

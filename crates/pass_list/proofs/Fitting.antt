@@ -10,12 +10,12 @@ use Rattle.plan.specs.Acceptable.{acceptable}
 use Rattle.passes.specs.State.{State}
 use Rattle.passes.specs.Drawing.{Placing, listed}
 use Rattle.passes.specs.Words.{boxesListed, maxListed}
-use Rattle.pass_laws.proofs.Sound.{sound}
-use Rattle.pass_laws.proofs.Kept.{kept}
-use Rattle.pass_laws.specs.inner.Schedule.{Visit, visitAll, schedule, start}
-use Rattle.pass_laws.proofs.Schedule.{visit-append}
-use Rattle.pass_laws.proofs.Moments.{grown-all, final}
-use Rattle.pass_laws.proofs.Listed.{final-load, listed-boxes, listed-count}
+use Rattle.passes.proofs.Sound.{sound}
+use Rattle.passes.proofs.Kept.{kept}
+use Rattle.passes.specs.inner.Schedule.{Visit, visitAll, schedule, start}
+use Rattle.passes.proofs.Schedule.{visit-append}
+use Rattle.passes.proofs.Moments.{grown-all, final}
+use Rattle.passes.proofs.Listed.{final-load, listed-boxes, listed-count}
 use Rattle.pass_tables.specs.inner.Moments.{stateAfter}
 use Rattle.pass_list.proofs.Added.{boxes-append}
 use Rattle.pass_list.proofs.Steps.{listed-append}

@@ -19,10 +19,10 @@ use Rattle.passes.specs.Stored.{padded}
 use Rattle.plan.proofs.All.{All, all-right, all-head}
 use Rattle.plan.specs.inner.Levels.{firstOn, sizeOn}
 use Rattle.plan.proofs.Levels.{level-within}
-use Rattle.pass_laws.proofs.Sound.{Sound, sound}
-use Rattle.pass_laws.specs.inner.Runs.{IsRun}
-use Rattle.pass_laws.proofs.RunsOn.{runs-are}
-use Rattle.pass_laws.proofs.Trace.{stepOf}
+use Rattle.passes.proofs.Sound.{Sound, sound}
+use Rattle.passes.specs.inner.Runs.{IsRun}
+use Rattle.passes.proofs.RunsOn.{runs-are}
+use Rattle.passes.proofs.Trace.{stepOf}
 use Rattle.pass_tables.specs.inner.Tables.{along, nextVia}
 use Rattle.pass_tables.proofs.LevelLaws.{map-along}
 use Rattle.pass_tables.specs.inner.Moments.{RunIs}

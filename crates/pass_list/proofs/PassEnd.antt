@@ -14,16 +14,16 @@ use Rattle.passes.specs.Ready.{isSettled, isReady}
 use Rattle.passes.specs.Passes.{placed, after, isDue, visit}
 use Rattle.passes.specs.Drawing.{BoxAt, Placing, boxesWith, listedBefore, listed}
 use Rattle.plan.proofs.All.{All, all-nil, all-cons, all-left, all-right, all-head, all-tail}
-use Rattle.pass_laws.proofs.Sound.{Sound}
-use Rattle.pass_laws.specs.inner.Runs.{IsRun}
-use Rattle.pass_laws.proofs.RunsOn.{bounds}
-use Rattle.pass_laws.proofs.Put.{map-put}
-use Rattle.pass_laws.proofs.Placing.{placed-length}
-use Rattle.pass_laws.proofs.Schedule.{ToRuns, visit-append, Other, Once}
-use Rattle.pass_laws.specs.inner.Schedule.{Visit, visitOf, visitAll, passVisits}
-use Rattle.pass_laws.proofs.Trace.{stepOf, Reached, reached-visit, reached-all}
-use Rattle.pass_laws.proofs.Counts.{settled-placed, visit-own}
-use Rattle.pass_laws.proofs.Frame.{other-box, box-still, visit-keeps}
+use Rattle.passes.proofs.Sound.{Sound}
+use Rattle.passes.specs.inner.Runs.{IsRun}
+use Rattle.passes.proofs.RunsOn.{bounds}
+use Rattle.passes.proofs.Put.{map-put}
+use Rattle.passes.proofs.Placing.{placed-length}
+use Rattle.passes.proofs.Schedule.{ToRuns, visit-append, Other, Once}
+use Rattle.passes.specs.inner.Schedule.{Visit, visitOf, visitAll, passVisits}
+use Rattle.passes.proofs.Trace.{stepOf, Reached, reached-visit, reached-all}
+use Rattle.passes.proofs.Counts.{settled-placed, visit-own}
+use Rattle.passes.proofs.Frame.{other-box, box-still, visit-keeps}
 use Rattle.pass_tables.proofs.Settle.{itself, settled-other}
 use Rattle.pass_list.proofs.Steps.{listed-append}
 use Rattle.pass_list.specs.inner.PassList.{wasPlaced, placingAt, passList}

@@ -15,14 +15,14 @@ use Rattle.passes.specs.Ready.{isSettled}
 use Rattle.passes.specs.Drawing.{Placing, listed}
 use Rattle.passes.specs.Words.{boxesListed}
 use Rattle.plan.proofs.All.{All, all-nil, all-cons, all-left, all-right}
-use Rattle.pass_laws.proofs.Sound.{Sound, sound}
-use Rattle.pass_laws.proofs.Kept.{kept}
-use Rattle.pass_laws.specs.inner.Runs.{IsRun}
-use Rattle.pass_laws.proofs.RunsOn.{bounds}
-use Rattle.pass_laws.proofs.Edges.{left-at}
-use Rattle.pass_laws.proofs.Schedule.{ToRuns, visit-append, schedule-runs, Once, once-first, once-second, once-third}
-use Rattle.pass_laws.specs.inner.Schedule.{Visit, visitOf, visitAll, passVisits, firstPass, secondPass, thirdPass, start}
-use Rattle.pass_laws.proofs.Trace.{Reached, reached-all, reached-start}
+use Rattle.passes.proofs.Sound.{Sound, sound}
+use Rattle.passes.proofs.Kept.{kept}
+use Rattle.passes.specs.inner.Runs.{IsRun}
+use Rattle.passes.proofs.RunsOn.{bounds}
+use Rattle.passes.proofs.Edges.{left-at}
+use Rattle.passes.proofs.Schedule.{ToRuns, visit-append, schedule-runs, Once, once-first, once-second, once-third}
+use Rattle.passes.specs.inner.Schedule.{Visit, visitOf, visitAll, passVisits, firstPass, secondPass, thirdPass, start}
+use Rattle.passes.proofs.Trace.{Reached, reached-all, reached-start}
 use Rattle.pass_tables.specs.inner.Moments.{stateAfter, Held}
 use Rattle.pass_list.proofs.Added.{boxes-append}
 use Rattle.pass_list.proofs.Fitting.{few-boxes, few-placings}

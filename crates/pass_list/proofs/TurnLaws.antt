@@ -12,7 +12,7 @@ use Rattle.passes.specs.Runs.{Run, runsOn, runsOfLevels}
 use Rattle.passes.specs.Drawing.{Placing}
 use Rattle.passes.specs.Words.{boxesListed}
 use Rattle.plan.specs.inner.Levels.{firstOn}
-use Rattle.pass_laws.proofs.Sound.{sound}
+use Rattle.passes.proofs.Sound.{sound}
 use Rattle.pass_tables.proofs.JoinedLevels.{first-next}
 use Rattle.pass_list.proofs.Added.{boxes-append}
 use Rattle.pass_neighbours.specs.inner.Order.{inTurn, turnOf}

@@ -11,7 +11,7 @@ use lib.Seq.{getD-set-same, getD-set-other}
 use Rattle.ints.specs.Lists.{sum}
 use Rattle.plan.specs.Plan.{PlanData, numbers}
 use Rattle.plan.proofs.CountLaws.{by-same}
-use Rattle.pass_laws.proofs.Sound.{Sound}
+use Rattle.passes.proofs.Sound.{Sound}
 use Rattle.plan.specs.inner.Levels.{firstOn}
 use Rattle.plan.proofs.Levels.{numbers-snoc, length-numbers}
 use Rattle.pass_neighbours.specs.inner.Order.{inTurn, turnOf, Starts}

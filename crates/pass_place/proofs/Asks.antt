@@ -17,24 +17,25 @@ use Rattle.plan.proofs.Sound.{sound as sound-plan}
 use Rattle.passes.specs.State.{State, positionOf}
 use Rattle.passes.specs.Passes.{boundAt, distanceFrom, boxesAt, placed}
 use Rattle.plan.proofs.All.{All}
-use Rattle.pass_laws.proofs.Sound.{Sound, sound}
+use Rattle.passes.proofs.Sound.{Sound, sound}
 use Rattle.plan.specs.inner.Levels.{firstOn, sizeOn}
-use Rattle.pass_laws.specs.inner.Runs.{IsRun, Bounds}
-use Rattle.pass_laws.proofs.RunsOn.{bounds}
-use Rattle.pass_laws.proofs.Spaced.{possible}
-use Rattle.pass_laws.proofs.Invariant.{Inv, near-order}
-use Rattle.pass_laws.proofs.Placing.{side-of, stands, boxes-within}
-use Rattle.pass_laws.specs.inner.Schedule.{Visit, schedule}
+use Rattle.passes.specs.inner.Runs.{IsRun, Bounds}
+use Rattle.passes.proofs.RunsOn.{bounds}
+use Rattle.passes.proofs.Spaced.{possible}
+use Rattle.passes.proofs.Invariant.{Inv, near-order}
+use Rattle.passes.proofs.Placing.{side-of, stands, boxes-within}
+use Rattle.passes.specs.inner.Schedule.{Visit, schedule}
 use Rattle.pass_tables.proofs.LevelLaws.{along-length}
 use Rattle.ints.specs.Reach.{isWithin}
 use Rattle.run.specs.Call.{Request, boxesOf, memberOf, leftDistance, allDistances, isSmall, isFitting, isInReach, isSound, isTaken, placedOf}
+use Rattle.run.proofs.WhenRefused.{taken-row}
 use Rattle.pass_tables.specs.inner.Moments.{stateAfter, RunIs, Neighbouring}
 use Rattle.pass_place.specs.inner.Asked.{leftOf, rightOf, part, countsOf, nearOf, asked}
 use Rattle.pass_place.proofs.Reach.{past-runs, past-reached, past-lies}
 use Rattle.pass_place.proofs.LevelEnds.{last-none}
 use Rattle.pass_place.proofs.Boxes.{near-is, counts-are, rows-rise, rows-inside, sum-rows, boxes-are}
 use Rattle.pass_place.proofs.Sides.{LeftIs, left-is, RightIs, right-is, right-last}
-use Rattle.pass_laws.proofs.DrawingWithin.{within-lies}
+use Rattle.passes.proofs.DrawingWithin.{within-lies}
 use Rattle.pass_place.proofs.Tests.{part-within, map-within, all-distances}
 
 five : (a b c d e : Bool) → a ≡ true → b ≡ true → c ≡ true → d ≡ true → e ≡ true → a && b && c && d && e ≡ true
@@ -141,8 +142,7 @@ module _ (p : PlanData) (ok : acceptable p ≡ true) (past : List Visit) (w : Vi
           (possible (boundAt (s .at) (w .run .left)) (distanceFrom (s .apart) (w .run .left)) (boxesAt p (w .pass) s (w .run .boxes)) (boundAt (s .at) (w .run .right)) (map (positionOf (s .at)) (w .run .boxes)) (stands so inv i (w .pass))))
 
       pub is-taken : (zs : List ℤ) → length zs ≡ end - from → isTaken request zs ≡ true
-      unfolding isTaken
-      is-taken zs e = _and_ (_and_ (_and_ small fitting) in-reach) sound-request
+      is-taken zs e = taken-row request zs ∙ _and_ (_and_ (_and_ small fitting) in-reach) sound-request
         where
           small : isSmall request ≡ true
           small = _and_ (le-leb (length (part from end (s .at))) 64 (omega (arith, old-long, few))) (le-leb (sum (countsOf first from (end - from))) 2048 (omega (arith, counts-sum, many)))

@@ -12,12 +12,12 @@ use Rattle.passes.specs.Passes.{placed, visit}
 use Rattle.plan.proofs.All.{all-nil, all-cons}
 use Rattle.plan.specs.inner.Levels.{firstOn, sizeOn}
 use Rattle.plan.proofs.Levels.{level-on}
-use Rattle.pass_laws.specs.inner.Runs.{IsRun}
-use Rattle.pass_laws.proofs.RunsOn.{bounds}
-use Rattle.pass_laws.proofs.Schedule.{ToRuns}
-use Rattle.pass_laws.specs.inner.Schedule.{Visit, visitAll, start}
-use Rattle.pass_laws.proofs.Trace.{length-doubled}
-use Rattle.pass_laws.proofs.Frame.{pair-still, visit-keeps}
+use Rattle.passes.specs.inner.Runs.{IsRun}
+use Rattle.passes.proofs.RunsOn.{bounds}
+use Rattle.passes.proofs.Schedule.{ToRuns}
+use Rattle.passes.specs.inner.Schedule.{Visit, visitAll, start}
+use Rattle.passes.proofs.Trace.{length-doubled}
+use Rattle.passes.proofs.Frame.{pair-still, visit-keeps}
 
 doubled-last : (p : PlanData) (v n i : ℕ) → suc i ≡ n → getD (doubledOn p (numbers v n)) i 0 ≡ 0
 unfolding doubledOn numbers

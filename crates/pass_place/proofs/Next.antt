@@ -12,14 +12,14 @@ use Rattle.plan.specs.Plan.{PlanData, vertexCount, numbers}
 use Rattle.passes.specs.Runs.{members, isOpen}
 use Rattle.passes.specs.State.{State, positionOf, put, takeOn}
 use Rattle.passes.specs.Passes.{placed, after, visit}
-use Rattle.pass_laws.proofs.Sound.{Sound, sound}
+use Rattle.passes.proofs.Sound.{Sound, sound}
 use Rattle.plan.proofs.Levels.{level-within}
-use Rattle.pass_laws.specs.inner.Runs.{IsRun}
-use Rattle.pass_laws.proofs.RunsOn.{bounds, members-are}
-use Rattle.pass_laws.proofs.Invariant.{Inv}
-use Rattle.pass_laws.proofs.Placing.{side-of}
-use Rattle.pass_laws.specs.inner.Schedule.{Visit, visitAll, schedule, start}
-use Rattle.pass_laws.proofs.Schedule.{visit-append}
+use Rattle.passes.specs.inner.Runs.{IsRun}
+use Rattle.passes.proofs.RunsOn.{bounds, members-are}
+use Rattle.passes.proofs.Invariant.{Inv}
+use Rattle.passes.proofs.Placing.{side-of}
+use Rattle.passes.specs.inner.Schedule.{Visit, visitAll, schedule, start}
+use Rattle.passes.proofs.Schedule.{visit-append}
 use Rattle.run.specs.Call.{isTaken, placedOf}
 use Rattle.pass_tables.specs.inner.Moments.{stateAfter, AtVisit, Placing}
 use Rattle.pass_place.specs.inner.Asked.{lowOf, highOf, leftOf, rightOf, part, asked, takenOn, Rowed, Standing}

@@ -13,15 +13,15 @@ use Rattle.preliminary.proofs.Positions.{preliminary-size}
 use Rattle.passes.specs.State.{Step, State, positionOf, put}
 use Rattle.passes.specs.Words.{runOf, replay}
 use Rattle.plan.proofs.All.{All, all-nil, all-cons, all-left}
-use Rattle.pass_laws.proofs.Sound.{sound}
-use Rattle.pass_laws.proofs.Kept.{kept}
-use Rattle.pass_laws.proofs.Schedule.{ToRuns, visit-append, schedule-runs}
-use Rattle.pass_laws.specs.inner.Schedule.{Visit, visitAll, schedule, start}
-use Rattle.pass_laws.proofs.Trace.{Reached, reached-all, reached-start}
-use Rattle.pass_laws.proofs.Moments.{grown-all}
-use Rattle.pass_laws.proofs.Reach.{Lies}
-use Rattle.pass_laws.proofs.Growth.{LiesAt}
-use Rattle.pass_laws.proofs.DrawingWithin.{final-lies}
+use Rattle.passes.proofs.Sound.{sound}
+use Rattle.passes.proofs.Kept.{kept}
+use Rattle.passes.proofs.Schedule.{ToRuns, visit-append, schedule-runs}
+use Rattle.passes.specs.inner.Schedule.{Visit, visitAll, schedule, start}
+use Rattle.passes.proofs.Trace.{Reached, reached-all, reached-start}
+use Rattle.passes.proofs.Moments.{grown-all}
+use Rattle.passes.proofs.Reach.{Lies}
+use Rattle.passes.proofs.Growth.{LiesAt}
+use Rattle.passes.proofs.DrawingWithin.{final-lies}
 use Rattle.pass_tables.specs.inner.Moments.{stateAfter}
 
 module _ {M : ℕ} where

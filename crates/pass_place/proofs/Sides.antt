@@ -13,7 +13,7 @@ use Rattle.plan.specs.Plan.{PlanData}
 use Rattle.passes.specs.Runs.{bothVias}
 use Rattle.passes.specs.State.{positionOf}
 use Rattle.passes.specs.Passes.{boundAt, distanceFrom}
-use Rattle.pass_laws.specs.inner.Runs.{LeftEnd, no-left, via-left, RightEnd, no-right, via-right}
+use Rattle.passes.specs.inner.Runs.{LeftEnd, no-left, via-left, RightEnd, no-right, via-right}
 use Rattle.ints.specs.Reach.{isWithin, allWithin}
 use Rattle.run.specs.Call.{limitOf, memberOf, positionsOf, leftDistance, otherDistances}
 use Rattle.pass_place.specs.inner.Asked.{lowOf, highOf, leftOf, rightOf}

@@ -14,10 +14,10 @@ use Rattle.passes.specs.State.{State}
 use Rattle.passes.specs.Ready.{isSettled, isReady}
 use Rattle.passes.specs.Passes.{isDue}
 use Rattle.plan.proofs.Levels.{level-within}
-use Rattle.pass_laws.proofs.Sound.{Sound}
-use Rattle.pass_laws.specs.inner.Runs.{LeftEnd, no-left, via-left, RightEnd, no-right, via-right, IsRun}
-use Rattle.pass_laws.proofs.RunsOn.{bounds}
-use Rattle.pass_laws.proofs.Counts.{due-open}
+use Rattle.passes.proofs.Sound.{Sound}
+use Rattle.passes.specs.inner.Runs.{LeftEnd, no-left, via-left, RightEnd, no-right, via-right, IsRun}
+use Rattle.passes.proofs.RunsOn.{bounds}
+use Rattle.passes.proofs.Counts.{due-open}
 use Rattle.pass_tables.specs.inner.Moments.{RunIs, Unsettled}
 
 pub and-no : (t : Bool) → t && false ≡ false

@@ -20,9 +20,9 @@ use Rattle.ints.proofs.Tests.{_and_}
 use Rattle.passes.specs.Ready.{preceding, firstVia, joinedVia}
 use Rattle.plan.specs.inner.Levels.{firstOn, sizeOn, On, HasLevel}
 use Rattle.plan.proofs.Levels.{level-on, has-level}
-use Rattle.pass_laws.proofs.Sound.{sound, via-vertex}
-use Rattle.pass_laws.proofs.Options.{never}
-use Rattle.pass_laws.proofs.Tally.{take-more}
+use Rattle.passes.proofs.Sound.{sound, via-vertex}
+use Rattle.passes.proofs.Options.{never}
+use Rattle.passes.proofs.Tally.{take-more}
 use Rattle.pass_tables.proofs.RunEnds.{same-some}
 use Rattle.pass_tables.specs.inner.Moments.{Range}
 

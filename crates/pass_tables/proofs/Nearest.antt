@@ -10,7 +10,7 @@ use Rattle.ints.proofs.Laws.{if-ind, cases}
 use Rattle.plan.specs.Plan.{PlanData, isVia, numbers}
 use Rattle.plan.proofs.CountLaws.{by-same}
 use Rattle.passes.specs.Ready.{preceding, firstVia, joinedVia, nearestLeft, nearestRight, orElse as orOther}
-use Rattle.pass_laws.proofs.Sound.{Sound, via-vertex}
+use Rattle.passes.proofs.Sound.{Sound, via-vertex}
 use Rattle.pass_tables.proofs.JoinLaws.{last-none}
 use Rattle.pass_tables.specs.inner.Joins.{orNone, orElse, lastIn, firstIn}
 

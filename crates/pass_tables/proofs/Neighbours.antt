@@ -16,7 +16,7 @@ use Rattle.plan.specs.Segments.{segmentsFrom, segmentsOf, aboveIn, belowIn, abo
 use Rattle.plan.specs.inner.Graph.{countOf}
 use Rattle.plan.proofs.CountLaws.{by-same, count-same, count-other, count-none}
 use Rattle.passes.specs.Ready.{preceding, firstVia, joinedVia}
-use Rattle.pass_laws.proofs.Sound.{Sound}
+use Rattle.passes.proofs.Sound.{Sound}
 use Rattle.pass_tables.specs.inner.Tables.{pickedBy, Rows}
 use Rattle.pass_tables.specs.inner.Joins.{Preceding, orNone, joinedAt}
 

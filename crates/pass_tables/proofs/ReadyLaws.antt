@@ -22,11 +22,11 @@ use Rattle.passes.specs.Ready.{joinedVia, orElse, nearestLeft, nearestRight, se
 use Rattle.plan.proofs.All.{no-true}
 use Rattle.plan.specs.inner.Levels.{firstOn, sizeOn, On}
 use Rattle.plan.proofs.Levels.{level-is, level-on, level-within}
-use Rattle.pass_laws.proofs.Sound.{Sound, sound, via-vertex}
-use Rattle.pass_laws.specs.inner.Runs.{IsRun}
-use Rattle.pass_laws.proofs.RunsOn.{left-via, right-via}
-use Rattle.pass_laws.proofs.Edges.{left-at, right-at}
-use Rattle.pass_laws.proofs.Options.{or-cases, never}
+use Rattle.passes.proofs.Sound.{Sound, sound, via-vertex}
+use Rattle.passes.specs.inner.Runs.{IsRun}
+use Rattle.passes.proofs.RunsOn.{left-via, right-via}
+use Rattle.passes.proofs.Edges.{left-at, right-at}
+use Rattle.passes.proofs.Options.{or-cases, never}
 use Rattle.pass_tables.specs.inner.Joins.{noVertex, joinedAt, markedIn, readyBy, orNone}
 use Rattle.pass_tables.proofs.Neighbours.{joined-is}
 use Rattle.pass_tables.proofs.Nearest.{left-is, right-is}

@@ -12,9 +12,9 @@ use Rattle.passes.specs.Runs.{Run, noRun, runAt, runsOn}
 use Rattle.plan.proofs.All.{no-true}
 use Rattle.plan.specs.inner.Levels.{firstOn, On}
 use Rattle.plan.proofs.Levels.{level-on}
-use Rattle.pass_laws.proofs.RunsOn.{RunsTo, last, next, bounds, level-runs, run-at, run-level}
-use Rattle.pass_laws.specs.inner.Runs.{IsRun, viasIn}
-use Rattle.pass_laws.proofs.Edges.{left-at, right-at}
+use Rattle.passes.proofs.RunsOn.{RunsTo, last, next, bounds, level-runs, run-at, run-level}
+use Rattle.passes.specs.inner.Runs.{IsRun, viasIn}
+use Rattle.passes.proofs.Edges.{left-at, right-at}
 
 pub same-some : (a b : ℕ) → some a ≡ some b → a ≡ b
 same-some a b e = cc

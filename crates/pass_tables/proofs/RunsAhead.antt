@@ -13,8 +13,8 @@ use Rattle.passes.specs.Runs.{Run, run, runsOn}
 use Rattle.plan.proofs.All.{no-true}
 use Rattle.plan.specs.inner.Levels.{firstOn, sizeOn}
 use Rattle.plan.proofs.Levels.{length-numbers}
-use Rattle.pass_laws.specs.inner.Runs.{LeftEnd, no-left, via-left, IsRun}
-use Rattle.pass_laws.proofs.RunsOn.{RunsTo, last, next, level-runs}
+use Rattle.passes.specs.inner.Runs.{LeftEnd, no-left, via-left, IsRun}
+use Rattle.passes.proofs.RunsOn.{RunsTo, last, next, level-runs}
 use Rattle.pass_tables.specs.inner.Tables.{nextVia}
 use Rattle.pass_tables.proofs.RunLaws.{next as next-via}
 use Rattle.pass_tables.specs.inner.Moments.{RunIs}

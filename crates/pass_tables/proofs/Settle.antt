@@ -20,16 +20,16 @@ use Rattle.passes.specs.State.{State}
 use Rattle.passes.specs.Ready.{hasNoSlack, places, isSettled}
 use Rattle.passes.specs.Passes.{placed, after, isDue, visit}
 use Rattle.plan.proofs.All.{all-left, all-right, all-head, no-true}
-use Rattle.pass_laws.proofs.Sound.{Sound, sound}
-use Rattle.pass_laws.proofs.Kept.{kept}
-use Rattle.pass_laws.specs.inner.Runs.{IsRun}
-use Rattle.pass_laws.proofs.RunsOn.{bounds}
-use Rattle.pass_laws.proofs.Edges.{left-at}
-use Rattle.pass_laws.proofs.Schedule.{ToRuns, visit-append, schedule-runs, Differ}
-use Rattle.pass_laws.specs.inner.Schedule.{Visit, visitAll, schedule, start}
-use Rattle.pass_laws.proofs.Trace.{stepOf, Reached, reached-visit, reached-all, reached-start}
-use Rattle.pass_laws.proofs.Counts.{slack-still, settled-placed, visit-own}
-use Rattle.pass_laws.proofs.Distances.{same-or-other}
+use Rattle.passes.proofs.Sound.{Sound, sound}
+use Rattle.passes.proofs.Kept.{kept}
+use Rattle.passes.specs.inner.Runs.{IsRun}
+use Rattle.passes.proofs.RunsOn.{bounds}
+use Rattle.passes.proofs.Edges.{left-at}
+use Rattle.passes.proofs.Schedule.{ToRuns, visit-append, schedule-runs, Differ}
+use Rattle.passes.specs.inner.Schedule.{Visit, visitAll, schedule, start}
+use Rattle.passes.proofs.Trace.{stepOf, Reached, reached-visit, reached-all, reached-start}
+use Rattle.passes.proofs.Counts.{slack-still, settled-placed, visit-own}
+use Rattle.passes.proofs.Distances.{same-or-other}
 use Rattle.pass_tables.specs.inner.Moments.{stateAfter, Held, BoundedAt, Unsettled}
 use Rattle.pass_tables.proofs.RunEnds.{same-some, left-on, one-right}
 

@@ -19,9 +19,9 @@ use Rattle.passes.specs.Ready.{isSettled, liesBetween, settledBetween}
 use Rattle.plan.proofs.All.{all-map, all-get, every-all, all-every, no-true}
 use Rattle.plan.specs.inner.Levels.{On}
 use Rattle.plan.proofs.Levels.{level-on}
-use Rattle.pass_laws.specs.inner.Runs.{IsRun}
-use Rattle.pass_laws.proofs.RunsOn.{bounds, runs-are}
-use Rattle.pass_laws.proofs.Edges.{left-at, right-at}
+use Rattle.passes.specs.inner.Runs.{IsRun}
+use Rattle.passes.proofs.RunsOn.{bounds, runs-are}
+use Rattle.passes.proofs.Edges.{left-at, right-at}
 use Rattle.pass_tables.specs.inner.Moments.{Unsettled}
 
 record Lies (u w : ℕ) (a b : Option ℕ) : Type 0 where

@@ -21,12 +21,12 @@ use Rattle.passes.specs.Ready.{equals, doubledSpan, exactlyApart, hasNoSlack, i
 use Rattle.plan.proofs.All.{no-true, cond-both}
 use Rattle.plan.specs.inner.Levels.{firstOn, sizeOn, On}
 use Rattle.plan.proofs.Levels.{has-level}
-use Rattle.pass_laws.proofs.Sound.{sound}
-use Rattle.pass_laws.specs.inner.Runs.{RightEnd, no-right, via-right, IsRun}
-use Rattle.pass_laws.proofs.RunsOn.{bounds, members-are, left-via, right-via}
-use Rattle.pass_laws.proofs.Edges.{left-at, right-at}
-use Rattle.pass_laws.specs.inner.Schedule.{start}
-use Rattle.pass_laws.proofs.Trace.{start-apart}
+use Rattle.passes.proofs.Sound.{sound}
+use Rattle.passes.specs.inner.Runs.{RightEnd, no-right, via-right, IsRun}
+use Rattle.passes.proofs.RunsOn.{bounds, members-are, left-via, right-via}
+use Rattle.passes.proofs.Edges.{left-at, right-at}
+use Rattle.passes.specs.inner.Schedule.{start}
+use Rattle.passes.proofs.Trace.{start-apart}
 use Rattle.pass_tables.specs.inner.Tables.{total, nextVia, isLoose, looseFrom, startsLoose, along, levelwise}
 use Rattle.pass_tables.proofs.LevelLaws.{along-length, levelwise-get}
 use Rattle.pass_tables.proofs.RowLaws.{total-same}

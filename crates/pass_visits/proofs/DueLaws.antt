@@ -11,8 +11,8 @@ use Rattle.plan.specs.Plan.{PlanData}
 use Rattle.plan.proofs.CountLaws.{by-same}
 use Rattle.passes.specs.Ready.{isReady}
 use Rattle.passes.specs.Passes.{isDue}
-use Rattle.pass_laws.proofs.Sound.{sound}
-use Rattle.pass_laws.specs.inner.Schedule.{Visit}
+use Rattle.passes.proofs.Sound.{sound}
+use Rattle.passes.specs.inner.Schedule.{Visit}
 use Rattle.pass_tables.specs.inner.Joins.{Readable, readyBy}
 use Rattle.pass_tables.specs.inner.Moments.{stateAfter, AtVisit}
 use Rattle.pass_tables.proofs.Due.{InOrder, left-none, left-some, right-none, right-some, in-order, due-left, due-right, due-third, due-ready}

@@ -7,7 +7,7 @@ use native.Mathlib.Omega.{arith}
 use lib.ListN.{length, getD}
 use Rattle.plan.specs.Plan.{PlanData}
 use Rattle.plan.proofs.Levels.{level-within}
-use Rattle.pass_laws.proofs.Sound.{Sound, sound}
+use Rattle.passes.proofs.Sound.{Sound, sound}
 use Rattle.pass_tables.specs.inner.Joins.{Joinable, joinedAt, lastIn, firstIn, markedIn}
 use Rattle.pass_tables.proofs.Near.{joinable}
 use Rattle.pass_tables.specs.inner.Moments.{AtLevel}

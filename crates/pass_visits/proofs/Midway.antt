@@ -11,10 +11,10 @@ use Rattle.passes.specs.Runs.{Run, runsOn}
 use Rattle.plan.proofs.All.{All, all-right, all-head}
 use Rattle.plan.specs.inner.Levels.{firstOn, sizeOn}
 use Rattle.plan.proofs.Levels.{level-within}
-use Rattle.pass_laws.proofs.Sound.{sound}
-use Rattle.pass_laws.specs.inner.Runs.{IsRun}
-use Rattle.pass_laws.proofs.RunsOn.{runs-are}
-use Rattle.pass_laws.specs.inner.Schedule.{Visit, visitOf}
+use Rattle.passes.proofs.Sound.{sound}
+use Rattle.passes.specs.inner.Runs.{IsRun}
+use Rattle.passes.proofs.RunsOn.{runs-are}
+use Rattle.passes.specs.inner.Schedule.{Visit, visitOf}
 use Rattle.pass_tables.specs.inner.Tables.{nextVia}
 use Rattle.pass_tables.specs.inner.Moments.{Held, RunIs, Tables, AtVisit, AtLevel}
 use Rattle.pass_visits.specs.inner.Visits.{Work, worked, Visiting, Visited, Levelling, LevelDone}

@@ -14,8 +14,8 @@ use Rattle.plan.proofs.CountLaws.{by-same}
 use Rattle.passes.specs.Runs.{runsOn}
 use Rattle.plan.specs.inner.Levels.{firstOn, sizeOn}
 use Rattle.plan.proofs.Levels.{level-within}
-use Rattle.pass_laws.proofs.Sound.{Sound, sound}
-use Rattle.pass_laws.specs.inner.Schedule.{Visit, visitOf, passVisits}
+use Rattle.passes.proofs.Sound.{Sound, sound}
+use Rattle.passes.specs.inner.Schedule.{Visit, visitOf, passVisits}
 use Rattle.pass_tables.specs.inner.Moments.{Held, Range, AtLevel, AtPass}
 use Rattle.pass_visits.specs.inner.Visits.{LevelDone}
 use Rattle.pass_visits.specs.inner.Passing.{PassWork, passWork, LevelNext, PassNext, PassDone}

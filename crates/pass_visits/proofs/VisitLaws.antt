@@ -10,7 +10,7 @@ use lib.ListN.{length, set, length-set}
 use lib.IntN.{ℤ}
 use Rattle.ints.proofs.Laws.{cases}
 use Rattle.plan.specs.Plan.{PlanData}
-use Rattle.pass_laws.specs.inner.Schedule.{Visit}
+use Rattle.passes.specs.inner.Schedule.{Visit}
 use Rattle.pass_tables.specs.inner.Moments.{stateAfter, Neighbouring, Tables, AtVisit, Placing, Unsettled}
 use Rattle.pass_tables.proofs.RunEnds.{left-on}
 use Rattle.pass_tables.proofs.Due.{and-no, left-none, left-some, right-none, open-left, open-right}

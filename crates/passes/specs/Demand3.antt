@@ -5,7 +5,7 @@ use mathlib.Core.List.{List}
 use Prim.Native.Nat.{ℕ, _≤_, _<_}
 use lib.ListN.{length}
 use lib.IntN.{ℤ}
-use Rattle.plan.specs.Plan.{PlanData}
+use Rattle.plan.specs.Plan.{PlanData, vertexCount}
 use Rattle.preliminary.specs.Positions.{preliminary}
 use Rattle.passes.specs.Runs.{isBounded}
 use Rattle.passes.specs.State.{Step}
@@ -31,6 +31,9 @@ pub record Demand3 (p : PlanData) (d : Drawing) : Type 0 where
   pub started : d .preliminary ≡ preliminary p
   pub made : d .placings ≡ listed p (traceOf p)
   pub ended : d .final ≡ finished p (traceOf p)
+  -- Each vertex has a preliminary position and a final one.
+  pub starts : length (d .preliminary) ≡ vertexCount p
+  pub ends : length (d .final) ≡ vertexCount p
   -- "Every level keeps its order and distances."
   pub order : keepsOrder p (d .final) ≡ true
   -- "Every inner stretch is upright,

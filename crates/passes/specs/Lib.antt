@@ -6,3 +6,4 @@ pub mod Drawing
 pub mod Words
 pub mod Demand3
 pub mod Stored
+pub mod inner

@@ -1,1 +1,4 @@
+pub mod RefusalLaws
+pub mod TakenLaws
 pub mod Taken
+pub mod Placed

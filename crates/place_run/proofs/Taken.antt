@@ -22,12 +22,14 @@ use Rattle.run.specs.declared.types.Bound.{Bound}
 use Rattle.run.specs.declared.types.Bound.the-variants.{Free, At}
 use Rattle.ints.specs.Lists.{sum}
 use Rattle.ints.specs.Reach.{reach, allWithin}
-use Rattle.run.specs.Call.{limitOf, memberOf, positionsOf, leftDistance, otherDistances, boxesFrom, maxBoxes, maxNeighbours, isSmall, isFitting, allDistances, isInReach, isSound, isTaken, placedOf}
+use Rattle.run.specs.Call.{Request, limitOf, memberOf, positionsOf, leftDistance, otherDistances, boxesFrom, maxBoxes, maxNeighbours, isSmall, isFitting, allDistances, isInReach, isSound, isTaken, placedOf}
 use Rattle.run_columns.specs.inner.Columns.{Columns}
 use Rattle.run_halves.specs.inner.Halves.{SmallLimit, Fits, placedBetween}
 use Rattle.run_columns.specs.inner.Offsets.{Near, maxOffset}
 use Rattle.place_run.specs.inner.Requests.{requestOf}
-use Rattle.run_refusal.proofs.RefusalLaws.{member-le, in-order-same, sum-distances}
+use Rattle.run.proofs.WhenRefused.{taken-row}
+use Rattle.place_run.proofs.TakenLaws.{taken-list, ordered, reached}
+use Rattle.place_run.proofs.RefusalLaws.{member-le, in-order-same, sum-distances}
 use Rattle.run_columns.proofs.ColumnLaws.{sum-cut}
 use Rattle.run_columns.proofs.OffsetLaws.{sum-step}
 use Rattle.run_halves.proofs.Boxes.{span-is}
@@ -56,11 +58,11 @@ pub record Taken (l r : Bound) (old : List ℤ) (ds cs : List ℕ) (ns zs : List
   pub possible : isPossible (limitOf l) (leftDistance l ds) (boxesFrom old (otherDistances l ds) cs ns) (limitOf r) ≡ true
 
 pub taken : (l r : Bound) (old : List ℤ) (ds cs : List ℕ) (ns zs : List ℤ) → isTaken (requestOf l r old ds cs ns) zs ≡ true → Taken l r old ds cs ns zs
-unfolding isTaken
 taken l r old ds cs ns zs e =
     let q = requestOf l r old ds cs ns in
-    let e3 : isSmall q && isFitting q zs && isInReach q ≡ true = and-left _ (isSound q) e in
-    let so : isSound q ≡ true = and-right (isSmall q && isFitting q zs && isInReach q) _ e in
+    let row = sym (taken-row q zs) ∙ e in
+    let e3 : isSmall q && isFitting q zs && isInReach q ≡ true = and-left _ (isSound q) row in
+    let so : isSound q ≡ true = and-right (isSmall q && isFitting q zs && isInReach q) _ row in
     let e2 : isSmall q && isFitting q zs ≡ true = and-left _ (isInReach q) e3 in
     let re : isInReach q ≡ true = and-right (isSmall q && isFitting q zs) _ e3 in
     let sm : isSmall q ≡ true = and-left _ (isFitting q zs) e2 in
@@ -93,6 +95,18 @@ taken l r old ds cs ns zs e =
       possible = and-right (neighboursInOrder bs) po so;
     }
 
+-- as many boxes as old positions
+pub boxes-are : (q : Request) (answer : List ℤ) → isTaken q answer ≡ true → length (q .old) ≡ q .boxes
+boxes-are q answer e = reached q answer (ordered q answer (and-left _ _ (sym (taken-list q answer) ∙ e))) .fits .old
+
+abbrev request : Bound → Bound → List ℤ → List ℕ → List ℕ → List ℤ → ℕ → Request
+request l h old ds cs ns r = record { boxes = r; left = l; right = h; old = old; distances = ds; counts = cs; neighbours = ns }
+
+pub taken-places : (l h : Bound) (old : List ℤ) (ds cs : List ℕ) (ns : List ℤ) (r : ℕ) (answer : List ℤ) →
+    isTaken (request l h old ds cs ns r) answer ≡ true → isTaken (requestOf l h old ds cs ns) answer ≡ true
+taken-places l h old ds cs ns r answer e =
+    ap (λ (n : ℕ). isTaken (request l h old ds cs ns n) answer) (boxes-are (request l h old ds cs ns r) answer e) ∙ e
+
 pub near-limit : (l : Bound) → Near (positionsOf l) → SmallLimit (limitOf l)
 near-limit Free q = tt
 near-limit (At x) q = let h : size x ≤ reach = q 0 (omega arith) in omega arith
@@ -115,7 +129,7 @@ module _ (l r : Bound) (old : List ℤ) (ds cs : List ℕ) (ns zs : List ℤ) (t
   pub first-small : getD ds 0 0 ≤ maxOffset
   first-small = omega (arith, sum-small, sum-step ds 0)
 
-  left-small : leftDistance l ds ≤ maxOffset
+  pub left-small : leftDistance l ds ≤ maxOffset
   left-small = go l
     where
       go : (l : Bound) → leftDistance l ds ≤ maxOffset
@@ -127,7 +141,7 @@ module _ (l r : Bound) (old : List ℤ) (ds cs : List ℕ) (ns zs : List ℤ) (t
   members-within h = omega (arith, t .distances, member-le l, member-le r)
 
   -- no distance is left out
-  span-all : 0 < length old → span (boxesFrom old (otherDistances l ds) cs ns) ≡ sum (drop (memberOf l) ds)
+  pub span-all : 0 < length old → span (boxesFrom old (otherDistances l ds) cs ns) ≡ sum (drop (memberOf l) ds)
   span-all h = let d = t .distances in
       let k : length (drop (memberOf l) ds) ≤ length old = omega (arith, length-drop (memberOf l) ds, member-le l, member-le r) in
       ap (λ es. span (boxesFrom old es cs ns)) (others-is l ds) ∙ span-is old (drop (memberOf l) ds) cs ns (t .columns .boxes) k

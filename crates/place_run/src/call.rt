@@ -1,8 +1,8 @@
 // The call place-run.
 use crate::place::place;
+use crate::refusal::is_taken;
 use run::types::Answer;
 use run::types::Bound;
-use run_refusal::refusal::is_taken;
 ghost use Rattle.run.specs.Call.{Outcome, callOf};
 
 // Places a run of r boxes into the lent answer, or refuses it (8) and leaves the answer as it was.

@@ -1,3 +1,4 @@
-// The call place-run: places one run on lent buffers.
+// The call place-run: refusal 8, and one run placed on lent buffers.
 pub mod call;
 pub mod place;
+pub mod refusal;

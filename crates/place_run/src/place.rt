@@ -1,11 +1,11 @@
 // Placing one run between its bounds: the limits of its boxes in run coordinates, by halves, and back.
+use crate::refusal::members;
 use ints::minus;
 use ints::plus;
 use run::types::Bound;
 use run_columns::offsets::distance_at;
 use run_halves::halves::place_between;
 use run_halves::halves::total;
-use run_refusal::refusal::members;
 ghost use mathlib.Core.Path.{_≡_};
 ghost use mathlib.Core.Bool.{true};
 ghost use Prim.Native.Nat.{_≤_};

@@ -2,16 +2,18 @@
 -- Assumes nothing.
 use Prim.Native.Nat.{ℕ, zero, suc, _+_, _<_}
 use mathlib.Core.Path.{_≡_, refl, sym, _∙_, ap}
-use mathlib.Core.Bool.{Bool, true, false, cond, not, _&&_}
+use mathlib.Core.Bool.{Bool, true, not, _&&_}
 use mathlib.Core.List.{List, [], _∷_}
 use native.Mathlib.Omega.{arith}
-use borrow.Author.Tests.{ltb-true}
+use borrow.Author.Tests.{ltb-true, not-false}
 use lib.Dec.{ltb, eqb}
 use lib.ListN.{length, getD}
+use Rattle.ints.specs.Refusals.{Test, check, firstRefusal, noneRefuses}
 use Rattle.plan.specs.Plan.{PlanData, vertexCount, levelOf}
 use Rattle.plan.specs.Segments.{Segment, segmentsFrom, segmentsOf, innerIn, innerSegments}
-use Rattle.plan.specs.Checks.{every, any, goesOneDown, check3, check4, isThrough, check5, crosses, check6}
-use Rattle.plan.specs.inner.Graph.{graphOf, segment, Within, InLimits, firstFailed}
+use Rattle.plan.specs.Checks.{every, any, goesOneDown, check3, check4, isThrough, check5, crosses, check6, checksOf}
+use Rattle.plan.specs.inner.Graph.{graphOf, segment, Within, InLimits}
+use Rattle.ints.proofs.Refusals.{none-at, two-pass, two-none, refusal-early, refusal-late}
 use Rattle.ints.proofs.Tests.{and-left, and-right, cond-left, cond-right}
 
 -- ---- every end is a vertex
@@ -41,28 +43,46 @@ within-of sizes vias «as» bs l c = record {
   lower = λ i h. below-both (graphOf sizes vias «as» bs) «as» bs (l .ends) c i (omega arith) .1;
 }
 
--- ---- the first that fails
+-- ---- the checks that a plan passes, one by one
+pub record Checked (p : PlanData) : Type 0 where
+  pub three : check3 p ≡ true
+  pub four : check4 p ≡ true
+  pub five : check5 p ≡ true
+  pub six : check6 p ≡ true
+
+pub checked : (p : PlanData) → noneRefuses (checksOf p) ≡ true → Checked p
+unfolding checksOf
+checked p e =
+    let pass = none-at (checksOf p) e in
+    record {
+      three = not-false (check3 p) (pass 0);
+      four = not-false (check4 p) (pass 1);
+      five = not-false (check5 p) (pass 2);
+      six = not-false (check6 p) (pass 3);
+    }
+
+pub checks-pass : (p : PlanData) → Checked p → noneRefuses (checksOf p) ≡ true
+unfolding checksOf noneRefuses
+checks-pass p c = rw (c .three, c .four, c .five, c .six)
+
+-- ---- two by two
 module _ (p : PlanData) where
-  early : (a b : Bool) (m n : ℕ) → cond a (cond b 0 4) 3 ≡ m → (m ≡ 0 → ⊥) → m ≡ cond a (cond b n 4) 3
-  early true true m n e z = absurd (z (sym e))
-  early true false m n e z = sym e
-  early false b m n e z = sym e
+  abbrev pub early : List Test
+  early = check 3 (check3 p) ∷ check 4 (check4 p) ∷ []
 
-  pub fails-early : (m : ℕ) → m ≡ cond (check3 p) (cond (check4 p) 0 4) 3 → (m ≡ 0 → ⊥) → m ≡ firstFailed p
-  unfolding firstFailed
-  fails-early m e z = early (check3 p) (check4 p) m (cond (check5 p) (cond (check6 p) 0 6) 5) (sym e) z
+  abbrev pub late : List Test
+  late = check 5 (check5 p) ∷ check 6 (check6 p) ∷ []
 
-  passed : (a b : Bool) → _≡_ {A = ℕ} (cond a (cond b 0 4) 3) 0 → (a ≡ true) × (b ≡ true)
-  passed true true e = (refl, refl)
-  passed true false e = absurd (omega arith)
-  passed false b e = absurd (omega arith)
+  pub fails-early : (m : ℕ) → m ≡ firstRefusal early → (m ≡ 0 → ⊥) → m ≡ firstRefusal (checksOf p)
+  unfolding checksOf
+  fails-early m e z = refusal-early m early late e z
 
-  pub passes-early : (m : ℕ) → m ≡ cond (check3 p) (cond (check4 p) 0 4) 3 → m ≡ 0 → (check3 p ≡ true) × (check4 p ≡ true)
-  passes-early m e z = passed (check3 p) (check4 p) (sym e ∙ z)
+  pub passes-early : (m : ℕ) → m ≡ firstRefusal early → m ≡ 0 → (check3 p ≡ true) × (check4 p ≡ true)
+  passes-early m e z = two-pass 3 4 (check3 p) (check4 p) refl (sym e ∙ z)
 
-  pub fails-late : (m : ℕ) → check3 p ≡ true → check4 p ≡ true → m ≡ cond (check5 p) (cond (check6 p) 0 6) 5 → m ≡ firstFailed p
-  unfolding firstFailed
-  fails-late m a b e = rw (a, b) e
+  pub fails-late : (m : ℕ) → check3 p ≡ true → check4 p ≡ true → m ≡ firstRefusal late → m ≡ firstRefusal (checksOf p)
+  unfolding checksOf
+  fails-late m a b e = refusal-late m early late (two-none 3 4 (check3 p) (check4 p) a b) e
 
 -- ---- the checks of any plan's data are those of its graph
 abbrev pub graph : PlanData → PlanData
@@ -90,6 +110,6 @@ module _ (p : PlanData) where
   unfolding check6 innerSegments segmentsOf crosses levelOf
   same-6 = ap (λ (inner : List Segment). not (any (λ s. any (crosses p s) inner) inner)) (same-inner (segmentsOf p))
 
-  pub same-first : firstFailed p ≡ firstFailed (graph p)
-  unfolding firstFailed
-  same-first = rw (same-3, same-4, same-5, same-6)
+  pub same-checks : checksOf p ≡ checksOf (graph p)
+  unfolding checksOf
+  same-checks = rw (same-3, same-4, same-5, same-6)

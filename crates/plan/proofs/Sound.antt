@@ -8,15 +8,16 @@ use native.Mathlib.Omega.{arith}
 use lib.Dec.{ltb, eqb}
 use lib.ListN.{length}
 use borrow.Author.Tests.{ltb-true, eqb-true, lt-ltb, eq-eqb, not-true}
+use Rattle.ints.specs.Refusals.{noneRefuses}
 use Rattle.ints.proofs.Laws.{if-ind, cases}
 use Rattle.plan.specs.Plan.{PlanData, vertexCount, isVia, distance, numbers, levelOf}
 use Rattle.plan.specs.Segments.{Segment, segmentsOf, aboveIn, belowIn, isInner, innerIn, innerSegments}
-use Rattle.plan.specs.Checks.{every, any, goesOneDown, check3, rising, check4, check5, isThrough, crosses, check6}
+use Rattle.plan.specs.Checks.{every, any, goesOneDown, check3, rising, check4, check5, isThrough, crosses, check6, checksOf}
 use Rattle.plan.specs.inner.Graph.{Within}
 use Rattle.plan.specs.Acceptable.{limitsHold, acceptable}
-use Rattle.ints.proofs.Tests.{and-left, and-right, cond-left, cond-right, conj-at}
+use Rattle.ints.proofs.Tests.{and-left, and-right, cond-left, cond-right}
 use Rattle.plan.proofs.LimitLaws.{Limits, limits}
-use Rattle.plan.proofs.GraphLaws.{within-of, same-3}
+use Rattle.plan.proofs.GraphLaws.{within-of, checked, same-3}
 
 -- ---- members of a list
 abbrev pub Mem : {A : Type 0} → A → List A → Type 0
@@ -183,16 +184,16 @@ uncross p c s t m n e h =
 pub sound : (p : PlanData) → acceptable p ≡ true → Sound p
 unfolding acceptable innerSegments check4
 sound p q =
-    let test = conj-at (limitsHold p) (check3 p ∷ check4 p ∷ check5 p ∷ check6 p ∷ []) q in
-    let within = limits p (test 0) in
-    let goes′ = goes p (test 1) in
+    let pass = checked p (and-right (limitsHold p) (noneRefuses (checksOf p)) q) in
+    let within = limits p (and-left (limitsHold p) (noneRefuses (checksOf p)) q) in
+    let goes′ = goes p (pass .three) in
     let place = inner-in p (segmentsOf p) in
-    let via = one-each p (test 3) in
+    let via = one-each p (pass .five) in
     record {
       limits = within;
-      ends = within-of (p .sizes) (p .vias) (p .uppers) (p .lowers) (within .lists) (sym (same-3 p) ∙ test 1);
+      ends = within-of (p .sizes) (p .vias) (p .uppers) (p .lowers) (within .lists) (sym (same-3 p) ∙ pass .three);
       down = goes′;
-      sorted = test 2;
+      sorted = pass .four;
       through = via;
       inner-down = λ s m. goes′ s (place s m .0);
       inner-vias = λ s m. (and-left (isVia p (s .upper)) (isVia p (s .lower)) (place s m .1), and-right (isVia p (s .upper)) (isVia p (s .lower)) (place s m .1));
@@ -202,5 +203,5 @@ sound p q =
       one-down = λ s t m n k. mem-one (belowIn (segmentsOf p) (s .upper)) (s .lower) (t .lower)
           (via (s .upper) (goes′ s (place s m .0) .upper-in) (and-left (isVia p (s .upper)) (isVia p (s .lower)) (place s m .1)) .1)
           (below-mem (segmentsOf p) s (place s m .0)) (rw k (below-mem (segmentsOf p) t (place t n .0)));
-      uncrossed = uncross p (test 4);
+      uncrossed = uncross p (pass .six);
     }

@@ -5,9 +5,10 @@ use Prim.Native.Nat.{ℕ}
 use lib.Dec.{eqb, leb}
 use lib.ListN.{length}
 use Rattle.ints.specs.Lists.{sum}
+use Rattle.ints.specs.Refusals.{noneRefuses}
 use Rattle.plan.specs.Plan.{PlanData, vertexCount}
 use Rattle.plan.specs.Limits.{within, maxLevels, maxGap, maxSpacing, maxHalfWidth, maxOnLevel, maxVertices, maxSegments}
-use Rattle.plan.specs.Checks.{every, check3, check4, check5, check6}
+use Rattle.plan.specs.Checks.{every, checksOf}
 
 -- Each vertex has its half-width: a box one within the limit, a via 0.
 abbrev pub halfHolds : Bool → ℕ → Bool
@@ -33,4 +34,4 @@ limitsHold p =
     && eqb (length (p .lowers)) (length (p .uppers)) && leb (length (p .uppers)) maxSegments
 
 unfoldable pub acceptable : PlanData → Bool
-acceptable p = limitsHold p && check3 p && check4 p && check5 p && check6 p
+acceptable p = limitsHold p && noneRefuses (checksOf p)

@@ -4,6 +4,7 @@ use mathlib.Core.List.{List, [], _∷_}
 use Prim.Native.Nat.{ℕ, _+_}
 use lib.Dec.{ltb, eqb}
 use lib.ListN.{length}
+use Rattle.ints.specs.Refusals.{Test, check}
 use Rattle.plan.specs.Plan.{PlanData, vertexCount, isVia, levelOf, numbers}
 use Rattle.plan.specs.Segments.{Segment, segmentsOf, aboveIn, belowIn, innerSegments}
 
@@ -62,3 +63,7 @@ crosses p s t =
 
 unfoldable pub check6 : PlanData → Bool
 check6 p = let inner = innerSegments p in not (any (λ s. any (crosses p s) inner) inner)
+
+-- 3 to 6 in their order.
+unfoldable pub checksOf : PlanData → List Test
+checksOf p = check 3 (check3 p) ∷ check 4 (check4 p) ∷ check 5 (check5 p) ∷ check 6 (check6 p) ∷ []

@@ -1,6 +1,7 @@
 -- A plan as it is stored, and the data that it holds. The stage says how many vertices and segments there are; what lies
 -- beyond them, and beyond the first K level sizes, is no part of the plan.
-use mathlib.Core.Bool.{false}
+use mathlib.Core.Bool.{Bool, false}
+use mathlib.Core.List.{List}
 use Prim.Native.Nat.{ℕ}
 use lib.ListN.{take, replicate}
 use Rattle.plan.specs.declared.data.Plan.{Plan}
@@ -13,15 +14,21 @@ planData p v e =
     dataOf (p .levels) (p .gap) (p .spacing)
     (take (p .levels) (p .sizes)) (take v (p .vias)) (take v (p .halves)) (take e (p .uppers)) (take e (p .lowers))
 
+-- The stored plan with these parts.
+abbrev pub storedPlan : ℕ → ℕ → ℕ → List ℕ → List Bool → List ℕ → List ℕ → List ℕ → Plan
+storedPlan levels gap spacing sizes vias halves uppers lowers = record {
+  levels = levels;
+  gap = gap;
+  spacing = spacing;
+  sizes = sizes;
+  vias = vias;
+  halves = halves;
+  uppers = uppers;
+  lowers = lowers;
+}
+
 -- The stored plan that is 0 throughout.
 unfoldable pub emptyPlan : Plan
-emptyPlan = record {
-  levels = 0;
-  gap = 0;
-  spacing = 0;
-  sizes = replicate maxLevels 0;
-  vias = replicate maxVertices false;
-  halves = replicate maxVertices 0;
-  uppers = replicate maxSegments 0;
-  lowers = replicate maxSegments 0;
-}
+emptyPlan =
+    storedPlan 0 0 0 (replicate maxLevels 0) (replicate maxVertices false) (replicate maxVertices 0) (replicate maxSegments 0)
+    (replicate maxSegments 0)

@@ -1,6 +1,6 @@
 // A plan as it is stored: document 01's limits, and the arrays that they bound.
 ghost use mathlib.Core.Path.{_≡_};
-ghost use Rattle.plan.specs.Stored.{emptyPlan};
+ghost use Rattle.plan.specs.Stored.{storedPlan, emptyPlan};
 
 // The vertices are numbered from 0 in reading order. Of each level `sizes` has how many vertices stand on it; of each vertex
 // `vias` has whether it is a via and `halves` its half-width; of each segment `uppers` and `lowers` have its ends A and B.
@@ -31,19 +31,44 @@ impl Plan {
 
     pub const MAX_SEGMENTS: usize = 2048;
 
+    // The plan with these parts.
+    pub fn new(
+        levels: u32,
+        gap: u32,
+        spacing: u32,
+        sizes: [u16; Plan::MAX_LEVELS],
+        vias: [bool; Plan::MAX_VERTICES],
+        halves: [u16; Plan::MAX_VERTICES],
+        uppers: [u32; Plan::MAX_SEGMENTS],
+        lowers: [u32; Plan::MAX_SEGMENTS],
+    ) -> Self
+        ensures { λ r. ⌜ r ≡ storedPlan levels gap spacing sizes vias halves uppers lowers ⌝ }
+    {
+        Self {
+            levels,
+            gap,
+            spacing,
+            sizes,
+            vias,
+            halves,
+            uppers,
+            lowers,
+        }
+    }
+
     // 0 throughout.
     pub fn empty() -> Self
         ensures { λ r. ⌜ r ≡ emptyPlan ⌝ }
     {
-        Self {
-            levels: 0,
-            gap: 0,
-            spacing: 0,
-            sizes: [0; Plan::MAX_LEVELS],
-            vias: [false; Plan::MAX_VERTICES],
-            halves: [0; Plan::MAX_VERTICES],
-            uppers: [0; Plan::MAX_SEGMENTS],
-            lowers: [0; Plan::MAX_SEGMENTS],
-        }
+        Plan::new(
+            0,
+            0,
+            0,
+            [0; Plan::MAX_LEVELS],
+            [false; Plan::MAX_VERTICES],
+            [0; Plan::MAX_VERTICES],
+            [0; Plan::MAX_SEGMENTS],
+            [0; Plan::MAX_SEGMENTS],
+        )
     }
 }

@@ -1,1 +1,3 @@
+pub mod InnerLaws
+pub mod SegmentLaws
 pub mod HeightLaws

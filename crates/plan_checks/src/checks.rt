@@ -1,17 +1,18 @@
 // Checks 3 and 4 of document 01, over slices that are as long as the data, and checks 3 to 6 in this order. Each stops at the first
 // that fails.
 use crate::levels::levels;
+use crate::vias::check_inner;
+use crate::vias::check_vias;
 use ints::wide;
 use plan::data::Plan;
-use plan_vias::vias::check_inner;
-use plan_vias::vias::check_vias;
 ghost use mathlib.Core.Path.{_≡_};
-ghost use mathlib.Core.Bool.{Bool, true, false, cond, _&&_};
-ghost use mathlib.Core.List.{List};
-ghost use Prim.Native.Nat.{ℕ, _<_};
+ghost use mathlib.Core.Bool.{Bool};
+ghost use mathlib.Core.List.{List, [], _∷_};
+ghost use Prim.Native.Nat.{ℕ};
 ghost use lib.ListN.{length};
-ghost use Rattle.plan.specs.Checks.{comesBefore, check3, check4};
-ghost use Rattle.plan.specs.inner.Graph.{graphOf, segment, Levelled, oneDown, InLimits, through, firstFailed};
+ghost use Rattle.ints.specs.Refusals.{check, firstRefusal};
+ghost use Rattle.plan.specs.Checks.{comesBefore, check3, check4, checksOf};
+ghost use Rattle.plan.specs.inner.Graph.{graphOf, segment, Levelled, oneDown, InLimits};
 
 // Whether a and b are vertices, b one level below a.
 fn one_down(level: &[u16], a: u32, b: u32) -> bool
@@ -79,7 +80,7 @@ pub fn check_levels(sizes: &[u16], vias: &[bool], uppers: &[u32], lowers: &[u32]
 
 // The number of the first of two checks that fails, 0 if both hold.
 pub fn first_of(m: u32, a: bool, n: u32, b: bool) -> u32
-    ensures { λ r. ⌜ r ≡ cond a (cond b 0 n) m ⌝ }
+    ensures { λ r. ⌜ r ≡ firstRefusal (check m a ∷ check n b ∷ []) ⌝ }
 {
     if !a {
         return m;
@@ -90,7 +91,7 @@ pub fn first_of(m: u32, a: bool, n: u32, b: bool) -> u32
 // Checks 3 to 6 in this order: the number of the first that fails, 0 if none does.
 pub fn check_plan(sizes: &[u16], vias: &[bool], uppers: &[u32], lowers: &[u32]) -> u32
     requires { ⌜ InLimits (now sizes) (now vias) (now uppers) (now lowers) ⌝ }
-    ensures { λ r. ⌜ r ≡ firstFailed (graphOf (now (sizes .entry)) (now (vias .entry)) (now (uppers .entry)) (now (lowers .entry))) ⌝ }
+    ensures { λ r. ⌜ r ≡ firstRefusal (checksOf (graphOf (now (sizes .entry)) (now (vias .entry)) (now (uppers .entry)) (now (lowers .entry)))) ⌝ }
 {
     let ends = check_levels(sizes, vias, uppers, lowers);
     let order = check_order(uppers, lowers);

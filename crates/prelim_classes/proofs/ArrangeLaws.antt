@@ -12,7 +12,7 @@ use lib.Seq.{drop-cons, sets, getD-take, getD-drop, getD-append-add, length-take
 use Rattle.ints.proofs.Laws.{cases}
 use Rattle.plan.specs.Plan.{numbers}
 use Rattle.prelim_classes.specs.inner.Arranged.{followers, levelBy, vertexBy}
-use Rattle.prelim_strands.proofs.ChainLaws.{by-test}
+use Rattle.prelim_classes.proofs.ChainLaws.{by-test}
 
 -- ---- writing a list from a place on
 pub sets-on : (l : List ℕ) (i i′ k : ℕ) (vs : List ℕ) (x : ℕ) → k < length vs → i′ ≡ i + 1 → x ≡ getD vs k 0 → sets l i (drop k vs) ≡ sets (set l i x) i′ (drop (k + 1) vs)

@@ -9,9 +9,9 @@ use lib.ListN.{length, getD, take, drop, drop-of-length-le}
 use lib.Seq.{drop-cons, drop-drop}
 use Rattle.ints.specs.Lists.{sum}
 use Rattle.plan.proofs.CountLaws.{by-same}
-use Rattle.prelim_strands.specs.inner.Links.{chain}
+use Rattle.prelim_classes.specs.inner.Links.{chain}
 use Rattle.preliminary.specs.Classes.{classesOn, classesFrom}
-use Rattle.prelim_strands.specs.inner.Strands.{StrandsBy}
+use Rattle.prelim_classes.specs.inner.Strands.{StrandsBy}
 use Rattle.prelim_classes.specs.inner.Walks.{cut, classesAfter, currentAfter}
 
 -- the part of a list from i up to `to`

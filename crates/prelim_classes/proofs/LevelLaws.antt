@@ -13,7 +13,7 @@ use Rattle.ints.proofs.Laws.{cases}
 use Rattle.plan.specs.Plan.{numbers, levelsFrom, Siblings, pairsOn, siblingsOf}
 use Rattle.ints.specs.Lists.{sum}
 use Rattle.prelim_classes.specs.inner.Walks.{cut}
-use Rattle.prelim_strands.specs.inner.Links.{pairsBy}
+use Rattle.prelim_classes.specs.inner.Links.{pairsBy}
 use Rattle.prelim_classes.specs.inner.Arranged.{joined, followers, levelBy, levelsBy}
 use Rattle.prelim_classes.proofs.ArrangeLaws.{level-long, level-below, followers-long}
 

@@ -1,3 +1,10 @@
+pub mod ChainLaws
+pub mod StrandLaws
+pub mod InnerLaws
+pub mod Ends
+pub mod LinkLaws
+pub mod StrandTie
+pub mod StrungLaws
 pub mod ArrangeLaws
 pub mod LevelLaws
 pub mod ClassLaws

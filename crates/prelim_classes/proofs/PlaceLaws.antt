@@ -12,12 +12,12 @@ use lib.Seq.{getD-set-same, getD-set-other, set-out}
 use Rattle.ints.proofs.Laws.{cases}
 use Rattle.plan.specs.Plan.{PlanData, Siblings, numbers, vertexCount}
 use Rattle.plan.proofs.CountLaws.{by-same}
-use Rattle.prelim_strands.specs.inner.Links.{along, chain, Rising, among}
+use Rattle.prelim_classes.specs.inner.Links.{along, chain, Rising, among}
 use Rattle.preliminary.specs.Classes.{give}
 use Rattle.preliminary.specs.Place.{Placing, Asked, markAll, stand, askedBy, placeStrand, placeSiblings, placeEach, placedStrands}
-use Rattle.prelim_strands.specs.inner.Strands.{Strung}
+use Rattle.prelim_classes.specs.inner.Strands.{Strung}
 use Rattle.prelim_classes.specs.inner.Walks.{placing, unbegun, Uniform, Low, distanceBy, Placeable, Asks, StrandKept, StrandPlaced, SiblingsKept, SiblingsPlaced}
-use Rattle.prelim_strands.proofs.ChainLaws.{along-end, along-on, chain-on, by-test, never, among-here, among-more, among-none, among-later, along-inside}
+use Rattle.prelim_classes.proofs.ChainLaws.{along-end, along-on, chain-on, by-test, never, among-here, among-more, among-none, among-later, along-inside}
 
 -- ---- marks
 pub marked-long : (vs : List ℕ) (b : List Bool) → length (markAll vs b) ≡ length b

@@ -13,7 +13,7 @@ use lib.Seq.{drop-cons, getD-set-same, getD-set-other, set-out}
 use Rattle.ints.proofs.Laws.{cases}
 use Rattle.plan.specs.Plan.{Siblings, leftSibling}
 use Rattle.plan.proofs.CountLaws.{by-same}
-use Rattle.prelim_strands.specs.inner.Links.{orNone, pairsBy}
+use Rattle.prelim_classes.specs.inner.Links.{orNone, pairsBy}
 use Rattle.preliminary.specs.Place.{ofClass, askedBy}
 use Rattle.prelim_classes.specs.inner.Walks.{sameClass}
 

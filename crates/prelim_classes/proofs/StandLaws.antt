@@ -7,8 +7,8 @@ use native.Mathlib.Omega.{arith}
 use lib.ListN.{length, getD, replicate, length-replicate, List·getD-map}
 use lib.IntN.{ℤ, pos}
 use Rattle.plan.specs.Plan.{PlanData}
-use Rattle.prelim_strands.specs.inner.Links.{orNone, pairsBy}
-use Rattle.prelim_strands.specs.inner.Strands.{StrandsBy}
+use Rattle.prelim_classes.specs.inner.Links.{orNone, pairsBy}
+use Rattle.prelim_classes.specs.inner.Strands.{StrandsBy}
 use Rattle.preliminary.specs.Place.{askedBy}
 use Rattle.prelim_classes.specs.inner.Walks.{unbegun, Placeable, Asks, AllPlaced, SiblingsOf, Classed, Stand}
 

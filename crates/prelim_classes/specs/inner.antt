@@ -1,3 +1,5 @@
 -- Words of inner contracts: what loops keep and which arrays hold what. No public promise rests on them.
+pub mod Links
+pub mod Strands
 pub mod Arranged
 pub mod Walks

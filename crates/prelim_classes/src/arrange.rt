@@ -1,6 +1,6 @@
 // The vertices level by level in the order in hand, from left to right or reversed, and their siblings.
+use crate::links::NONE;
 use ints::wide;
-use prelim_strands::links::NONE;
 ghost use mathlib.Core.Path.{_≡_};
 ghost use mathlib.Core.Bool.{cond};
 ghost use mathlib.Core.List.{map};

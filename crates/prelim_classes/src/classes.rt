@@ -1,16 +1,16 @@
 // Classes: "on each level l from the top, start with number l and go left to right; a vertex without a class gives the current
 // number to its whole strand; a vertex with one makes that number current." A class of 0 is none yet.
+use crate::walk::give;
 use ints::wide;
-use prelim_strands::walk::give;
 ghost use mathlib.Core.Path.{_≡_};
 ghost use mathlib.Core.List.{List};
 ghost use Prim.Native.Nat.{ℕ, _+_, _-_, _≤_, _<_};
 ghost use lib.ListN.{length, getD, take, drop};
 ghost use Rattle.ints.specs.Lists.{sum};
 ghost use Rattle.plan.specs.Limits.{maxLevels};
-ghost use Rattle.prelim_strands.specs.inner.Links.{Rising, chain};
+ghost use Rattle.prelim_classes.specs.inner.Links.{Rising, chain};
 ghost use Rattle.preliminary.specs.Classes as spec;
-ghost use Rattle.prelim_strands.specs.inner.Strands.{StrandsBy};
+ghost use Rattle.prelim_classes.specs.inner.Strands.{StrandsBy};
 ghost use Rattle.prelim_classes.specs.inner.Walks.{Classable, cut, classesAfter, currentAfter};
 
 // Classes vertex v, `current` being the current number, and gives the number current after it.

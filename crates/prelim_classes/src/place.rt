@@ -1,7 +1,7 @@
 // Placing strands: "To place a strand, first place its left siblings of the same class; to place a sibling, place its strand."
+use crate::walk::give;
+use crate::walk::mark;
 use ints::wide;
-use prelim_strands::walk::give;
-use prelim_strands::walk::mark;
 ghost use mathlib.Core.Path.{_≡_};
 ghost use mathlib.Core.Bool.{false};
 ghost use Prim.Native.Nat.{_<_, max};

@@ -1,6 +1,6 @@
 // The left siblings that a strand's placing asks: those of the same class.
+use crate::links::NONE;
 use ints::wide;
-use prelim_strands::links::NONE;
 ghost use mathlib.Core.Path.{_≡_};
 ghost use Prim.Native.Nat.{_≤_, _<_};
 ghost use lib.ListN.{length, set, replicate};

@@ -1,8 +1,8 @@
 // Where the vertices stand before the classes are shifted.
+use crate::links::NONE;
 use crate::place::place;
 use crate::siblings::siblings;
 use plan::data::Plan;
-use prelim_strands::links::NONE;
 ghost use mathlib.Core.Path.{_≡_};
 ghost use mathlib.Core.List.{map};
 ghost use lib.ListN.{length};

@@ -15,7 +15,7 @@ use Rattle.plan.specs.inner.Held.{HoldsPlan, SomePlan}
 use Rattle.plan.specs.inner.Graph.{Within}
 use Rattle.plan.proofs.HeldLaws.{held-bounds}
 use Rattle.preliminary.specs.Positions.{positionsOn, leftPositions, rightPositions, sums, preliminary}
-use Rattle.prelim_strands.specs.inner.Strands.{StrandLists, StrungPlan, SomeStrung}
+use Rattle.prelim_classes.specs.inner.Strands.{StrandLists, StrungPlan, SomeStrung}
 use Rattle.prelim_classes.proofs.LevelLaws.{levels-plain, levels-reversed}
 use Rattle.prelim_positions.specs.inner.Sides.{SideIs}
 

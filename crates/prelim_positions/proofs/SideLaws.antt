@@ -17,9 +17,9 @@ use Rattle.preliminary.specs.Classes.{give, classesOn, classesFrom, classesOf}
 use Rattle.preliminary.specs.Place.{placedStrands}
 use Rattle.preliminary.specs.Shift.{shiftEach}
 use Rattle.preliminary.specs.Positions.{positionsOn}
-use Rattle.prelim_strands.specs.inner.Links.{chain, pairsBy}
-use Rattle.prelim_strands.specs.inner.Strands.{StrandsBy, StrungPlan}
-use Rattle.prelim_strands.proofs.StrungLaws.{Ready, plan-strands, plan-count}
+use Rattle.prelim_classes.specs.inner.Links.{chain, pairsBy}
+use Rattle.prelim_classes.specs.inner.Strands.{StrandsBy, StrungPlan}
+use Rattle.prelim_classes.proofs.StrungLaws.{Ready, plan-strands, plan-count}
 use Rattle.prelim_classes.specs.inner.Walks.{cut, Classed, Stand}
 use Rattle.prelim_classes.specs.inner.Arranged.{joined, followers, levelsBy}
 use Rattle.prelim_classes.proofs.LevelLaws.{cut-joined, joined-below, pairs-joined}

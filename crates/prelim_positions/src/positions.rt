@@ -2,8 +2,8 @@
 use crate::side::side;
 use ints::difference;
 use plan::data::Plan;
-use prelim_strands::inner::strands;
-use prelim_strands::links::NONE;
+use prelim_classes::inner::strands;
+use prelim_classes::links::NONE;
 ghost use mathlib.Core.Path.{_≡_};
 ghost use mathlib.Core.List.{map};
 ghost use Prim.Native.Nat.{_+_, _<_, _^_};

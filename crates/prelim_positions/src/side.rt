@@ -4,7 +4,7 @@ use prelim_classes::classes::class;
 use prelim_classes::stand::stand;
 use prelim_shifts::shift::shift;
 ghost use lib.ListN.{length};
-ghost use Rattle.prelim_strands.specs.inner.Strands.{SomeStrung};
+ghost use Rattle.prelim_classes.specs.inner.Strands.{SomeStrung};
 ghost use Rattle.prelim_positions.specs.inner.Sides.{SideIs, SideRoom};
 
 // The positions; `order`, `right` and `classes` are to work on.

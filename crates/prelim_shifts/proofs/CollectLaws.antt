@@ -10,8 +10,8 @@ use lib.IntN.{ℤ}
 use Rattle.ints.specs.Lists.{over}
 use Rattle.ints.proofs.Laws.{cases}
 use Rattle.ints.proofs.Lists.{over-map}
-use Rattle.prelim_strands.specs.inner.Links.{along, chain, Rising, among}
-use Rattle.prelim_strands.proofs.ChainLaws.{along-end, along-on, chain-on, among-here, among-later}
+use Rattle.prelim_classes.specs.inner.Links.{along, chain, Rising, among}
+use Rattle.prelim_classes.proofs.ChainLaws.{along-end, along-on, chain-on, among-here, among-later}
 
 along-short : (link : List ℕ) (f v : ℕ) → length (along link f v) ≤ f
 unfolding along

@@ -10,8 +10,8 @@ use lib.ListN.{length, getD, set, take, replicate, length-replicate, getD-replic
 use lib.Seq.{length-take-le, getD-take}
 use Rattle.ints.proofs.Laws.{if-ind}
 use Rattle.plan.proofs.CountLaws.{by-same}
-use Rattle.prelim_strands.specs.inner.Links.{chain, among, positions, Bucketed}
-use Rattle.prelim_strands.proofs.ChainLaws.{among-more, among-none, never, Linking, linking-start, linking-next, linking-end}
+use Rattle.prelim_classes.specs.inner.Links.{chain, among, positions, Bucketed}
+use Rattle.prelim_classes.proofs.ChainLaws.{among-more, among-none, never, Linking, linking-start, linking-next, linking-end}
 use Rattle.prelim_shifts.specs.inner.Shifts.{gapKey, offsetKey, keysBy, Linked}
 
 -- ---- keys as a list

@@ -10,10 +10,10 @@ use lib.Seq.{getD-set-other, take-all, take-suc, take-suc-set, drop-cons, drop-s
 use lib.IntN.{ℤ, pos, _+ℤ_}
 use Rattle.ints.specs.Ints.{size}
 use Rattle.plan.proofs.CountLaws.{by-same}
-use Rattle.prelim_strands.specs.inner.Links.{chain, Rising, positions}
+use Rattle.prelim_classes.specs.inner.Links.{chain, Rising, positions}
 use Rattle.preliminary.specs.Shift.{moved}
 use Rattle.prelim_shifts.specs.inner.Counts.{movedAt}
-use Rattle.prelim_strands.proofs.ChainLaws.{along-end, chain-on}
+use Rattle.prelim_classes.proofs.ChainLaws.{along-end, chain-on}
 
 module _ (link : List ℕ) (r : Rising link) (d : ℤ) (v : ℕ) (xs : List ℤ) where
   pub moved-on : v < length link → movedAt d (chain link v) xs ≡ movedAt d (chain link (getD link v 0)) (set xs v (getD xs v (pos 0) +ℤ d))

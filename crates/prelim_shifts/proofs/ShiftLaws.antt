@@ -16,7 +16,7 @@ use Rattle.ints.proofs.Laws.{cases, dif, if-ind}
 use Rattle.plan.specs.Plan.{PlanData, Siblings, numbers}
 use Rattle.plan.specs.Segments.{Segment, segmentsFrom, segmentsOf}
 use Rattle.plan.proofs.CountLaws.{by-same}
-use Rattle.prelim_strands.specs.inner.Links.{chain, positions, among, pairsBy}
+use Rattle.prelim_classes.specs.inner.Links.{chain, positions, among, pairsBy}
 use Rattle.preliminary.specs.Shift.{gapsIn, offsetsIn, middle, leastOr, shiftOf, moved, shiftEach}
 use Rattle.prelim_shifts.specs.inner.Shifts.{gapKey, offsetKey, keysBy, slack, offset, slacks, offsets, Shiftable, ShiftsBy, Spread, Linked}
 use Rattle.prelim_shifts.proofs.SpreadLaws.{InRange, shift-in}

@@ -3,7 +3,7 @@
 use ints::difference;
 use ints::minus;
 use ints::wide;
-use prelim_strands::links::index;
+use prelim_classes::links::index;
 ghost use mathlib.Core.Path.{_≡_};
 ghost use Prim.Native.Nat.{_≤_, _<_};
 ghost use lib.ListN.{length};
@@ -11,7 +11,7 @@ ghost use Rattle.ints.specs.Ints.{SizedTo};
 ghost use Rattle.ints.specs.Lists.{over};
 ghost use Rattle.plan.specs.Limits.{maxGap};
 ghost use Rattle.plan.specs.inner.Graph.{Below};
-ghost use Rattle.prelim_strands.specs.inner.Links.{Rising, chain};
+ghost use Rattle.prelim_classes.specs.inner.Links.{Rising, chain};
 ghost use Rattle.prelim_shifts.specs.inner.Shifts as lists;
 
 // (sibling − member − distance), of a member v and its right sibling w.

@@ -1,13 +1,13 @@
 // For which class's shift each sibling pair and each segment counts: the places of each class as a chain.
 use ints::wide;
-use prelim_strands::links::index;
-use prelim_strands::links::put_first;
+use prelim_classes::links::index;
+use prelim_classes::links::put_first;
 ghost use mathlib.Core.Path.{_≡_};
 ghost use Prim.Native.Nat.{_<_, _≤_};
 ghost use lib.ListN.{length, replicate};
 ghost use Rattle.plan.specs.Limits.{maxLevels, maxVertices, maxSegments};
 ghost use Rattle.plan.specs.inner.Graph.{Below};
-ghost use Rattle.prelim_strands.specs.inner.Links.{Bucketed};
+ghost use Rattle.prelim_classes.specs.inner.Links.{Bucketed};
 ghost use Rattle.prelim_shifts.specs.inner.Shifts.{gapKey, offsetKey, keysBy, AtMost};
 
 // The class for whose shift v counts by its right sibling w, 0 if for none.

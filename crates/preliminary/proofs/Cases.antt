@@ -31,3 +31,21 @@ shifted =
 pub shifted-positions : preliminary shifted ≡ negsuc 402 ∷ negsuc 0 ∷ pos 403 ∷ negsuc 0 ∷ []
 unfolding preliminaryOpen
 shifted-positions = refl
+
+-- In a shift only segments to a lower class count. Class 2 is the strand 2, 4, 5 and box 6: segments to its own class (2 to 4, 4 to 5)
+-- and to higher ones (down from 5 to 7, up from 6 to 3) would each change the middle.
+abbrev pub lower-only : PlanData
+lower-only =
+    dataOf 5 1 1
+    (2 ∷ 1 ∷ 2 ∷ 2 ∷ 1 ∷ [])
+    (false ∷ false ∷ true ∷ false ∷ true ∷ true ∷ false ∷ false ∷ [])
+    (1 ∷ 1 ∷ 0 ∷ 1 ∷ 0 ∷ 0 ∷ 1 ∷ 1 ∷ [])
+    (1 ∷ 2 ∷ 3 ∷ 4 ∷ 5 ∷ []) (2 ∷ 4 ∷ 6 ∷ 5 ∷ 7 ∷ [])
+
+pub lower-only-acceptable : acceptable lower-only ≡ true
+unfolding preliminaryOpen
+lower-only-acceptable = refl
+
+pub lower-only-positions : preliminary lower-only ≡ negsuc 2 ∷ pos 3 ∷ pos 3 ∷ negsuc 0 ∷ pos 3 ∷ pos 3 ∷ pos 7 ∷ pos 3 ∷ []
+unfolding preliminaryOpen
+lower-only-positions = refl

@@ -1,6 +1,6 @@
--- Placing strands: every vertex comes to stand at least the distance right of its left sibling of the same class, all
--- vertices of a strand at one place. Left siblings have lower rank, so no placing comes back to a strand that is under way:
--- those all have higher rank than the one being placed. Assumes nothing.
+-- Placing strands: every strand comes to stand at the greatest (sibling + distance) over the left siblings of the same class
+-- of its vertices, and these where they stand in the end. Left siblings have lower rank, so no placing comes back to a strand
+-- that is under way: those all have higher rank than the one being placed. Assumes nothing.
 use mathlib.Core.Path.{_≡_, refl, sym, _∙_, ap}
 use mathlib.Core.Logic.{inl, inr}
 use mathlib.Core.Bool.{Bool, true, false, true≢false}
@@ -13,7 +13,7 @@ use Rattle.ints.proofs.Laws.{if-ind, cases}
 use Rattle.plan.specs.Plan.{PlanData, vertexCount, distance, Siblings, numbers}
 use Rattle.plan.proofs.Sound.{Mem, Sound, distance-high, mem-numbers, numbers-mem}
 use Rattle.preliminary.specs.Place.{Placing, Asked, begin, stand, askedBy, withSibling, placeStrand, placeSiblings, placeEach, placedStrands}
-use Rattle.preliminary.proofs.Strands.{topOf, strandAt, in-strand, strand-in, strand-descends}
+use Rattle.preliminary.proofs.Strands.{topOf, strandAt, in-strand, strand-in, strand-descends, strand-same}
 use Rattle.preliminary.proofs.Rows.{Adjacent, none-some, asked-left, left-in-list}
 use Rattle.preliminary.proofs.Give.{alike, either, give-long, mark-long, mark-keeps, strand-given, strand-kept, strand-marked, strand-unmarked, waiting, waiting-none, mark-waiting}
 use Rattle.preliminary.proofs.Rank.{Rank}
@@ -24,9 +24,49 @@ begunAt s v = getD (s .begun) v false
 abbrev pub standsAt : Placing → ℕ → ℕ
 standsAt s v = getD (s .at) v 0
 
+-- "the greatest (sibling + distance) over those, 0 if there are none": over the left siblings of the same class of these
+-- members, where the vertices stand at xs
+abbrev pub askedAt : PlanData → List ℕ → ℕ → Option ℕ → ℕ
+askedAt p xs v none = 0
+askedAt p xs v (some u) = getD xs u 0 + distance p u v
+
+unfoldable pub greatestAsked : PlanData → List Siblings → List ℕ → List ℕ → List ℕ → ℕ
+greatestAsked p ss cs xs [] = 0
+greatestAsked p ss cs xs (v ∷ vs) = max (askedAt p xs v (askedBy ss cs v)) (greatestAsked p ss cs xs vs)
+
+module _ (p : PlanData) (ss : List Siblings) (cs : List ℕ) where
+  greatest-above : (xs vs : List ℕ) (u v : ℕ) → Mem v vs → askedBy ss cs v ≡ some u → getD xs u 0 + distance p u v ≤ greatestAsked p ss cs xs vs
+  unfolding greatestAsked
+  greatest-above xs [] u v m e = absurd m
+  greatest-above xs (w ∷ vs) u v (inl q) e = rw (← q, e) (omega arith)
+  greatest-above xs (w ∷ vs) u v (inr m) e = omega (arith, greatest-above xs vs u v m e)
+
+  greatest-none : (xs : List ℕ) → greatestAsked p ss cs xs [] ≡ 0
+  unfolding greatestAsked
+  greatest-none xs = refl
+
+  greatest-unasked : (xs : List ℕ) (v : ℕ) (vs : List ℕ) → askedBy ss cs v ≡ none → greatestAsked p ss cs xs (v ∷ vs) ≡ greatestAsked p ss cs xs vs
+  unfolding greatestAsked
+  greatest-unasked xs v vs e = rw e (omega arith)
+
+  greatest-asked : (xs : List ℕ) (u v : ℕ) (vs : List ℕ) → askedBy ss cs v ≡ some u → greatestAsked p ss cs xs (v ∷ vs) ≡ max (getD xs u 0 + distance p u v) (greatestAsked p ss cs xs vs)
+  unfolding greatestAsked
+  greatest-asked xs u v vs e = rw e
+
+  -- it depends on where those siblings stand
+  greatest-same : (xs ys vs : List ℕ) → ((v u : ℕ) → Mem v vs → askedBy ss cs v ≡ some u → getD ys u 0 ≡ getD xs u 0) → greatestAsked p ss cs ys vs ≡ greatestAsked p ss cs xs vs
+  unfolding greatestAsked
+  greatest-same xs ys [] f = refl
+  greatest-same xs ys (v ∷ vs) f = omega (arith, here (askedBy ss cs v) refl, greatest-same xs ys vs (λ w u m e. f w u (inr m) e))
+    where
+      here : (o : Option ℕ) → askedBy ss cs v ≡ o → askedAt p ys v o ≡ askedAt p xs v o
+      here none e = refl
+      here (some u) e = omega (arith, f v u (inl refl) e)
+
 -- what holds in the end
 pub record Stood (p : PlanData) (ss : List Siblings) (cs xs : List ℕ) : Type 0 where
   pub long : length xs ≡ vertexCount p
+  pub greatest : (v : ℕ) → v < vertexCount p → getD xs v 0 ≡ greatestAsked p ss cs xs (strandAt p v)
   pub strands : (v w : ℕ) → v < vertexCount p → w < vertexCount p → topOf p v ≡ topOf p w → getD xs v 0 ≡ getD xs w 0
   pub spaced : (u v : ℕ) → v < vertexCount p → askedBy ss cs v ≡ some u → getD xs u 0 + distance p u v ≤ getD xs v 0
   pub size : (v : ℕ) → v < vertexCount p → getD xs v 0 ≤ 512000
@@ -41,7 +81,8 @@ module _ (p : PlanData) (key : ℕ → ℕ) (R : Rank p key) (ss : List Siblings
     pub begun-long : length (s .begun) ≡ vertexCount p
     pub at-strands : (v w : ℕ) → v < vertexCount p → w < vertexCount p → topOf p v ≡ topOf p w → standsAt s v ≡ standsAt s w
     pub begun-strands : (v w : ℕ) → v < vertexCount p → w < vertexCount p → topOf p v ≡ topOf p w → begunAt s v ≡ begunAt s w
-    pub settled : (w u : ℕ) → w < vertexCount p → begunAt s w ≡ true → rankOf w < r → askedBy ss cs w ≡ some u → (begunAt s u ≡ true) × (standsAt s u + distance p u w ≤ standsAt s w)
+    pub asked-begun : (w u : ℕ) → w < vertexCount p → begunAt s w ≡ true → rankOf w < r → askedBy ss cs w ≡ some u → begunAt s u ≡ true
+    pub greatest : (w : ℕ) → w < vertexCount p → begunAt s w ≡ true → rankOf w < r → standsAt s w ≡ greatestAsked p ss cs (s .at) (strandAt p w)
     pub size : (w : ℕ) → w < vertexCount p → standsAt s w + 500 * (d + waiting (s .begun)) ≤ 500 * vertexCount p
 
   -- from s to t: what had begun keeps its place, what begins has rank below r
@@ -58,9 +99,9 @@ module _ (p : PlanData) (key : ℕ → ℕ) (R : Rank p key) (ss : List Siblings
   record Answered (r d : ℕ) (vs : List ℕ) (most : ℕ) (s : Placing) (a : Asked) : Type 0 where
     pub stands : Standing r (suc d) (a .after)
     pub later : Later r s (a .after)
-    pub more : most ≤ a .most
+    pub greatest : a .most ≡ max most (greatestAsked p ss cs (a .after .at) vs)
     pub size : a .most + 500 * (d + waiting (a .after .begun)) ≤ 500 * vertexCount p
-    pub answers : (v u : ℕ) → Mem v vs → askedBy ss cs v ≡ some u → (begunAt (a .after) u ≡ true) × (standsAt (a .after) u + distance p u v ≤ a .most)
+    pub answers : (v u : ℕ) → Mem v vs → askedBy ss cs v ≡ some u → begunAt (a .after) u ≡ true
 
   abbrev PlaceClaim : ℕ → Type 0
   PlaceClaim f = (r d v : ℕ) (s : Placing) → Standing r d s → v < vertexCount p → rankOf v < r → 2 * waiting (s .begun) + 1 ≤ f → Placed r d v s (placeStrand p (strandAt p) ss cs f v s)
@@ -85,6 +126,18 @@ module _ (p : PlanData) (key : ℕ → ℕ) (R : Rank p key) (ss : List Siblings
 
     asked-lower : (u v : ℕ) → askedBy ss cs v ≡ some u → rankOf u < rankOf v
     asked-lower u v e = let a = asked u v e in R .rises u v (a .left-in) (a .right-in) (a .level) (a .before)
+
+    -- who is asked by a strand that stands has begun
+    strand-asked : (r d : ℕ) (s : Placing) → Standing r d s → (w : ℕ) → w < vertexCount p → begunAt s w ≡ true → rankOf w < r → (x u : ℕ) → Mem x (strandAt p w) → askedBy ss cs x ≡ some u
+        → (begunAt s u ≡ true) × (rankOf u < rankOf w)
+    strand-asked r d s I w i e q x u m j = let y = strand-in p S w x i m in let k = ap (R .rank) (y .1) in
+        (I .asked-begun x u (y .0) (I .begun-strands x w (y .0) i (y .1) ∙ e) (omega arith) j, omega (arith, asked-lower u x j))
+
+    -- a strand stays at its greatest as long as it and those that it asks stay
+    stays-greatest : (r d : ℕ) (s t : Placing) → Standing r d s → (w : ℕ) → w < vertexCount p → begunAt s w ≡ true → rankOf w < r → standsAt t w ≡ standsAt s w
+        → ((u : ℕ) → u < vertexCount p → begunAt s u ≡ true → rankOf u < rankOf w → standsAt t u ≡ standsAt s u) → standsAt t w ≡ greatestAsked p ss cs (t .at) (strandAt p w)
+    stays-greatest r d s t I w i e q k f = k ∙ I .greatest w i e q ∙ sym (greatest-same p ss cs (s .at) (t .at) (strandAt p w)
+        (λ x u m j. let y = strand-asked r d s I w i e q x u m j in f u (asked u x j .left-in) (y .0) (y .1)))
 
     -- ---- one strand
     module _ (r d v : ℕ) (s : Placing) (I : Standing r d s) (h : v < vertexCount p) (k : rankOf v < r) (b : begunAt s v ≡ false) where
@@ -114,6 +167,9 @@ module _ (p : PlanData) (key : ℕ → ℕ) (R : Rank p key) (ss : List Siblings
       still : (w : ℕ) → w < vertexCount p → begunAt s w ≡ true → begunAt started w ≡ true
       still w i e = mark-keeps w (strandAt p v) (s .begun) (omega (arith, I .begun-long)) e
 
+      lower : (w : ℕ) → rankOf w < rankOf v → topOf p w ≡ topOf p v → ⊥
+      lower w q e = omega (arith, ap (R .rank) e)
+
       start : Standing (rankOf v) (suc d) started
       start = record {
         at-long = I .at-long;
@@ -121,9 +177,8 @@ module _ (p : PlanData) (key : ℕ → ℕ) (R : Rank p key) (ss : List Siblings
         at-strands = I .at-strands;
         begun-strands = λ x w hx hw t. alike (topOf p x) (topOf p v) (λ e. began x hx e ∙ sym (began w hw (sym t ∙ e)))
             (λ e. begun-before x e ∙ I .begun-strands x w hx hw t ∙ sym (begun-before w (λ q. e (t ∙ q))));
-        settled = λ w u i e q j. let t : topOf p w ≡ topOf p v → ⊥ = λ y. omega (arith, ap (R .rank) y) in
-            let x = I .settled w u i (sym (begun-before w t) ∙ e) (omega arith) j in
-            (still u (asked u w j .left-in) (x .0), x .1);
+        asked-begun = λ w u i e q j. still u (asked u w j .left-in) (I .asked-begun w u i (sym (begun-before w (lower w q)) ∙ e) (omega arith) j);
+        greatest = λ w i e q. I .greatest w i (sym (begun-before w (lower w q)) ∙ e) (omega arith);
         size = λ w i. omega (arith, I .size w i, started-waiting, strand-some);
       }
 
@@ -137,22 +192,34 @@ module _ (p : PlanData) (key : ℕ → ℕ) (R : Rank p key) (ss : List Siblings
         elsewhere : (w : ℕ) → (topOf p w ≡ topOf p v → ⊥) → standsAt ended w ≡ standsAt (a .after) w
         elsewhere w t = strand-kept p S v h (a .most) w (a .after .at) t
 
-        end-settled : (w u : ℕ) → w < vertexCount p → begunAt ended w ≡ true → rankOf w < r → askedBy ss cs w ≡ some u → (begunAt ended u ≡ true) × (standsAt ended u + distance p u w ≤ standsAt ended w)
-        end-settled w u i e q j =
-            let hu = asked u w j .left-in in
-            let lower = asked-lower u w j in
+        -- of those begun in the end, one of rank v's or more that is not v's strand had begun before
+        begun-earlier : (w : ℕ) → w < vertexCount p → begunAt ended w ≡ true → (topOf p w ≡ topOf p v → ⊥) → rankOf v ≤ rankOf w → begunAt s w ≡ true
+        begun-earlier w i e t z = sym (begun-before w t) ∙ either (begunAt started w) (λ y. y) (λ y. absurd (omega (arith, A .later .new w i y e)))
+
+        kept-begun : (w : ℕ) → w < vertexCount p → begunAt s w ≡ true → (begunAt ended w ≡ true) × (standsAt ended w ≡ standsAt s w)
+        kept-begun w i e = let x = A .later .kept w i (still w i e) in (x .0, elsewhere w (other w i e) ∙ x .1)
+
+        end-asked : (w u : ℕ) → w < vertexCount p → begunAt ended w ≡ true → rankOf w < r → askedBy ss cs w ≡ some u → begunAt ended u ≡ true
+        end-asked w u i e q j =
             alike (topOf p w) (topOf p v)
-            (λ t. let x = A .answers w u (in-strand p S v w i t) j in
-            (x .0, omega (arith, x .1, here w i t, elsewhere u (λ y. omega (arith, ap (R .rank) y, ap (R .rank) t)))))
+            (λ t. A .answers w u (in-strand p S v w i t) j)
             (λ t. cases (rankOf v) (rankOf w)
-            (λ z. let e′ : begunAt started w ≡ true = either (begunAt started w) (λ y. y) (λ y. absurd (omega (arith, A .later .new w i y e))) in
-            let es = sym (begun-before w t) ∙ e′ in
-            let x = I .settled w u i es q j in
-            let ku = A .later .kept u hu (still u hu (x .0)) in
-            let kw = A .later .kept w i e′ in
-            (ku .0, omega (arith, x .1, ku .1, kw .1, elsewhere u (other u hu (x .0)), elsewhere w t)))
-            (λ z. let x = A .stands .settled w u i e z j in
-            (x .0, omega (arith, x .1, elsewhere w t, elsewhere u (λ y. omega (arith, ap (R .rank) y))))))
+            (λ z. kept-begun u (asked u w j .left-in) (I .asked-begun w u i (begun-earlier w i e t z) q j) .0)
+            (λ z. A .stands .asked-begun w u i e z j))
+
+        end-greatest : (w : ℕ) → w < vertexCount p → begunAt ended w ≡ true → rankOf w < r → standsAt ended w ≡ greatestAsked p ss cs (ended .at) (strandAt p w)
+        end-greatest w i e q =
+            alike (topOf p w) (topOf p v)
+            (λ t. rw (strand-same p S v w h (in-strand p S v w i t)) (omega (
+              arith,
+              here w i t,
+              A .greatest,
+              greatest-same p ss cs (a .after .at) (ended .at) (strandAt p v)
+                  (λ x u m j. elsewhere u (lower u (omega (arith, asked-lower u x j, ap (R .rank) (strand-in p S v x h m .1))))),
+            )))
+            (λ t. cases (rankOf v) (rankOf w)
+            (λ z. let es = begun-earlier w i e t z in stays-greatest r d s ended I w i es q (kept-begun w i es .1) (λ u j f k. kept-begun u j f .1))
+            (λ z. stays-greatest (rankOf v) (suc d) (a .after) ended (A .stands) w i e z (elsewhere w t) (λ u j f k. elsewhere u (lower u (omega arith)))))
 
         end : Placed r d v s ended
         end = record {
@@ -162,11 +229,12 @@ module _ (p : PlanData) (key : ℕ → ℕ) (R : Rank p key) (ss : List Siblings
             at-strands = λ x w hx hw t. alike (topOf p x) (topOf p v) (λ e. here x hx e ∙ sym (here w hw (sym t ∙ e)))
                 (λ e. elsewhere x e ∙ A .stands .at-strands x w hx hw t ∙ sym (elsewhere w (λ q. e (t ∙ q))));
             begun-strands = A .stands .begun-strands;
-            settled = end-settled;
+            asked-begun = end-asked;
+            greatest = end-greatest;
             size = λ w i. alike (topOf p w) (topOf p v) (λ t. omega (arith, here w i t, A .size)) (λ t. omega (arith, elsewhere w t, A .stands .size w i));
           };
           later = record {
-            kept = λ w i e. let x = A .later .kept w i (still w i e) in (x .0, elsewhere w (other w i e) ∙ x .1);
+            kept = kept-begun;
             new = λ w i e q. alike (topOf p w) (topOf p v) (λ t. omega (arith, ap (R .rank) t)) (λ t. omega (arith, A .later .new w i (begun-before w t ∙ e) q));
             fewer = omega (arith, A .later .fewer, started-waiting);
           };
@@ -186,7 +254,7 @@ module _ (p : PlanData) (key : ℕ → ℕ) (R : Rank p key) (ss : List Siblings
     -- ---- the left siblings of a strand's members
     siblings-step : (f : ℕ) → PlaceClaim f → SiblingsClaim f → SiblingsClaim (suc f)
     unfolding placeStrand
-    siblings-step f P C r d [] most s I g b m = record { stands = I; later = later-refl r s; more = omega arith; size = b; answers = λ v u n. absurd n }
+    siblings-step f P C r d [] most s I g b m = record { stands = I; later = later-refl r s; greatest = omega (arith, greatest-none p ss cs (s .at)); size = b; answers = λ v u n. absurd n }
     siblings-step f P C r d (v ∷ vs) most s I g b m = go (askedBy ss cs v) refl
       where
         go : (o : Option ℕ) → askedBy ss cs v ≡ o → Answered r d (v ∷ vs) most s (withSibling o
@@ -195,7 +263,7 @@ module _ (p : PlanData) (key : ℕ → ℕ) (R : Rank p key) (ss : List Siblings
         go none e = let A = C r d vs most s I (λ w n. g w (inr n)) b (omega arith) in record {
           stands = A .stands;
           later = A .later;
-          more = A .more;
+          greatest = A .greatest ∙ ap (max most) (sym (greatest-unasked p ss cs (placeSiblings p (strandAt p) ss cs f vs most s .after .at) v vs e));
           size = A .size;
           answers = λ w u n q. elim n [ inl x ↦ absurd (none-some (sym e ∙ ap (askedBy ss cs) (sym x) ∙ q)) | inr x ↦ A .answers w u x q ];
         }
@@ -208,10 +276,10 @@ module _ (p : PlanData) (key : ℕ → ℕ) (R : Rank p key) (ss : List Siblings
             record {
               stands = A .stands;
               later = later-trans r s t (placeSiblings p (strandAt p) ss cs f vs (max most (standsAt t u + distance p u v)) t .after) (X .later) (A .later);
-              more = omega (arith, A .more);
+              greatest = omega (arith, A .greatest, K .1, greatest-asked p ss cs (placeSiblings p (strandAt p) ss cs f vs (max most (standsAt t u + distance p u v)) t .after .at) u v vs e);
               size = A .size;
               answers = λ w x n q. elim n [
-                | inl y ↦ (let z : x ≡ u = cc (ap (askedBy ss cs) y) in rw (z, y) (K .0, omega (arith, K .1, A .more)))
+                | inl y ↦ (let z : x ≡ u = cc (ap (askedBy ss cs) y) in rw z (K .0))
                 | inr y ↦ A .answers w x y q
               ];
             }
@@ -229,18 +297,19 @@ module _ (p : PlanData) (key : ℕ → ℕ) (R : Rank p key) (ss : List Siblings
     each-step : (f v : ℕ) (s : Placing) → ((r : ℕ) → Standing r 0 s) → v < vertexCount p → 2 * waiting (s .begun) + 1 ≤ f → Grown s (placeStrand p (strandAt p) ss cs f v s) × (begunAt (placeStrand p (strandAt p) ss cs f v s) v ≡ true)
     each-step f v s I h m =
         let t = placeStrand p (strandAt p) ss cs f v s in
-        let X = both f .0 (suc (rankOf v)) 0 v s (I (suc (rankOf v))) h (omega arith) m in (
+        let X = both f .0 (suc (rankOf v)) 0 v s (I (suc (rankOf v))) h (omega arith) m in
+        let earlier : (w : ℕ) → w < vertexCount p → begunAt t w ≡ true → rankOf v < rankOf w → begunAt s w ≡ true =
+        λ w i e z. either (begunAt s w) (λ y. y) (λ y. absurd (omega (arith, X .later .new w i y e))) in (
           record {
             stands = λ r. record {
               at-long = X .stands .at-long;
               begun-long = X .stands .begun-long;
               at-strands = X .stands .at-strands;
               begun-strands = X .stands .begun-strands;
-              settled = λ w u i e q j. cases (rankOf w) (rankOf v) (λ z. X .stands .settled w u i e (omega arith) j)
-                  (λ z. let es : begunAt s w ≡ true = either (begunAt s w) (λ y. y) (λ y. absurd (omega (arith, X .later .new w i y e))) in
-                  let x = I (suc (rankOf w)) .settled w u i es (omega arith) j in
-                  let ku = X .later .kept u (asked u w j .left-in) (x .0) in let kw = X .later .kept w i es in
-                  (ku .0, omega (arith, x .1, ku .1, kw .1)));
+              asked-begun = λ w u i e q j. cases (rankOf w) (rankOf v) (λ z. X .stands .asked-begun w u i e (omega arith) j)
+                  (λ z. X .later .kept u (asked u w j .left-in) (I (suc (rankOf w)) .asked-begun w u i (earlier w i e z) (omega arith) j) .0);
+              greatest = λ w i e q. cases (rankOf w) (rankOf v) (λ z. X .stands .greatest w i e (omega arith))
+                  (λ z. stays-greatest (suc (rankOf w)) 0 s t (I (suc (rankOf w))) w i (earlier w i e z) (omega arith) (X .later .kept w i (earlier w i e z) .1) (λ u j f k. X .later .kept u j f .1));
               size = X .stands .size;
             };
             kept = λ w i e. X .later .kept w i e .0;
@@ -266,7 +335,8 @@ module _ (p : PlanData) (key : ℕ → ℕ) (R : Rank p key) (ss : List Siblings
       begun-long = length-replicate (vertexCount p) false;
       at-strands = λ v w h k e. getD-replicate (vertexCount p) v 0 0 h ∙ sym (getD-replicate (vertexCount p) w 0 0 k);
       begun-strands = λ v w h k e. getD-replicate (vertexCount p) v false false h ∙ sym (getD-replicate (vertexCount p) w false false k);
-      settled = λ w u h e q j. absurd (true≢false (sym e ∙ getD-replicate (vertexCount p) w false false h));
+      asked-begun = λ w u h e q j. absurd (true≢false (sym e ∙ getD-replicate (vertexCount p) w false false h));
+      greatest = λ w h e q. absurd (true≢false (sym e ∙ getD-replicate (vertexCount p) w false false h));
       size = λ w h. omega (arith, getD-replicate {A = ℕ} (vertexCount p) w 0 0 h, waiting-none (vertexCount p));
     }
 
@@ -275,9 +345,12 @@ module _ (p : PlanData) (key : ℕ → ℕ) (R : Rank p key) (ss : List Siblings
     stood =
         let n = vertexCount p in
         let X = each (3 * n) (numbers 0 n) (record { at = replicate n 0; begun = replicate n false }) nothing (λ v m. omega (arith, numbers-mem 0 n v m)) (λ v h. omega (arith, waiting-none n)) in
+        let greatest : (v : ℕ) → v < n → getD (placedStrands p (strandAt p) ss cs) v 0 ≡ greatestAsked p ss cs (placedStrands p (strandAt p) ss cs) (strandAt p v) =
+        λ v k. X .0 .stands (suc (rankOf v)) .greatest v k (X .1 v (mem-numbers 0 n v (omega arith) (omega arith))) (omega arith) in
         record {
           long = X .0 .stands 0 .at-long;
           strands = X .0 .stands 0 .at-strands;
-          spaced = λ u v k j. X .0 .stands (suc (rankOf v)) .settled v u k (X .1 v (mem-numbers 0 n v (omega arith) (omega arith))) (omega arith) j .1;
+          greatest = greatest;
+          spaced = λ u v k j. omega (arith, greatest v k, greatest-above p ss cs (placedStrands p (strandAt p) ss cs) (strandAt p v) u v (in-strand p S v v k refl) j);
           size = λ v k. omega (arith, X .0 .stands 0 .size v k, S .limits .vertices);
         }

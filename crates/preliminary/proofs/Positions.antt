@@ -1,5 +1,5 @@
--- Preliminary positions of a plan that passes the checks: there is one for each vertex, siblings keep their order and their
--- distance, inner segments are upright, and every position is small. Assumes nothing.
+-- Preliminary positions of a plan that passes the checks: there is one for each vertex, strands stand where their left siblings
+-- ask, siblings keep their order and their distance, inner segments are upright, and every position is small. Assumes nothing.
 use mathlib.Core.Path.{_≡_, refl, sym, _∙_, ap}
 use mathlib.Core.Bool.{Bool, true}
 use mathlib.Core.List.{List, [], _∷_, map, reverse}
@@ -23,11 +23,25 @@ use Rattle.preliminary.proofs.Strands.{topOf, strandAt, low, link, link
 use Rattle.preliminary.proofs.Rows.{Order, Rows, Adjacent, pair, sibling-adjacent, adjacent-sibling, left-is, left-asked, levels-plain, levels-mirrored, order-plain, order-mirrored, adjacent-mirrored, mirror}
 use Rattle.preliminary.proofs.Classes.{Classes, classes-hold}
 use Rattle.preliminary.proofs.Rank.{ranks}
-use Rattle.preliminary.proofs.Placed.{Stood, stood}
+use Rattle.preliminary.proofs.Placed.{greatestAsked, Stood, stood}
 use Rattle.preliminary.proofs.Shifted.{Clear, Spaced, spaced-all}
 use Rattle.preliminary.proofs.Sizes.{Bounded, bounded-all}
 
 -- ---- one side, on levels in either order
+-- the class of each vertex, and where each stands before the classes are shifted
+abbrev pub classesIn : PlanData → List (List ℕ) → List ℕ
+classesIn p levels = classesOf (strandAt p) (vertexCount p) levels
+
+abbrev pub placedIn : PlanData → List (List ℕ) → List ℕ
+placedIn p levels = placedStrands p (strandAt p) (siblingsOf levels) (classesIn p levels)
+
+stood-in : (p : PlanData) → Sound p → (key : ℕ → ℕ) → Order p key → (levels : List (List ℕ)) → Rows p key 1 levels → Stood p (siblingsOf levels) (classesIn p levels) (placedIn p levels)
+stood-in p S key O levels rows = stood p key (ranks p S key O levels rows) (siblingsOf levels) (classesIn p levels) S (λ s m. sibling-adjacent p key s rows m)
+
+-- "A strand stands at the greatest (sibling + distance) over those, 0 if there are none": of every vertex.
+abbrev pub AtGreatest : PlanData → List (List ℕ) → Type 0
+AtGreatest p levels = (v : ℕ) → v < vertexCount p → getD (placedIn p levels) v 0 ≡ greatestAsked p (siblingsOf levels) (classesIn p levels) (placedIn p levels) (strandAt p v)
+
 pub record Side (p : PlanData) (key : ℕ → ℕ) (xs : List ℤ) : Type 0 where
   pub long : length xs ≡ vertexCount p
   pub strands : (v w : ℕ) → v < vertexCount p → w < vertexCount p → topOf p v ≡ topOf p w → placeAt xs v ≡ placeAt xs w
@@ -49,7 +63,7 @@ side p S key O levels rows = record {
     ss = siblingsOf levels
 
     cs : List ℕ
-    cs = classesOf (strandAt p) (vertexCount p) levels
+    cs = classesIn p levels
 
     C : Classes p key cs
     C = classes-hold p S key O levels rows
@@ -61,10 +75,10 @@ side p S key O levels rows = record {
     inside s m = (adjacent s m .left-in, adjacent s m .right-in)
 
     placed : List ℕ
-    placed = placedStrands p (strandAt p) ss cs
+    placed = placedIn p levels
 
     T : Stood p ss cs placed
-    T = stood p key (ranks p S key O levels rows) ss cs S adjacent
+    T = stood-in p S key O levels rows
 
     at : (v : ℕ) → placeAt (map pos placed) v ≡ pos (getD placed v 0)
     at v = List·getD-map pos placed v 0
@@ -128,6 +142,13 @@ clear-least d xs s h = make-le-true (pos d) (placeAt xs (s .right) -ℤ placeAt 
 module _ (p : PlanData) (ok : acceptable p ≡ true) where
   S : Sound p
   S = sound p ok
+
+  -- ---- where strands stand before the classes are shifted, for x₋ and for x₊
+  pub left-greatest : AtGreatest p (levelsOf p)
+  left-greatest = stood-in p S (λ v. v) (order-plain p S) (levelsOf p) (levels-plain p S) .greatest
+
+  pub right-greatest : AtGreatest p (map reverse (levelsOf p))
+  right-greatest = stood-in p S (mirror p) (order-mirrored p S) (map reverse (levelsOf p)) (levels-mirrored p S) .greatest
 
   left-side : Side p (λ v. v) (leftPositions p)
   unfolding leftPositions

@@ -6,6 +6,7 @@ use mathlib.Core.Bool.{false, true≢false}
 use mathlib.Core.List.{List, [], _∷_}
 use Prim.Native.Nat.{ℕ, zero, suc, _+_, _≤_, _<_}
 use native.Mathlib.Omega.{arith}
+use Rattle.ints.proofs.Laws.{cases}
 use Rattle.plan.specs.Plan.{PlanData, vertexCount, isVia, levelOf}
 use Rattle.plan.specs.Segments.{Segment, aboveIn, belowIn, innerSegments}
 use Rattle.plan.specs.Strands.{topFrom, chainFrom, strandIn, follow}
@@ -277,3 +278,26 @@ module _ (p : PlanData) (S : Sound p) where
       go : Below p v → chainFrom (innerSegments p) (p .levels) v ≡ v ∷ []
       go (bottom e) = chain-one (p .levels) v e
       go (lower w ws e) = let j = below-link v w ws e .joined in absurd (not-inner v b (j .segment) (j .listed) .0 (j .above-is))
+
+  -- ---- as many steps as there are levels are enough: more of them change no strand
+  chain-ends : (m t : ℕ) → p .levels ≤ levelOf p t + m → chainFrom (innerSegments p) (suc m) t ≡ chainFrom (innerSegments p) m t
+  unfolding chainFrom
+  chain-ends zero t h = go (below p t)
+    where
+      go : Below p t → chainFrom (innerSegments p) 1 t ≡ t ∷ []
+      go (bottom e) = rw e
+      go (lower w ws e) = let l = below-link t w ws e in absurd (omega (arith, l .down, high w (l .lower-in)))
+  chain-ends (suc m) t h = ap (λ ws. t ∷ ws) (go (λ w k. chain-ends m w k) (below p t))
+    where
+      go : ((w : ℕ) → p .levels ≤ levelOf p w + m → chainFrom (innerSegments p) (suc m) w ≡ chainFrom (innerSegments p) m w) → Below p t
+          → follow (λ w. chainFrom (innerSegments p) (suc m) w) (belowIn (innerSegments p) t) ≡ follow (λ w. chainFrom (innerSegments p) m w) (belowIn (innerSegments p) t)
+      go f (bottom e) = rw e
+      go f (lower w ws e) = rw e (f w (omega (arith, below-link t w ws e .down)))
+
+  pub strand-enough : (n v : ℕ) → v < vertexCount p → p .levels ≤ n → strandIn (innerSegments p) n v ≡ strandAt p v
+  unfolding strandIn
+  strand-enough zero v h k = absurd (omega (arith, low v, high v h))
+  strand-enough (suc n) v h k = cases (suc n) (p .levels)
+      (λ i. let e : suc n ≡ p .levels = omega arith in ap (λ m. strandIn (innerSegments p) m v) e)
+      (λ i. ap (chainFrom (innerSegments p) (suc n)) (top-more n v (omega (arith, high v h)))
+      ∙ chain-ends n (topFrom (innerSegments p) n v) (omega arith) ∙ strand-enough n v h (omega arith))

@@ -16,7 +16,7 @@ use Rattle.ints.proofs.Lists.{concat-append, concat-one, sum-on}
 use Rattle.passes.specs.Stored.{placingsFrom}
 use Rattle.report.specs.Lines.{vertexOfLine, drawingLine, atLineOf, placeLine, endLine}
 use Rattle.report_lines.specs.inner.Stored.{planPart, heightIn, vertexLine, vertexLines, allVertexLines, VertexRoom, VerticesRoom, AtLinesRoom, placingOf, PlacingRoom, placeLines, PlacingsRoom, drawingFrom, reportOf, ReportRoom}
-use Rattle.report_forms.proofs.Partly.{Partly, nothing-yet, next-room, next-written, all-written}
+use Rattle.report_lines.proofs.Partly.{Partly, nothing-yet, next-room, next-written, all-written}
 use Rattle.report_lines.proofs.Listed.{placings-count, placings-next, part-within, listed-within}
 use Rattle.report_lines.proofs.ByNumber.{atLines, placeLines as placeLinesOf, lines-from, positions-of}
 

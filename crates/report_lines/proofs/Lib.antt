@@ -1,3 +1,5 @@
+pub mod Partly
+pub mod Boxes
 pub mod Listed
 pub mod ByNumber
 pub mod AllLines

@@ -17,7 +17,7 @@ use Rattle.passes.specs.Stored.{placingsFrom}
 use Rattle.ints.specs.Reach.{allWithin}
 use Rattle.ints.proofs.Reach.{within-take, within-right}
 use Rattle.passes.specs.Words.{boxesListed, maxListed, drawingWithin}
-use Rattle.report_forms.specs.inner.Forms.{placing}
+use Rattle.report_lines.specs.inner.Forms.{placing}
 use Rattle.report_lines.specs.inner.Stored.{placingOf, drawingFrom, Stored}
 
 abbrev pub noPlacing : Placing

@@ -24,9 +24,9 @@ use Rattle.passes.specs.Drawing.{BoxAt, Placing, Drawing}
 use Rattle.passes.specs.Words.{drawingWithin}
 use Rattle.plan.proofs.All.{All, all-nil, all-cons, all-map, every-all}
 use Rattle.plan.proofs.Levels.{length-numbers, all-numbers}
-use Rattle.pass_laws.proofs.Sound.{Sound, sound}
-use Rattle.pass_laws.proofs.RunsOn.{bounds}
-use Rattle.pass_laws.proofs.Due.{plan-runs}
+use Rattle.passes.proofs.Sound.{Sound, sound}
+use Rattle.passes.proofs.RunsOn.{bounds}
+use Rattle.passes.proofs.Due.{plan-runs}
 use Rattle.report_lines.specs.inner.Stored.{drawingFrom, Stored, LineRoom, ReportRoom, maxLine, maxReport}
 use Rattle.report_lines.proofs.ByNumber.{HasPart, same-lines}
 use Rattle.report_lines.proofs.Lengths.{SmallPlacing, Small, line-short, report-short}

@@ -1,12 +1,12 @@
 // One line of a report, by its number.
+use crate::forms::printed_number;
+use crate::forms::put_at;
+use crate::forms::put_drawing;
+use crate::forms::put_placing;
 use ints::total;
 use ints::wide;
 use plan::data::Plan;
 use plan_checks::levels::heights;
-use report_forms::forms::printed_number;
-use report_forms::forms::put_at;
-use report_forms::forms::put_drawing;
-use report_forms::forms::put_placing;
 use text_write::number::put_word;
 ghost use mathlib.Core.Path.{_≡_};
 ghost use Rattle.plan_checks.specs.inner.Heights.{heightAt};

@@ -1,12 +1,12 @@
 // All lines of a report, one after another, in time that grows with their number: the heights are worked out once, and the placings'
 // boxes are met in their order.
+use crate::forms::put_drawing;
 use crate::numbered::put_listed;
 use crate::numbered::put_vertex;
 use crate::numbered::vertex_of_line;
 use ints::wide;
 use plan::data::Plan;
 use plan_checks::levels::heights;
-use report_forms::forms::put_drawing;
 use text_write::number::put_word;
 ghost use Prim.Native.Nat.{_+_, _<_};
 ghost use Rattle.plan_checks.specs.inner.Heights.{heightAt};

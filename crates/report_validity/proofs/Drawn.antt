@@ -20,18 +20,18 @@ use Rattle.passes.specs.Passes.{placed, after, isDue, visit}
 use Rattle.passes.specs.Drawing.{BoxAt, Placing, boxesWith, listedBefore, listed, drawingOf, Drawing}
 use Rattle.plan.proofs.All.{All, all-nil, all-cons, all-map, all-append, all-every}
 use Rattle.plan.proofs.Levels.{length-numbers}
-use Rattle.pass_laws.specs.inner.Runs.{IsRun}
-use Rattle.pass_laws.proofs.Placing.{placed-length}
-use Rattle.pass_laws.specs.inner.Schedule.{Visit, visitAll, schedule, start}
-use Rattle.pass_laws.proofs.Schedule.{IsVisit, first-visits, second-visits, third-visits}
-use Rattle.pass_laws.proofs.Moments.{final, drawing, drawing-is}
-use Rattle.pass_laws.proofs.Sound.{sound}
-use Rattle.pass_laws.proofs.Listed.{run-mem}
+use Rattle.passes.specs.inner.Runs.{IsRun}
+use Rattle.passes.proofs.Placing.{placed-length}
+use Rattle.passes.specs.inner.Schedule.{Visit, visitAll, schedule, start}
+use Rattle.passes.proofs.Schedule.{IsVisit, first-visits, second-visits, third-visits}
+use Rattle.passes.proofs.Moments.{final, drawing, drawing-is}
+use Rattle.passes.proofs.Sound.{sound}
+use Rattle.passes.proofs.Listed.{run-mem}
 use Rattle.report_validity.specs.inner.Stored.{OfPlan, StoredLevels}
 use Rattle.report_validity.specs.inner.Tests.{isRunOn}
 use Rattle.report_validity.proofs.RunTests.{some-of}
 use Rattle.report_validity.proofs.Decoded.{with-vertices, run-is}
-use Rattle.pass_laws.proofs.DrawingWithin.{drawn-within}
+use Rattle.passes.proofs.DrawingWithin.{drawn-within}
 
 -- ---- each step is of a pass, and gives each box of a run a position
 record Made (p : PlanData) (s : Step) : Type 0 where

@@ -1,6 +1,6 @@
 -- When a plan's data are within the limits, and when a plan is that of a text, as the decision meets it.
 use mathlib.Core.Path.{_≡_, refl, sym, _∙_}
-use mathlib.Core.Bool.{Bool, true, false, cond, _&&_}
+use mathlib.Core.Bool.{Bool, true, false, _&&_}
 use mathlib.Core.List.{[], _∷_}
 use Prim.Native.Nat.{ℕ, _≤_, _<_}
 use native.Mathlib.Omega.{arith}
@@ -8,14 +8,15 @@ use borrow.Author.Tests.{leb-true, leb-false, le-leb, lt-leb}
 use lib.Dec.{leb, eqb}
 use lib.ListN.{length}
 use Rattle.ints.specs.Lists.{sum}
+use Rattle.ints.specs.Refusals.{firstRefusal}
+use Rattle.ints.proofs.Refusals.{none-0}
 use Rattle.plan.specs.Plan.{PlanData}
 use Rattle.plan.specs.Limits.{within, maxLevels, maxGap, maxSpacing, maxOnLevel, maxVertices, maxSegments}
-use Rattle.plan.specs.Checks.{every, check3, check4, check5, check6}
-use Rattle.plan.specs.inner.Graph.{firstFailed}
+use Rattle.plan.specs.Checks.{every, checksOf}
 use Rattle.plan.specs.Stored.{planData}
 use Rattle.plan.specs.Acceptable.{halvesHold, limitsHold, acceptable}
 use Rattle.plan.specs.declared.data.Plan.{Plan}
-use Rattle.plan.proofs.GraphLaws.{graph, same-first}
+use Rattle.plan.proofs.GraphLaws.{graph, same-checks}
 use Rattle.ints.proofs.Tests.{conj-at, test}
 use Rattle.plan.proofs.LimitLaws.{LimitTests, limit-tests, within-most}
 use Rattle.report.specs.Refusal13.{isPlanOfText, isStoredPlan}
@@ -60,19 +61,9 @@ module _ (p : PlanData) where
   unfolding acceptable
   accept-not h = rw h
 
-  first : limitsHold p ≡ true → eqb (firstFailed p) 0 ≡ acceptable p
-  unfolding acceptable firstFailed
-  first h = rw h (go (check3 p) (check4 p) (check5 p) (check6 p))
-    where
-      go : (a b c d : Bool) → eqb (cond a (cond b (cond c (cond d 0 6) 5) 4) 3) 0 ≡ (true && a && b && c && d)
-      go true true true true = refl
-      go true true true false = refl
-      go true true false d = refl
-      go true false c d = refl
-      go false b c d = refl
-
-  pub accept-first : (n : ℕ) → limitsHold p ≡ true → n ≡ firstFailed (graph p) → eqb n 0 ≡ acceptable p
-  accept-first n h e = rw (e ∙ sym (same-first p)) (first h)
+  pub accept-first : (n : ℕ) → limitsHold p ≡ true → n ≡ firstRefusal (checksOf (graph p)) → eqb n 0 ≡ acceptable p
+  unfolding acceptable checksOf
+  accept-first n h e = rw (e, h, ← same-checks p) (none-0 (checksOf p) refl)
 
 -- ---- a stored plan
 module _ (p : Plan) (v e : ℕ) where

@@ -18,11 +18,11 @@ use Rattle.passes.specs.Runs.{Run, runsOn, runsOf, noRun}
 use Rattle.plan.proofs.All.{no-true, all-mem}
 use Rattle.plan.specs.inner.Levels.{firstOn, sizeOn}
 use Rattle.plan.proofs.Levels.{length-numbers, get-numbers}
-use Rattle.pass_laws.specs.inner.Runs.{IsRun}
-use Rattle.pass_laws.proofs.RunsOn.{run-at, run-level}
-use Rattle.pass_laws.proofs.Covered.{found, box-range}
-use Rattle.pass_laws.proofs.Due.{plan-runs}
-use Rattle.pass_laws.proofs.Listed.{run-mem}
+use Rattle.passes.specs.inner.Runs.{IsRun}
+use Rattle.passes.proofs.RunsOn.{run-at, run-level}
+use Rattle.passes.proofs.Covered.{found, box-range}
+use Rattle.passes.proofs.Due.{plan-runs}
+use Rattle.passes.proofs.Listed.{run-mem}
 use Rattle.report_validity.specs.inner.Stored.{OfPlan}
 use Rattle.report_validity.specs.inner.Tests.{isWhole, isRunOn}
 use Rattle.report_validity.proofs.Whole.{Whole, run-whole, same-whole, whole-read, whole-make}

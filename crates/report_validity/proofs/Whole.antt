@@ -14,8 +14,8 @@ use Rattle.plan.specs.Plan.{PlanData, isVia}
 use Rattle.passes.specs.Runs.{Run}
 use Rattle.plan.proofs.All.{no-true}
 use Rattle.plan.specs.inner.Levels.{firstOn, sizeOn}
-use Rattle.pass_laws.specs.inner.Runs.{Boxes, LeftEnd, no-left, via-left, RightEnd, no-right, via-right, IsRun}
-use Rattle.pass_laws.proofs.RunsOn.{bounds}
+use Rattle.passes.specs.inner.Runs.{Boxes, LeftEnd, no-left, via-left, RightEnd, no-right, via-right, IsRun}
+use Rattle.passes.proofs.RunsOn.{bounds}
 use Rattle.pass_tables.specs.inner.Tables.{nextVia}
 use Rattle.pass_tables.proofs.RunLaws.{Next, next}
 use Rattle.report_validity.specs.inner.Tests.{startsRun, isWhole}

@@ -9,6 +9,8 @@ pub mod Coordinates
 pub mod Pushes
 pub mod SameJoin
 pub mod Optimal
+pub mod Enough
 pub mod Meet
 pub mod Fast
 pub mod Within
+pub mod WhenRefused

@@ -8,6 +8,7 @@ use lib.ListN.{length, take, drop, getD}
 use lib.IntN.{ℤ}
 use Rattle.ints.specs.Lists.{sum}
 use Rattle.ints.specs.Reach.{reach, allWithin}
+use Rattle.ints.specs.Refusals.{Test, check, noneRefuses}
 use Rattle.run.specs.Run.{Bound as Limit, free, at, Box, neighboursInOrder}
 use Rattle.run.specs.Place.{placeRun}
 use Rattle.run.specs.Words.{isPossible}
@@ -99,8 +100,12 @@ isSound q =
     neighboursInOrder (boxesOf q)
     && isPossible (limitOf (q .left)) (leftDistance (q .left) (q .distances)) (boxesOf q) (limitOf (q .right))
 
+-- 8, in the order of document 01's words.
+unfoldable pub runTests : Request → List ℤ → List Test
+runTests q answer = check 8 (isSmall q) ∷ check 8 (isFitting q answer) ∷ check 8 (isInReach q) ∷ check 8 (isSound q) ∷ []
+
 unfoldable pub isTaken : Request → List ℤ → Bool
-isTaken q answer = isSmall q && isFitting q answer && isInReach q && isSound q
+isTaken q answer = noneRefuses (runTests q answer)
 
 -- Document 01's number, 0 where nothing is refused, and the answer buffer afterwards; refused, the buffer is as it was.
 pub record Out : Type 0 where

@@ -1,15 +1,17 @@
 -- What draw leaves: the drawing of the definitions, with every promised property; every line and every mark, and all; drawn again it
 -- stays as it is. `PlanArrays` says that the plan's arrays are as long as a stored plan's are.
-use mathlib.Core.Path.{_≡_, refl, ap}
-use mathlib.Core.Bool.{Bool, true, false, cond, not}
-use mathlib.Core.List.{List, [], _∷_}
+use mathlib.Core.Path.{_≡_, refl, _∙_}
+use mathlib.Core.Bool.{Bool, true, false, cond}
+use mathlib.Core.List.{List, [], _∷_, _++_}
 use Prim.Native.Nat.{ℕ, _*_, _≤_, _<_}
 use native.Mathlib.Omega.{arith}
-use borrow.Author.Tests.{lt-ltb, le-ltb}
+use borrow.Author.Tests.{lt-ltb, le-ltb, not-false}
 use lib.Dec.{eqb}
 use lib.ListN.{length}
 use lib.Ieee.{Float}
-use Rattle.ints.proofs.Tests.{conj-at, _and_}
+use Rattle.ints.specs.Refusals.{Test, firstRefusal, noneRefuses}
+use Rattle.ints.proofs.Refusals.{none-at}
+use Rattle.ints.proofs.Tests.{_and_}
 use Rattle.text.proofs.Words.{never}
 use Rattle.passes.specs.Drawing.{drawingOf}
 use Rattle.passes.specs.Demand3.{Demand3}
@@ -20,11 +22,11 @@ use Rattle.sheet_data.proofs.Rooms.{numbers-long}
 use Rattle.sheet_data.proofs.ReadBack.{read-back, demand3-of, drawing-holds}
 use Rattle.sheet.specs.declared.types.Sheet.{Sheet}
 use Rattle.sheet.specs.Sheet.{isEmpty, verticesIn, segmentsIn, planIn, drawingIn, drawnSheet}
-use Rattle.sheet.specs.Results.{Result, gives, refuses, firstRefusal}
-use Rattle.sheet.specs.Tests.{holdsPlan, linesIn, marksIn, lineOf, reportOf, numbersOf}
+use Rattle.sheet.specs.Results.{Result, gives, refuses}
+use Rattle.sheet.specs.Tests.{holdsPlan, linesIn, test7Line, marksIn, test7Mark, test14, lineOf, reportOf, numbersOf}
 use Rattle.sheet.specs.Calls.{drawTests, draw, line, report, mark, marks}
 use Rattle.sheet.specs.inner.Refusals.{countsIn}
-use Rattle.sheet.proofs.WhenRefused.{canShow, draw-given, line-given, report-given, mark-given, marks-given}
+use Rattle.sheet.proofs.WhenRefused.{canShow, showTests, shows-given, draw-given, line-given, report-given, mark-given, marks-given}
 
 drawn : (s : Sheet) → draw s .result ≡ gives tt → draw s .sheet ≡ drawnSheet s (drawingOf (planIn s))
 unfolding draw
@@ -36,7 +38,7 @@ drawn s = by (eqb (firstRefusal (drawTests s)) 0)
 
 module _ (s : Sheet) (a : PlanArrays (s .plan)) (h : draw s .result ≡ gives tt) where
   holds : holdsPlan s ≡ true
-  holds = conj-at (not (isEmpty (s .header .stage))) (holdsPlan s ∷ []) (draw-given s .0 h) 1
+  holds = not-false (holdsPlan s) (none-at (drawTests s) (draw-given s .0 h) 1)
 
   pub drawn-plan : planIn (draw s .sheet) ≡ planIn s
   unfolding drawnSheet
@@ -54,18 +56,28 @@ module _ (s : Sheet) (a : PlanArrays (s .plan)) (h : draw s .result ≡ gives tt
   unfolding drawnSheet
   drawn-shows = rw (drawn s h) (holds and drawing-holds (s .plan) a (verticesIn (s .header .stage)) (segmentsIn (s .header .stage)) holds)
 
+  drawn-passes : (more : List Test) → noneRefuses more ≡ true → noneRefuses (showTests (draw s .sheet) ++ more) ≡ true
+  drawn-passes more h = shows-given (draw s .sheet) more ∙ (drawn-shows and h)
+
   -- A line whose number is below the count is refused only for a short buffer, and a mark never.
   pub drawn-line : (n : ℕ) (b : List ℕ) → n < linesIn (draw s .sheet) → length (lineOf (draw s .sheet) n) ≤ length b
       → line (draw s .sheet) n b .result ≡ gives (length (lineOf (draw s .sheet) n))
+  unfolding noneRefuses
   drawn-line n b l m =
       let t = draw s .sheet in
-      line-given t n b .1 (drawn-shows and (lt-ltb n (linesIn t) l and ap not (le-ltb (length b) (length (lineOf t n)) m)))
+      line-given t n b .1 (drawn-passes (test7Line t n ∷ test14 (lineOf t n) b ∷ []) (rw (lt-ltb n (linesIn t) l, le-ltb (length b) (length (lineOf t n)) m)))
 
   pub drawn-report : (b : List ℕ) → length (reportOf (draw s .sheet)) ≤ length b → report (draw s .sheet) b .result ≡ gives (length (reportOf (draw s .sheet)))
-  drawn-report b m = let t = draw s .sheet in report-given t b .1 (drawn-shows and ap not (le-ltb (length b) (length (reportOf t)) m))
+  unfolding noneRefuses
+  drawn-report b m =
+      let t = draw s .sheet in
+      report-given t b .1 (drawn-passes (test14 (reportOf t) b ∷ []) (rw (le-ltb (length b) (length (reportOf t)) m)))
 
   pub drawn-mark : (n : ℕ) → n < marksIn (draw s .sheet) → mark (draw s .sheet) n ≡ gives (markOf (planIn (draw s .sheet)) (drawingIn (draw s .sheet) .final) n)
-  drawn-mark n l = let t = draw s .sheet in mark-given t n .1 (drawn-shows and lt-ltb n (marksIn t) l)
+  unfolding noneRefuses
+  drawn-mark n l =
+      let t = draw s .sheet in
+      mark-given t n .1 (drawn-passes (test7Mark t n ∷ []) (rw (lt-ltb n (marksIn t) l)))
 
   pub drawn-count : marksIn (draw s .sheet) ≡ marksIn s
   unfolding drawnSheet
@@ -77,7 +89,10 @@ module _ (s : Sheet) (a : PlanArrays (s .plan)) (h : draw s .result ≡ gives tt
   drawn-numbers = rw (drawn s h) (numbers-long (s .plan) (countsIn (drawnSheet s (drawingOf (planIn s)) .header .stage)) holds a (arraysOf (drawingOf (planIn s))))
 
   pub drawn-marks : (b : List Float) → 5 * marksIn (draw s .sheet) ≤ length b → marks (draw s .sheet) b .result ≡ gives (marksIn (draw s .sheet))
-  drawn-marks b m = let t = draw s .sheet in marks-given t b .1 (drawn-shows and ap not (le-ltb (length b) (length (numbersOf t)) (omega (arith, drawn-numbers))))
+  unfolding noneRefuses
+  drawn-marks b m =
+      let t = draw s .sheet in
+      marks-given t b .1 (drawn-passes (test14 (numbersOf t) b ∷ []) (rw (le-ltb (length b) (length (numbersOf t)) (omega (arith, drawn-numbers)))))
 
 -- Drawing twice is drawing once.
 pub draw-again : (s : Sheet) → draw (draw s .sheet) ≡ draw s

@@ -1,5 +1,7 @@
 pub mod LoadLaws
 pub mod DataLaws
 pub mod WhenRefused
+pub mod Refusal13
 pub mod Loaded
 pub mod Drawn
+pub mod Exactly

@@ -1,47 +1,105 @@
--- When each call is refused, and by which number: each condition holds both ways. A refusal changes nothing.
-use mathlib.Core.Path.{_≡_, refl, sym, _∙_}
+-- When each call is refused and by which number, both ways: it is refused by m exactly if m is the number of the first of its tests that
+-- refuses, and gives what it gives exactly if none does. A refusal changes nothing.
+use mathlib.Core.Path.{_≡_, refl, _∙_}
 use mathlib.Core.Bool.{Bool, true, false, cond, not, _&&_}
-use mathlib.Core.List.{List}
+use mathlib.Core.List.{List, [], _∷_, _++_}
 use mathlib.Core.Logic.{_↔_}
 use Prim.Native.Nat.{ℕ}
-use borrow.Author.Tests.{eqb-true, eq-eqb}
-use lib.Dec.{eqb, ltb}
+use lib.Dec.{eqb}
 use lib.ListN.{length}
 use lib.Ieee.{Float}
 use Rattle.ints.specs.Lists.{over}
+use Rattle.ints.specs.Refusals.{Test, firstRefusal, isFirst, noneRefuses}
+use Rattle.ints.proofs.Refusals.{lacks, numbered, refused-first, given-none, none-append, first-early, first-late}
 use Rattle.plan.specs.Plan.{PlanData}
-use Rattle.text.specs.Reading.{Reading, accepted, refused, reading}
+use Rattle.text.specs.Reading.{Reading, accepted, refused, textTests, reading}
 use Rattle.text.proofs.Words.{never}
+use Rattle.text.proofs.WhenRefused.{read-refused, read-given}
 use Rattle.passes.specs.Drawing.{drawingOf}
 use Rattle.marks.specs.Marks.{markOf}
 use Rattle.sheet.specs.declared.types.Stage.{Stage}
 use Rattle.sheet.specs.declared.types.Stage.the-variants.{Empty, Loaded, Drawn}
 use Rattle.sheet.specs.declared.types.Sheet.{Sheet}
 use Rattle.sheet.specs.Sheet.{isEmpty, isDrawn, planIn, drawingIn, drawnSheet}
-use Rattle.sheet.specs.Results.{Result, gives, refuses, firstRefusal, resultAfter}
-use Rattle.sheet.specs.Tests.{holdsPlan, holdsDrawing, linesIn, marksIn, lineOf, reportOf, numbersOf}
-use Rattle.sheet.specs.Calls.{loadOf, load, drawTests, draw, bufferAfter, lineTests, line, reportTests, report, markTests, mark, marksTests, marks}
+use Rattle.sheet.specs.Results.{Result, gives, refuses, resultAfter}
+use Rattle.sheet.specs.Tests.{test11, test12, holdsPlan, test13Plan, holdsDrawing, test13Drawing, marksIn, lineOf, reportOf, numbersOf}
+use Rattle.sheet.specs.Calls.{loadOf, load, drawTests, draw, bufferAfter, lineTests, line, reportTests, report, markTests, mark, marksTests, marks, clear}
 
--- A call gives what it gives exactly if its tests come out as 0, and refuses by m exactly if they come out as m.
-module _ {A : Type 0} (k : ℕ) (a : A) where
-  refuses-by : (m : ℕ) {c : Bool} → eqb m 0 ≡ false → eqb k m ≡ c → (resultAfter k a ≡ refuses m) ↔ (c ≡ true)
-  refuses-by m {c} z e = (λ r. sym e ∙ on r, λ t. let q = eqb-true k m (e ∙ t) in rw (q, z))
-    where
-      by : (b : Bool) → cond b (gives a) (refuses k) ≡ refuses m → k ≡ m
-      by true r = never (cc)
-      by false r = cc
+-- ---- the one law, of what a call gives
+module _ {A : Type 0} (ts : List Test) (h : numbered ts ≡ true) (a : A) where
+  pub refuses-first : (m : ℕ) → (resultAfter (firstRefusal ts) a ≡ refuses m) ↔ (isFirst m ts ≡ true)
+  refuses-first m = refused-first (gives a) refuses (λ m e. never (cc)) (λ m n e. cc) ts h m
 
-      on : resultAfter k a ≡ refuses m → eqb k m ≡ true
-      on r = eq-eqb k m (by (eqb k 0) r)
+  pub gives-none : (resultAfter (firstRefusal ts) a ≡ gives a) ↔ (noneRefuses ts ≡ true)
+  gives-none = given-none (gives a) refuses (λ m e. never (cc)) (λ m n e. cc) ts h
 
-  gives-by : {c : Bool} → eqb k 0 ≡ c → (resultAfter k a ≡ gives a) ↔ (c ≡ true)
-  gives-by {c} e = (λ r. sym e ∙ by (eqb k 0) r, λ t. rw (e ∙ t))
-    where
-      by : (b : Bool) → cond b (gives a) (refuses k) ≡ gives a → b ≡ true
-      by true r = refl
-      by false r = never (cc)
+-- ---- each call
+module _ (s : Sheet) where
+  pub draw-refused : (m : ℕ) → (draw s .result ≡ refuses m) ↔ (isFirst m (drawTests s) ≡ true)
+  unfolding draw
+  draw-refused = refuses-first {A = Unit} (drawTests s) refl tt
 
--- ---- the tests that line, report, mark and marks begin with
+  pub draw-given : (draw s .result ≡ gives tt) ↔ (noneRefuses (drawTests s) ≡ true)
+  unfolding draw
+  draw-given = gives-none {A = Unit} (drawTests s) refl tt
+
+  pub line-refused : (n : ℕ) (b : List ℕ) (m : ℕ) → (line s n b .result ≡ refuses m) ↔ (isFirst m (lineTests s n b) ≡ true)
+  unfolding line
+  line-refused n b = refuses-first (lineTests s n b) refl (length (lineOf s n))
+
+  pub line-given : (n : ℕ) (b : List ℕ) → (line s n b .result ≡ gives (length (lineOf s n))) ↔ (noneRefuses (lineTests s n b) ≡ true)
+  unfolding line
+  line-given n b = gives-none (lineTests s n b) refl (length (lineOf s n))
+
+  pub report-refused : (b : List ℕ) (m : ℕ) → (report s b .result ≡ refuses m) ↔ (isFirst m (reportTests s b) ≡ true)
+  unfolding report
+  report-refused b = refuses-first (reportTests s b) refl (length (reportOf s))
+
+  pub report-given : (b : List ℕ) → (report s b .result ≡ gives (length (reportOf s))) ↔ (noneRefuses (reportTests s b) ≡ true)
+  unfolding report
+  report-given b = gives-none (reportTests s b) refl (length (reportOf s))
+
+  pub mark-refused : (n m : ℕ) → (mark s n ≡ refuses m) ↔ (isFirst m (markTests s n) ≡ true)
+  unfolding mark
+  mark-refused n = refuses-first (markTests s n) refl (markOf (planIn s) (drawingIn s .final) n)
+
+  pub mark-given : (n : ℕ) → (mark s n ≡ gives (markOf (planIn s) (drawingIn s .final) n)) ↔ (noneRefuses (markTests s n) ≡ true)
+  unfolding mark
+  mark-given n = gives-none (markTests s n) refl (markOf (planIn s) (drawingIn s .final) n)
+
+  pub marks-refused : (b : List Float) (m : ℕ) → (marks s b .result ≡ refuses m) ↔ (isFirst m (marksTests s b) ≡ true)
+  unfolding marks
+  marks-refused b = refuses-first (marksTests s b) refl (marksIn s)
+
+  pub marks-given : (b : List Float) → (marks s b .result ≡ gives (marksIn s)) ↔ (noneRefuses (marksTests s b) ≡ true)
+  unfolding marks
+  marks-given b = gives-none (marksTests s b) refl (marksIn s)
+
+  pub clear-given : clear s .result ≡ gives tt
+  unfolding clear
+  clear-given = refl
+
+  -- load is refused as its text is read
+  unread : (r : Reading) (m : ℕ) → (loadOf s r .result ≡ refuses m) ↔ (r ≡ refused m)
+  unread (accepted p) m = (λ e. never (cc), λ e. never (cc))
+  unread (refused n) m = (λ e. cc, λ e. cc)
+
+  pub load-refused : (text : List ℕ) (m : ℕ) → (load s text .result ≡ refuses m) ↔ (isFirst m (textTests text) ≡ true)
+  unfolding load
+  load-refused text m = let u = unread (reading text) m in let r = read-refused text m in (λ e. r .0 (u .0 e), λ e. u .1 (r .1 e))
+
+  read : (r : Reading) → (loadOf s r .result ≡ gives tt) ↔ ((p : PlanData) × (r ≡ accepted p))
+  read (accepted p) = (λ e. (p, refl), λ e. refl)
+  read (refused n) = (λ e. never (cc), λ e. never (cc (e .1)))
+
+  pub load-read : (text : List ℕ) → (load s text .result ≡ gives tt) ↔ ((p : PlanData) × (reading text ≡ accepted p))
+  unfolding load
+  load-read text = read (reading text)
+
+  pub load-given : (text : List ℕ) → (load s text .result ≡ gives tt) ↔ (noneRefuses (textTests text) ≡ true)
+  load-given text = let l = load-read text in let r = read-given text in (λ e. r .0 (l .0 e), λ e. l .1 (r .1 e))
+
+-- ---- what that says, number by number, of the calls that show a sheet: all begin with the same tests
 abbrev pub isLoaded : Stage → Bool
 isLoaded Empty = false
 isLoaded (Loaded v e) = true
@@ -51,234 +109,65 @@ isLoaded (Drawn v e k) = false
 abbrev pub canShow : Sheet → Bool
 canShow s = isDrawn (s .header .stage) && holdsPlan s && holdsDrawing s
 
-abbrev begin : Stage → Bool → Bool → ℕ → ℕ
-begin t c d x = cond (isEmpty t) 11 (cond (not (isDrawn t)) 12 (cond (not c) 13 (cond (not d) 13 x)))
-
-begin-11 : (t : Stage) (c d : Bool) (x : ℕ) → eqb x 11 ≡ false → eqb (begin t c d x) 11 ≡ isEmpty t
-begin-11 Empty c d x h = refl
-begin-11 (Loaded v e) c d x h = refl
-begin-11 (Drawn v e k) false d x h = refl
-begin-11 (Drawn v e k) true false x h = refl
-begin-11 (Drawn v e k) true true x h = h
-
-begin-12 : (t : Stage) (c d : Bool) (x : ℕ) → eqb x 12 ≡ false → eqb (begin t c d x) 12 ≡ isLoaded t
-begin-12 Empty c d x h = refl
-begin-12 (Loaded v e) c d x h = refl
-begin-12 (Drawn v e k) false d x h = refl
-begin-12 (Drawn v e k) true false x h = refl
-begin-12 (Drawn v e k) true true x h = h
-
-begin-13 : (t : Stage) (c d : Bool) (x : ℕ) → eqb x 13 ≡ false → eqb (begin t c d x) 13 ≡ (isDrawn t && not (c && d))
-begin-13 Empty c d x h = refl
-begin-13 (Loaded v e) c d x h = refl
-begin-13 (Drawn v e k) false d x h = refl
-begin-13 (Drawn v e k) true false x h = refl
-begin-13 (Drawn v e k) true true x h = h
-
--- and any other
-begin-on : (t : Stage) (c d : Bool) (x m : ℕ) {b : Bool} → eqb 11 m ≡ false → eqb 12 m ≡ false → eqb 13 m ≡ false → eqb x m ≡ b → eqb (begin t c d x) m ≡ (isDrawn t && c && d && b)
-begin-on Empty c d x m f g h e = f
-begin-on (Loaded v n) c d x m f g h e = g
-begin-on (Drawn v n k) false d x m f g h e = h
-begin-on (Drawn v n k) true false x m f g h e = h
-begin-on (Drawn v n k) true true x m f g h e = e
-
--- ---- line: 11, 12, 13, 7, 14
-abbrev after : Bool → Bool → ℕ
-after n b = cond (not n) 7 (cond b 14 0)
-
-after-not : (m : ℕ) → eqb 7 m ≡ false → eqb 14 m ≡ false → eqb 0 m ≡ false → (n b : Bool) → eqb (after n b) m ≡ false
-after-not m f g h false b = f
-after-not m f g h true true = g
-after-not m f g h true false = h
-
-after-7 : (n b : Bool) → eqb (after n b) 7 ≡ not n
-after-7 false b = refl
-after-7 true true = refl
-after-7 true false = refl
-
-after-14 : (n b : Bool) → eqb (after n b) 14 ≡ (n && b)
-after-14 false b = refl
-after-14 true true = refl
-after-14 true false = refl
-
-after-none : (n b : Bool) → eqb (after n b) 0 ≡ (n && not b)
-after-none false b = refl
-after-none true true = refl
-after-none true false = refl
-
-module _ (s : Sheet) (n : ℕ) (buffer : List ℕ) where
-  abbrev lineRest : ℕ
-  lineRest = after (ltb n (linesIn s)) (ltb (length buffer) (length (lineOf s n)))
-
-  line-by : (m : ℕ) {c : Bool} → eqb m 0 ≡ false → eqb (begin (s .header .stage) (holdsPlan s) (holdsDrawing s) lineRest) m ≡ c → (line s n buffer .result ≡ refuses m) ↔ (c ≡ true)
-  unfolding line firstRefusal
-  line-by m z e = refuses-by (firstRefusal (lineTests s n buffer)) (length (lineOf s n)) m z e
-
-  rest-not : (m : ℕ) → eqb 7 m ≡ false → eqb 14 m ≡ false → eqb 0 m ≡ false → eqb lineRest m ≡ false
-  rest-not m f g h = after-not m f g h (ltb n (linesIn s)) (ltb (length buffer) (length (lineOf s n)))
-
-  pub line-11 : (line s n buffer .result ≡ refuses 11) ↔ (isEmpty (s .header .stage) ≡ true)
-  line-11 = line-by 11 refl (begin-11 (s .header .stage) (holdsPlan s) (holdsDrawing s) lineRest (rest-not 11 refl refl refl))
-
-  pub line-12 : (line s n buffer .result ≡ refuses 12) ↔ (isLoaded (s .header .stage) ≡ true)
-  line-12 = line-by 12 refl (begin-12 (s .header .stage) (holdsPlan s) (holdsDrawing s) lineRest (rest-not 12 refl refl refl))
-
-  pub line-13 : (line s n buffer .result ≡ refuses 13) ↔ ((isDrawn (s .header .stage) && not (holdsPlan s && holdsDrawing s)) ≡ true)
-  line-13 = line-by 13 refl (begin-13 (s .header .stage) (holdsPlan s) (holdsDrawing s) lineRest (rest-not 13 refl refl refl))
-
-  pub line-7 : (line s n buffer .result ≡ refuses 7) ↔ ((canShow s && not (ltb n (linesIn s))) ≡ true)
-  line-7 = line-by 7 refl (begin-on (s .header .stage) (holdsPlan s) (holdsDrawing s) lineRest 7 refl refl refl (after-7 (ltb n (linesIn s)) (ltb (length buffer) (length (lineOf s n)))))
-
-  pub line-14 : (line s n buffer .result ≡ refuses 14) ↔ ((canShow s && (ltb n (linesIn s) && ltb (length buffer) (length (lineOf s n)))) ≡ true)
-  line-14 = line-by 14 refl (begin-on (s .header .stage) (holdsPlan s) (holdsDrawing s) lineRest 14 refl refl refl (after-14 (ltb n (linesIn s)) (ltb (length buffer) (length (lineOf s n)))))
-
-  pub line-given : (line s n buffer .result ≡ gives (length (lineOf s n))) ↔ ((canShow s && (ltb n (linesIn s) && not (ltb (length buffer) (length (lineOf s n))))) ≡ true)
-  unfolding line firstRefusal
-  line-given = gives-by (firstRefusal (lineTests s n buffer)) (length (lineOf s n))
-      (begin-on (s .header .stage) (holdsPlan s) (holdsDrawing s) lineRest 0 refl refl refl (after-none (ltb n (linesIn s)) (ltb (length buffer) (length (lineOf s n)))))
-
--- ---- the whole report: 11, 12, 13, 14
-only-not : (k m : ℕ) → eqb k m ≡ false → eqb 0 m ≡ false → (b : Bool) → eqb (cond b k 0) m ≡ false
-only-not k m f g true = f
-only-not k m f g false = g
-
-only-14 : (b : Bool) → eqb (cond b 14 0) 14 ≡ b
-only-14 true = refl
-only-14 false = refl
-
-only-none : (b : Bool) → eqb (cond b 14 0) 0 ≡ not b
-only-none true = refl
-only-none false = refl
-
-module _ (s : Sheet) (buffer : List ℕ) where
-  abbrev reportShort : Bool
-  reportShort = ltb (length buffer) (length (reportOf s))
-
-  report-by : (m : ℕ) {c : Bool} → eqb m 0 ≡ false → eqb (begin (s .header .stage) (holdsPlan s) (holdsDrawing s) (cond reportShort 14 0)) m ≡ c → (report s buffer .result ≡ refuses m) ↔ (c ≡ true)
-  unfolding report firstRefusal
-  report-by m z e = refuses-by (firstRefusal (reportTests s buffer)) (length (reportOf s)) m z e
-
-  pub report-11 : (report s buffer .result ≡ refuses 11) ↔ (isEmpty (s .header .stage) ≡ true)
-  report-11 = report-by 11 refl (begin-11 (s .header .stage) (holdsPlan s) (holdsDrawing s) (cond reportShort 14 0) (only-not 14 11 refl refl reportShort))
-
-  pub report-12 : (report s buffer .result ≡ refuses 12) ↔ (isLoaded (s .header .stage) ≡ true)
-  report-12 = report-by 12 refl (begin-12 (s .header .stage) (holdsPlan s) (holdsDrawing s) (cond reportShort 14 0) (only-not 14 12 refl refl reportShort))
-
-  pub report-13 : (report s buffer .result ≡ refuses 13) ↔ ((isDrawn (s .header .stage) && not (holdsPlan s && holdsDrawing s)) ≡ true)
-  report-13 = report-by 13 refl (begin-13 (s .header .stage) (holdsPlan s) (holdsDrawing s) (cond reportShort 14 0) (only-not 14 13 refl refl reportShort))
-
-  pub report-14 : (report s buffer .result ≡ refuses 14) ↔ ((canShow s && ltb (length buffer) (length (reportOf s))) ≡ true)
-  report-14 = report-by 14 refl (begin-on (s .header .stage) (holdsPlan s) (holdsDrawing s) (cond reportShort 14 0) 14 refl refl refl (only-14 reportShort))
-
-  pub report-given : (report s buffer .result ≡ gives (length (reportOf s))) ↔ ((canShow s && not (ltb (length buffer) (length (reportOf s)))) ≡ true)
-  unfolding report firstRefusal
-  report-given = gives-by (firstRefusal (reportTests s buffer)) (length (reportOf s)) (begin-on (s .header .stage) (holdsPlan s) (holdsDrawing s) (cond reportShort 14 0) 0 refl refl refl (only-none reportShort))
-
--- ---- mark: 11, 12, 13, 7
-only-7 : (b : Bool) → eqb (cond (not b) 7 0) 7 ≡ not b
-only-7 true = refl
-only-7 false = refl
-
-all-there : (b : Bool) → eqb (cond (not b) 7 0) 0 ≡ b
-all-there true = refl
-all-there false = refl
-
-module _ (s : Sheet) (n : ℕ) where
-  abbrev markThere : Bool
-  markThere = ltb n (marksIn s)
-
-  mark-by : (m : ℕ) {c : Bool} → eqb m 0 ≡ false → eqb (begin (s .header .stage) (holdsPlan s) (holdsDrawing s) (cond (not markThere) 7 0)) m ≡ c → (mark s n ≡ refuses m) ↔ (c ≡ true)
-  unfolding mark firstRefusal
-  mark-by m z e = refuses-by (firstRefusal (markTests s n)) (markOf (planIn s) (drawingIn s .final) n) m z e
-
-  pub mark-11 : (mark s n ≡ refuses 11) ↔ (isEmpty (s .header .stage) ≡ true)
-  mark-11 = mark-by 11 refl (begin-11 (s .header .stage) (holdsPlan s) (holdsDrawing s) (cond (not markThere) 7 0) (only-not 7 11 refl refl (not markThere)))
-
-  pub mark-12 : (mark s n ≡ refuses 12) ↔ (isLoaded (s .header .stage) ≡ true)
-  mark-12 = mark-by 12 refl (begin-12 (s .header .stage) (holdsPlan s) (holdsDrawing s) (cond (not markThere) 7 0) (only-not 7 12 refl refl (not markThere)))
-
-  pub mark-13 : (mark s n ≡ refuses 13) ↔ ((isDrawn (s .header .stage) && not (holdsPlan s && holdsDrawing s)) ≡ true)
-  mark-13 = mark-by 13 refl (begin-13 (s .header .stage) (holdsPlan s) (holdsDrawing s) (cond (not markThere) 7 0) (only-not 7 13 refl refl (not markThere)))
-
-  pub mark-7 : (mark s n ≡ refuses 7) ↔ ((canShow s && not (ltb n (marksIn s))) ≡ true)
-  mark-7 = mark-by 7 refl (begin-on (s .header .stage) (holdsPlan s) (holdsDrawing s) (cond (not markThere) 7 0) 7 refl refl refl (only-7 markThere))
-
-  pub mark-given : (mark s n ≡ gives (markOf (planIn s) (drawingIn s .final) n)) ↔ ((canShow s && ltb n (marksIn s)) ≡ true)
-  unfolding mark firstRefusal
-  mark-given = gives-by (firstRefusal (markTests s n)) (markOf (planIn s) (drawingIn s .final) n) (begin-on (s .header .stage) (holdsPlan s) (holdsDrawing s) (cond (not markThere) 7 0) 0 refl refl refl (all-there markThere))
-
--- ---- all marks: 11, 12, 13, 14
-module _ (s : Sheet) (buffer : List Float) where
-  abbrev marksShort : Bool
-  marksShort = ltb (length buffer) (length (numbersOf s))
-
-  marks-by : (m : ℕ) {c : Bool} → eqb m 0 ≡ false → eqb (begin (s .header .stage) (holdsPlan s) (holdsDrawing s) (cond marksShort 14 0)) m ≡ c → (marks s buffer .result ≡ refuses m) ↔ (c ≡ true)
-  unfolding marks firstRefusal
-  marks-by m z e = refuses-by (firstRefusal (marksTests s buffer)) (marksIn s) m z e
-
-  pub marks-11 : (marks s buffer .result ≡ refuses 11) ↔ (isEmpty (s .header .stage) ≡ true)
-  marks-11 = marks-by 11 refl (begin-11 (s .header .stage) (holdsPlan s) (holdsDrawing s) (cond marksShort 14 0) (only-not 14 11 refl refl marksShort))
-
-  pub marks-12 : (marks s buffer .result ≡ refuses 12) ↔ (isLoaded (s .header .stage) ≡ true)
-  marks-12 = marks-by 12 refl (begin-12 (s .header .stage) (holdsPlan s) (holdsDrawing s) (cond marksShort 14 0) (only-not 14 12 refl refl marksShort))
-
-  pub marks-13 : (marks s buffer .result ≡ refuses 13) ↔ ((isDrawn (s .header .stage) && not (holdsPlan s && holdsDrawing s)) ≡ true)
-  marks-13 = marks-by 13 refl (begin-13 (s .header .stage) (holdsPlan s) (holdsDrawing s) (cond marksShort 14 0) (only-not 14 13 refl refl marksShort))
-
-  pub marks-14 : (marks s buffer .result ≡ refuses 14) ↔ ((canShow s && ltb (length buffer) (length (numbersOf s))) ≡ true)
-  marks-14 = marks-by 14 refl (begin-on (s .header .stage) (holdsPlan s) (holdsDrawing s) (cond marksShort 14 0) 14 refl refl refl (only-14 marksShort))
-
-  pub marks-given : (marks s buffer .result ≡ gives (marksIn s)) ↔ ((canShow s && not (ltb (length buffer) (length (numbersOf s)))) ≡ true)
-  unfolding marks firstRefusal
-  marks-given = gives-by (firstRefusal (marksTests s buffer)) (marksIn s) (begin-on (s .header .stage) (holdsPlan s) (holdsDrawing s) (cond marksShort 14 0) 0 refl refl refl (only-none marksShort))
-
--- ---- draw: 11, 13
-draw-is-11 : (e p : Bool) → eqb (cond e 11 (cond (not p) 13 0)) 11 ≡ e
-draw-is-11 true p = refl
-draw-is-11 false true = refl
-draw-is-11 false false = refl
-
-draw-is-13 : (e p : Bool) → eqb (cond e 11 (cond (not p) 13 0)) 13 ≡ (not e && not p)
-draw-is-13 true p = refl
-draw-is-13 false true = refl
-draw-is-13 false false = refl
-
-draw-is-given : (e p : Bool) → eqb (cond e 11 (cond (not p) 13 0)) 0 ≡ (not e && p)
-draw-is-given true p = refl
-draw-is-given false true = refl
-draw-is-given false false = refl
+abbrev pub showTests : Sheet → List Test
+showTests s = test11 s ∷ test12 s ∷ test13Plan s ∷ test13Drawing s ∷ []
 
 module _ (s : Sheet) where
-  pub draw-11 : (draw s .result ≡ refuses 11) ↔ (isEmpty (s .header .stage) ≡ true)
-  unfolding draw firstRefusal
-  draw-11 = refuses-by {A = Unit} (firstRefusal (drawTests s)) tt 11 refl (draw-is-11 (isEmpty (s .header .stage)) (holdsPlan s))
+  begin-11 : (t : Stage) (c d : Bool)
+      → cond (isEmpty t) true (cond (not (isDrawn t)) false (cond (not c) false (cond (not d) false false))) ≡ isEmpty t
+  begin-11 Empty c d = refl
+  begin-11 (Loaded v e) c d = refl
+  begin-11 (Drawn v e k) false d = refl
+  begin-11 (Drawn v e k) true false = refl
+  begin-11 (Drawn v e k) true true = refl
 
-  pub draw-13 : (draw s .result ≡ refuses 13) ↔ ((not (isEmpty (s .header .stage)) && not (holdsPlan s)) ≡ true)
-  unfolding draw firstRefusal
-  draw-13 = refuses-by {A = Unit} (firstRefusal (drawTests s)) tt 13 refl (draw-is-13 (isEmpty (s .header .stage)) (holdsPlan s))
+  begin-12 : (t : Stage) (c d : Bool)
+      → cond (isEmpty t) false (cond (not (isDrawn t)) true (cond (not c) false (cond (not d) false false))) ≡ isLoaded t
+  begin-12 Empty c d = refl
+  begin-12 (Loaded v e) c d = refl
+  begin-12 (Drawn v e k) false d = refl
+  begin-12 (Drawn v e k) true false = refl
+  begin-12 (Drawn v e k) true true = refl
 
-  pub draw-given : (draw s .result ≡ gives tt) ↔ ((not (isEmpty (s .header .stage)) && holdsPlan s) ≡ true)
-  unfolding draw firstRefusal
-  draw-given = gives-by {A = Unit} (firstRefusal (drawTests s)) tt (draw-is-given (isEmpty (s .header .stage)) (holdsPlan s))
+  begin-13 : (t : Stage) (c d : Bool)
+      → cond (isEmpty t) false (cond (not (isDrawn t)) false (cond (not c) true (cond (not d) true false))) ≡ (isDrawn t && not (c && d))
+  begin-13 Empty c d = refl
+  begin-13 (Loaded v e) c d = refl
+  begin-13 (Drawn v e k) false d = refl
+  begin-13 (Drawn v e k) true false = refl
+  begin-13 (Drawn v e k) true true = refl
 
--- ---- load: 1 to 6
-module _ (s : Sheet) (text : List ℕ) where
-  pub load-refused : (m : ℕ) → (load s text .result ≡ refuses m) ↔ (reading text ≡ refused m)
-  unfolding load
-  load-refused m = (λ e. by (reading text) e, λ e. rw e)
-    where
-      by : (r : Reading) → loadOf s r .result ≡ refuses m → r ≡ refused m
-      by (accepted p) e = never (cc)
-      by (refused n) e = cc
+  begin-none : (t : Stage) (c d : Bool)
+      → cond (isEmpty t) false (cond (not (isDrawn t)) false (cond (not c) false (cond (not d) false true))) ≡ (isDrawn t && c && d)
+  begin-none Empty c d = refl
+  begin-none (Loaded v e) c d = refl
+  begin-none (Drawn v e k) false d = refl
+  begin-none (Drawn v e k) true false = refl
+  begin-none (Drawn v e k) true true = refl
 
-  pub load-given : (load s text .result ≡ gives tt) ↔ ((p : PlanData) × (reading text ≡ accepted p))
-  unfolding load
-  load-given = (λ e. by (reading text) e, λ e. rw (e .1))
-    where
-      by : (r : Reading) → loadOf s r .result ≡ gives tt → (p : PlanData) × (r ≡ accepted p)
-      by (accepted p) e = (p, refl)
-      by (refused n) e = never (cc)
+  shown : noneRefuses (showTests s) ≡ canShow s
+  unfolding noneRefuses
+  shown = begin-none (s .header .stage) (holdsPlan s) (holdsDrawing s)
+
+  module _ (more : List Test) where
+    pub shows-11 : lacks 11 more ≡ true → isFirst 11 (showTests s ++ more) ≡ isEmpty (s .header .stage)
+    unfolding isFirst
+    shows-11 h = first-early 11 (showTests s) more h ∙ begin-11 (s .header .stage) (holdsPlan s) (holdsDrawing s)
+
+    pub shows-12 : lacks 12 more ≡ true → isFirst 12 (showTests s ++ more) ≡ isLoaded (s .header .stage)
+    unfolding isFirst
+    shows-12 h = first-early 12 (showTests s) more h ∙ begin-12 (s .header .stage) (holdsPlan s) (holdsDrawing s)
+
+    pub shows-13 : lacks 13 more ≡ true → isFirst 13 (showTests s ++ more) ≡ (isDrawn (s .header .stage) && not (holdsPlan s && holdsDrawing s))
+    unfolding isFirst
+    shows-13 h = first-early 13 (showTests s) more h ∙ begin-13 (s .header .stage) (holdsPlan s) (holdsDrawing s)
+
+    -- 7 and 14, and what is given
+    pub shows-later : (m : ℕ) → lacks m (showTests s) ≡ true → isFirst m (showTests s ++ more) ≡ (canShow s && isFirst m more)
+    shows-later m h = first-late m (showTests s) more h ∙ rw shown
+
+    pub shows-given : noneRefuses (showTests s ++ more) ≡ (canShow s && noneRefuses more)
+    shows-given = none-append (showTests s) more ∙ rw shown
 
 -- ---- a refusal changes nothing
 buffer-kept : {A : Type 0} (k m n : ℕ) (w b : List A) → bufferAfter k n w b .result ≡ refuses m → bufferAfter k n w b .buffer ≡ b
@@ -304,7 +193,8 @@ pub draw-kept : (s : Sheet) (m : ℕ) → draw s .result ≡ refuses m → draw 
 unfolding draw
 draw-kept s m = by (eqb (firstRefusal (drawTests s)) 0)
   where
-    by : (t : Bool) → _≡_ {A = Result Unit} (cond t (gives tt) (refuses (firstRefusal (drawTests s)))) (refuses m) → cond t (drawnSheet s (drawingOf (planIn s))) s ≡ s
+    by : (t : Bool) → _≡_ {A = Result Unit} (cond t (gives tt) (refuses (firstRefusal (drawTests s)))) (refuses m)
+        → cond t (drawnSheet s (drawingOf (planIn s))) s ≡ s
     by true e = never (cc)
     by false e = refl
 

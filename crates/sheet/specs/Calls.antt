@@ -3,22 +3,27 @@
 use mathlib.Core.Bool.{cond}
 use mathlib.Core.List.{List, [], _∷_}
 use mathlib.Core.Path.{_≡_}
-use Prim.Native.Nat.{ℕ}
+use Prim.Native.Nat.{ℕ, _*_, _<_}
 use lib.Dec.{eqb}
-use lib.ListN.{length}
+use lib.ListN.{length, drop}
 use lib.Ieee.{Float}
 use Rattle.ints.specs.Lists.{over}
+use Rattle.ints.specs.Refusals.{Test, firstRefusal}
 use Rattle.text.specs.Reading.{Reading, accepted, refused as unread, reading}
 use Rattle.passes.specs.Drawing.{drawingOf}
 use Rattle.passes.specs.Demand3.{Demand3}
 use Rattle.marks.specs.declared.types.Mark.{Mark}
-use Rattle.marks.specs.Marks.{markOf}
+use Rattle.marks.specs.Marks.{wholeMarkOf, markOf}
+use Rattle.marks.specs.Exact.{ExactMark, ExactFive}
 use Rattle.sheet.specs.declared.types.Sheet.{Sheet}
 use Rattle.sheet.specs.declared.types.Answer.{Answer}
 use Rattle.sheet.specs.declared.types.Answer.the-variants.{Accepted}
 use Rattle.sheet.specs.declared.types.LineAnswer.{LineAnswer}
+use Rattle.sheet.specs.declared.types.LineAnswer.the-variants.{Written}
+use Rattle.sheet.specs.declared.types.MarkAnswer.{MarkAnswer}
+use Rattle.sheet.specs.declared.types.MarkAnswer.the-variants.{Given}
 use Rattle.sheet.specs.Sheet.{planIn, drawingIn, emptySheet, loadedSheet, drawnSheet}
-use Rattle.sheet.specs.Results.{Result, gives, refuses, resultOf, lineResultOf, Test, firstRefusal, resultAfter}
+use Rattle.sheet.specs.Results.{Result, gives, refuses, resultOf, lineResultOf, markResultOf, resultAfter}
 use Rattle.sheet.specs.Tests.{test11, test12, test13Plan, test13Drawing, test7Line, marksIn, test7Mark, test14, lineOf, reportOf, numbersOf}
 
 -- ---- load
@@ -109,6 +114,16 @@ pub record Draws (s : Sheet) (a : Answer) (t : Sheet) : Type 0 where
   pub leaves : Leaves (draw s) a t
   pub demand3 : a ≡ Accepted → Demand3 (planIn t) (drawingIn t)
 
+-- Mark's promise says besides which numbers the mark has that is given: exactly those of the n-th mark in whole numbers.
+pub record GivesMark (s : Sheet) (n : ℕ) (a : MarkAnswer) : Type 0 where
+  pub answered : markResultOf a ≡ mark s n
+  pub exact : (m : Mark) → a ≡ Given m → ExactMark (wholeMarkOf (planIn s) (drawingIn s .final) n) m
+
 pub record Writes {A : Type 0} (o : BufferOut A) (a : LineAnswer) (buffer : List A) : Type 0 where
   pub answered : lineResultOf a ≡ o .result
   pub left : buffer ≡ o .buffer
+
+-- And so does that of all marks: each five numbers in the buffer are exactly those of their mark.
+pub record WritesMarks (s : Sheet) (buffer : List Float) (a : LineAnswer) (out : List Float) : Type 0 where
+  pub writes : Writes (marks s buffer) a out
+  pub exact : (k : ℕ) → a ≡ Written k → (n : ℕ) → n < k → ExactFive (wholeMarkOf (planIn s) (drawingIn s .final) n) (drop (5 * n) out)

@@ -1,6 +1,5 @@
--- What a call gives, and the tests that it goes through before.
-use mathlib.Core.Bool.{Bool, cond}
-use mathlib.Core.List.{List, [], _∷_}
+-- What a call gives.
+use mathlib.Core.Bool.{cond}
 use Prim.Native.Nat.{ℕ}
 use lib.Dec.{eqb}
 use Rattle.marks.specs.declared.types.Mark.{Mark}
@@ -28,20 +27,6 @@ lineResultOf (Unwritten n) = refuses n
 abbrev pub markResultOf : MarkAnswer → Result Mark
 markResultOf (Given m) = gives m
 markResultOf (Unmarked n) = refuses n
-
--- A test that refuses by its number, and the first such test of a list; 0 if none refuses.
-pub record Test : Type 0 where
-  pub number : ℕ
-  pub refuses : Bool
-
-abbrev pub test : ℕ → Bool → Test
-test n b = record { number = n; refuses = b }
-
-unfoldable pub firstRefusal : List Test → ℕ
-firstRefusal [] = 0
-firstRefusal (t ∷ ts) =
-    let more = firstRefusal ts in
-    cond (t .refuses) (t .number) more
 
 -- What a call gives whose tests came out as n.
 abbrev pub resultAfter : {A : Type 0} → ℕ → A → Result A

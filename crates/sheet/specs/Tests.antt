@@ -1,17 +1,17 @@
 -- The refusals of a sheet's calls, "from the state".
-use mathlib.Core.Bool.{Bool, not}
+use mathlib.Core.Bool.{Bool}
 use mathlib.Core.List.{List, []}
 use Prim.Native.Nat.{ℕ, _+_}
 use lib.Dec.{ltb}
 use lib.ListN.{length, getD}
 use lib.Ieee.{Float}
 use Rattle.ints.specs.Lists.{concat}
+use Rattle.ints.specs.Refusals.{Test, test, check}
 use Rattle.report.specs.Refusal13.{isStoredPlan, isDrawingIn}
 use Rattle.report.specs.Lines.{reportLines}
 use Rattle.marks.specs.Marks.{allNumbers}
 use Rattle.sheet.specs.declared.types.Sheet.{Sheet}
 use Rattle.sheet.specs.Sheet.{isEmpty, isDrawn, verticesIn, segmentsIn, placingsIn, planIn, drawingIn}
-use Rattle.sheet.specs.Results.{Test, test}
 
 -- 11: "Draw, line or mark on an empty sheet."
 abbrev pub test11 : Sheet → Test
@@ -19,14 +19,14 @@ test11 s = test 11 (isEmpty (s .header .stage))
 
 -- 12: "Line or mark on a sheet not drawn."
 abbrev pub test12 : Sheet → Test
-test12 s = test 12 (not (isDrawn (s .header .stage)))
+test12 s = check 12 (isDrawn (s .header .stage))
 
 -- 13: "The plan, with the stage's vertex and segment counts, is that of no text that passes checks 1 to 6";
 abbrev pub holdsPlan : Sheet → Bool
 holdsPlan s = isStoredPlan (s .plan) (verticesIn (s .header .stage)) (segmentsIn (s .header .stage))
 
 abbrev pub test13Plan : Sheet → Test
-test13Plan s = test 13 (not (holdsPlan s))
+test13Plan s = check 13 (holdsPlan s)
 
 -- "for line and mark also" what the drawing holds.
 abbrev pub holdsDrawing : Sheet → Bool
@@ -34,20 +34,20 @@ holdsDrawing s =
     isDrawingIn (s .plan) (s .drawing) (verticesIn (s .header .stage)) (segmentsIn (s .header .stage)) (placingsIn (s .header .stage))
 
 abbrev pub test13Drawing : Sheet → Test
-test13Drawing s = test 13 (not (holdsDrawing s))
+test13Drawing s = check 13 (holdsDrawing s)
 
 -- 7: "No such line or mark." There are V + P + 2 lines and V + E marks.
 abbrev pub linesIn : Sheet → ℕ
 linesIn s = verticesIn (s .header .stage) + placingsIn (s .header .stage) + 2
 
 abbrev pub test7Line : Sheet → ℕ → Test
-test7Line s n = test 7 (not (ltb n (linesIn s)))
+test7Line s n = check 7 (ltb n (linesIn s))
 
 abbrev pub marksIn : Sheet → ℕ
 marksIn s = verticesIn (s .header .stage) + segmentsIn (s .header .stage)
 
 abbrev pub test7Mark : Sheet → ℕ → Test
-test7Mark s n = test 7 (not (ltb n (marksIn s)))
+test7Mark s n = check 7 (ltb n (marksIn s))
 
 -- 14: "The buffer is shorter than the line", or than all lines, or than the numbers of all marks.
 abbrev pub test14 : {A : Type 0} → List A → List A → Test

@@ -24,8 +24,8 @@ use Rattle.passes.specs.State.{Step}
 use Rattle.passes.specs.Drawing.{Placing, Drawing, traceOf, drawingOf}
 use Rattle.passes.specs.Words.{replay, runOf, boxesListed, maxListed, finished}
 use Rattle.passes.specs.Demand3.{Demand3}
-use Rattle.pass_laws.proofs.Put.{length-put}
-use Rattle.pass_laws.proofs.Kept.{kept}
+use Rattle.passes.proofs.Put.{length-put}
+use Rattle.passes.proofs.Kept.{kept}
 use Rattle.demand3.proofs.Theorem.{demand3}
 use Rattle.pass_list.proofs.Decoded.{decoded}
 use Rattle.report_lines.proofs.Listed.{few-placings, few-boxes}

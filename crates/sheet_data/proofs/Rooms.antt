@@ -1,14 +1,16 @@
 -- What the lines and the marks of a drawing that is not refused ask for is there: the parts of its arrays that the counts cut off.
 use mathlib.Core.Path.{_≡_, refl, sym, _∙_, ap}
 use mathlib.Core.Bool.{true}
-use mathlib.Core.List.{List, [], _∷_}
+use mathlib.Core.List.{List, [], _∷_, _++_}
 use Prim.Native.Nat.{ℕ, _*_, _≤_, _<_}
 use native.Mathlib.Omega.{arith}
 use borrow.Author.Tests.{leb-true}
 use lib.Dec.{leb}
-use lib.ListN.{length, take}
+use lib.ListN.{length, take, drop}
 use lib.Seq.{length-take-le}
+use lib.Ieee.{Float}
 use Rattle.ints.specs.Lists.{sum, concat}
+use Rattle.ints.specs.Reach.{allWithin}
 use Rattle.plan.specs.Limits.{maxVertices, maxSegments}
 use Rattle.plan.specs.declared.data.Plan.{Plan}
 use Rattle.plan.specs.Acceptable.{acceptable}
@@ -22,13 +24,15 @@ use Rattle.report_lines.specs.inner.Stored.{planPart, lineOf, Stored, LineRoom,
 use Rattle.report_lines.proofs.ByNumber.{HasPart, same-lines}
 use Rattle.report_lines.proofs.Listed.{final-within}
 use Rattle.report_lines.proofs.Rooms.{line-room, report-room, drawing-within}
-use Rattle.marks.specs.Marks.{markCount}
+use Rattle.marks.specs.Marks.{wholeMarkOf, markCount}
+use Rattle.marks.specs.Exact.{ExactMark, ExactFive}
 use Rattle.marks.specs.inner.Asked.{AskedAll, Asked, DataOf}
-use Rattle.marks.proofs.Acceptable.{asked-all}
+use Rattle.marks.proofs.Exact.{Fits}
+use Rattle.marks.proofs.Acceptable.{asked-all, marks-fit, marks-exact, numbers-exact}
 use Rattle.marks.proofs.All.{all-long}
 use Rattle.report.specs.declared.data.Drawing.{Drawing as Arrays}
 use Rattle.report.specs.declared.data.Counts.{Counts}
-use Rattle.sheet_data.specs.inner.Parts.{planWith, drawingWith, isPlanWith, Holds, linesOf, lineWith, reportWith, marksOf, numbersWith}
+use Rattle.sheet_data.specs.inner.Parts.{planWith, drawingWith, isPlanWith, Holds, linesOf, lineWith, reportWith, marksOf, markWith, numbersWith}
 use Rattle.sheet_data.proofs.Cuts.{PlanArrays, DrawingArrays, PlanCut, DrawingCut, plan-cut, drawing-cut}
 
 -- ---- as many vertices and segments as the counts say
@@ -64,6 +68,21 @@ module _ (p : Plan) (d : Arrays) (c : Counts) (h : Holds p d c) where
         boxes = leb-true (sum (take (c .placings) (d .counts))) maxListed (t 1);
         drawing = t 2;
       }
+
+  -- what the marks are made of is small enough for f64
+  finals-near : allWithin (drawingWith d c .final) ≡ true
+  finals-near = final-within (drawingWith d c) (drawing-within (planWith p c) (drawingWith d c) (parts .drawing))
+
+  pub mark-fits : (n : ℕ) → Fits (wholeMarkOf (planWith p c) (drawingWith d c .final) n)
+  mark-fits n = marks-fit (planWith p c) (drawingWith d c .final) plan-ok finals-near n
+
+  pub mark-exact : (n : ℕ) → ExactMark (wholeMarkOf (planWith p c) (drawingWith d c .final) n) (markWith p d c n)
+  mark-exact n = marks-exact (planWith p c) (drawingWith d c .final) plan-ok finals-near n
+
+  pub five-exact : PlanArrays p → (n : ℕ) (more : List Float) → n < marksOf c
+      → ExactFive (wholeMarkOf (planWith p c) (drawingWith d c .final) n) (drop (5 * n) (numbersWith p d c ++ more))
+  five-exact a n more l =
+      numbers-exact (planWith p c) (drawingWith d c .final) plan-ok finals-near n more (omega (arith, marks-are p c (h .plan) a))
 
   -- how many there are of each
   pub record Few : Type 0 where
@@ -120,7 +139,7 @@ module _ (p : Plan) (d : Arrays) (c : Counts) (h : Holds p d c) where
     -- ---- marks
     pub marks-asked : AskedAll (p .spacing) (take (p .levels) (p .sizes)) (take (c .vertices) (p .vias)) (take (c .vertices) (p .halves)) (take (c .segments) (p .uppers)) (take (c .segments) (p .lowers)) (take (c .vertices) (d .finals))
     marks-asked =
-        asked-all (planWith p c) (take (c .vertices) (d .finals)) plan-ok (final-within (drawingWith d c) (drawing-within (planWith p c) (drawingWith d c) (parts .drawing)))
+        asked-all (planWith p c) (take (c .vertices) (d .finals)) plan-ok finals-near
         (length-take-le (c .vertices) (d .finals) (in-drawing .finals) ∙ sym (vias-long p c (h .plan) a))
 
     pub mark-asked : (n : ℕ) → n < marksOf c

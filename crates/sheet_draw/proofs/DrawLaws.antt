@@ -1,9 +1,9 @@
 -- What draw gives, as the program meets it: by the number of its refusal.
-use mathlib.Core.Path.{_≡_, refl, sym, _∙_, ap}
-use mathlib.Core.Bool.{Bool, true, false, cond, not}
+use mathlib.Core.Path.{_≡_, refl, _∙_, ap}
+use mathlib.Core.Bool.{true}
 use Prim.Native.Nat.{ℕ}
-use native.Mathlib.Omega.{arith}
-use borrow.Author.Tests.{ne-eqb}
+use borrow.Author.Tests.{ne-eqb, not-false}
+use Rattle.ints.proofs.Refusals.{none-at, none-found}
 use Rattle.text.proofs.Words.{never}
 use Rattle.passes.specs.Drawing.{drawingOf}
 use Rattle.report.specs.declared.data.Counts.{Counts}
@@ -11,10 +11,10 @@ use Rattle.report.specs.declared.data.NewDrawing.{NewDrawing}
 use Rattle.sheet_data.specs.inner.Parts.{planWith, isPlanWith, newDrawing, Draws as Made}
 use Rattle.sheet.specs.declared.types.Sheet.{Sheet}
 use Rattle.sheet.specs.declared.types.Answer.the-variants.{Accepted, Refused}
-use Rattle.sheet.specs.Sheet.{isEmpty, planIn, drawnSheet}
-use Rattle.sheet.specs.Results.{gives, firstRefusal}
+use Rattle.sheet.specs.Sheet.{planIn, drawnSheet}
+use Rattle.sheet.specs.Results.{gives}
 use Rattle.sheet.specs.Tests.{holdsPlan}
-use Rattle.sheet.specs.Calls.{sheetOut, draw, Draws}
+use Rattle.sheet.specs.Calls.{sheetOut, drawTests, draw, Draws}
 use Rattle.sheet.specs.inner.Refusals.{countsIn, drawRefusal, withDrawing}
 use Rattle.sheet.proofs.LoadLaws.{leaves}
 
@@ -28,13 +28,8 @@ module _ (s : Sheet) (m : ℕ) (e : m ≡ drawRefusal (s .header .stage) (s .pla
   drawn z = rw (← e, z)
 
   pub plan-holds : m ≡ 0 → isPlanWith (s .plan) (countsIn (s .header .stage)) ≡ true
-  unfolding drawRefusal firstRefusal
-  plan-holds z = by (isEmpty (s .header .stage)) (holdsPlan s) (sym z ∙ e)
-    where
-      by : (a b : Bool) → _≡_ {A = ℕ} 0 (cond a 11 (cond (not b) 13 0)) → b ≡ true
-      by true b e = absurd (omega arith)
-      by false true e = refl
-      by false false e = absurd (omega arith)
+  unfolding drawRefusal
+  plan-holds z = not-false (holdsPlan s) (none-at (drawTests s) (none-found m (drawTests s) refl e z) 1)
 
   pub draws : m ≡ 0 → (c : Counts) → c ≡ countsIn (s .header .stage) → (n : NewDrawing) → Made (s .plan) c n → {t : Sheet} → t ≡ withDrawing s n → Draws s Accepted t
   unfolding drawnSheet

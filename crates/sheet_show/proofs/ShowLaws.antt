@@ -1,51 +1,40 @@
 -- What line, report, mark and marks give, as the program meets it: after the tests 11, 12 and 13, which are the same for all, and
 -- after 7 and 14.
-use mathlib.Core.Path.{_≡_, refl, sym, _∙_, ap}
-use mathlib.Core.Bool.{Bool, true, false, cond, not}
-use mathlib.Core.List.{List, [], _∷_}
+use mathlib.Core.Path.{_≡_, refl, sym, ap}
+use mathlib.Core.Bool.{true}
+use mathlib.Core.List.{List, [], _∷_, _++_}
 use Prim.Native.Nat.{ℕ, _≤_, _<_}
 use native.Mathlib.Omega.{arith}
-use borrow.Author.Tests.{lt-ltb, le-ltb, ne-eqb}
+use borrow.Author.Tests.{lt-ltb, le-ltb, ne-eqb, not-false}
 use lib.ListN.{length, take, drop, replicate, length-append, length-replicate}
 use lib.Seq.{take-at}
 use lib.Ieee.{Float}
 use Rattle.ints.specs.Lists.{over}
+use Rattle.ints.specs.Refusals.{Test, firstRefusal, noneRefuses}
+use Rattle.ints.proofs.Refusals.{none-at, none-found, refusal-early, refusal-late}
 use Rattle.plan.specs.declared.data.Plan.{Plan}
 use Rattle.text_write.specs.inner.Written.{Fronts}
 use Rattle.report.specs.declared.data.Drawing.{Drawing as Arrays}
 use Rattle.report.specs.declared.data.Counts.{Counts}
-use Rattle.sheet_data.specs.inner.Parts.{isPlanWith, isDrawingWith, Holds, linesOf, lineWith, reportWith, marksOf, markWith}
+use Rattle.sheet_data.specs.inner.Parts.{Holds, linesOf, lineWith, reportWith, marksOf, markWith}
 use Rattle.sheet.specs.declared.types.Sheet.{Sheet}
 use Rattle.sheet.specs.declared.types.LineAnswer.{LineAnswer}
 use Rattle.sheet.specs.declared.types.LineAnswer.the-variants.{Written}
-use Rattle.sheet.specs.Sheet.{isEmpty, isDrawn}
-use Rattle.sheet.specs.Results.{gives, refuses, Test, firstRefusal}
-use Rattle.sheet.specs.Tests.{test11, test12, holdsPlan, test13Plan, holdsDrawing, test13Drawing, test7Line, marksIn, test7Mark, test14, lineOf, reportOf, numbersOf}
+use Rattle.sheet.specs.Results.{gives, refuses}
+use Rattle.sheet.specs.Tests.{holdsPlan, holdsDrawing, test7Line, marksIn, test7Mark, test14, lineOf, reportOf, numbersOf}
 use Rattle.sheet.specs.Calls.{BufferOut, bufferAfter, line, report, mark, marks, Writes}
-use Rattle.sheet.specs.inner.Refusals.{countsIn}
-use Rattle.sheet_show.specs.inner.Shown.{showRefusal, fitted, fittedText, lineFrom, markFrom, marksFrom}
-
--- The tests that line, report, mark and marks begin with.
-abbrev begun : Sheet → List Test → List Test
-begun s more = test11 s ∷ test12 s ∷ test13Plan s ∷ test13Drawing s ∷ more
-
-abbrev chain : Bool → Bool → Bool → Bool → ℕ → ℕ
-chain a b c d x = cond a 11 (cond b 12 (cond (not c) 13 (cond (not d) 13 x)))
+use Rattle.sheet.specs.inner.Refusals.{countsIn, showRefusal}
+use Rattle.sheet.proofs.WhenRefused.{showTests}
+use Rattle.sheet_show.specs.inner.Shown.{fitted, fittedText, lineFrom, markFrom, marksFrom}
 
 -- ---- a sheet that they refuse
-one-refuses : (a b c d : Bool) (x m : ℕ) → m ≡ chain a b c d 0 → (m ≡ 0 → ⊥) → chain a b c d x ≡ m
-one-refuses true b c d x m e z = sym e
-one-refuses false true c d x m e z = sym e
-one-refuses false false false d x m e z = sym e
-one-refuses false false true false x m e z = sym e
-one-refuses false false true true x m e z = absurd (z e)
-
 module _ (s : Sheet) (m : ℕ) (e : m ≡ showRefusal (s .header .stage) (s .plan) (s .drawing)) (z : m ≡ 0 → ⊥) where
-  refusal : (more : List Test) → firstRefusal (begun s more) ≡ m
-  unfolding showRefusal firstRefusal
-  refusal more = one-refuses (isEmpty (s .header .stage)) (not (isDrawn (s .header .stage))) (holdsPlan s) (holdsDrawing s) (firstRefusal more) m e z
+  refusal : (more : List Test) → firstRefusal (showTests s ++ more) ≡ m
+  unfolding showRefusal
+  refusal more = sym (refusal-early m (showTests s) more e z)
 
-  buffer-refused : {A : Type 0} (more : List Test) (n : ℕ) (w b : List A) → bufferAfter (firstRefusal (begun s more)) n w b ≡ record { result = refuses m; buffer = b }
+  buffer-refused : {A : Type 0} (more : List Test) (n : ℕ) (w b : List A)
+      → bufferAfter (firstRefusal (showTests s ++ more)) n w b ≡ record { result = refuses m; buffer = b }
   buffer-refused more n w b = rw (refusal more, ne-eqb m 0 z)
 
   pub line-refused : (n : ℕ) (b : List ℕ) → line s n b ≡ record { result = refuses m; buffer = b }
@@ -65,28 +54,16 @@ module _ (s : Sheet) (m : ℕ) (e : m ≡ showRefusal (s .header .stage) (s .pla
   marks-refused b = buffer-refused (test14 (numbersOf s) b ∷ []) (marksIn s) (numbersOf s) b
 
 -- ---- a sheet that they do not refuse
-none-refuses : (a b c d : Bool) (x : ℕ) → 0 ≡ chain a b c d 0 → chain a b c d x ≡ x
-none-refuses true b c d x e = absurd (omega arith)
-none-refuses false true c d x e = absurd (omega arith)
-none-refuses false false false d x e = absurd (omega arith)
-none-refuses false false true false x e = absurd (omega arith)
-none-refuses false false true true x e = refl
-
-both-hold : (p : Plan) (d : Arrays) (c : Counts) (a b h k : Bool) → isPlanWith p c ≡ h → isDrawingWith p d c ≡ k → 0 ≡ chain a b h k 0 → Holds p d c
-both-hold p d c true b h k f g e = absurd (omega arith)
-both-hold p d c false true h k f g e = absurd (omega arith)
-both-hold p d c false false false k f g e = absurd (omega arith)
-both-hold p d c false false true false f g e = absurd (omega arith)
-both-hold p d c false false true true f g e = record { plan = f; drawing = g }
-
 module _ (s : Sheet) (m : ℕ) (e : m ≡ showRefusal (s .header .stage) (s .plan) (s .drawing)) (z : m ≡ 0) where
-  pub holds : Holds (s .plan) (s .drawing) (countsIn (s .header .stage))
-  unfolding showRefusal firstRefusal
-  holds = both-hold (s .plan) (s .drawing) (countsIn (s .header .stage)) (isEmpty (s .header .stage)) (not (isDrawn (s .header .stage))) (holdsPlan s) (holdsDrawing s) refl refl (sym z ∙ e)
+  none : noneRefuses (showTests s) ≡ true
+  unfolding showRefusal
+  none = none-found m (showTests s) refl e z
 
-  left : (more : List Test) → firstRefusal (begun s more) ≡ firstRefusal more
-  unfolding showRefusal firstRefusal
-  left more = none-refuses (isEmpty (s .header .stage)) (not (isDrawn (s .header .stage))) (holdsPlan s) (holdsDrawing s) (firstRefusal more) (sym z ∙ e)
+  pub holds : Holds (s .plan) (s .drawing) (countsIn (s .header .stage))
+  holds = record { plan = not-false (holdsPlan s) (none-at (showTests s) none 2); drawing = not-false (holdsDrawing s) (none-at (showTests s) none 3) }
+
+  left : (more : List Test) → firstRefusal (showTests s ++ more) ≡ firstRefusal more
+  left more = sym (refusal-late (firstRefusal more) (showTests s) more none refl)
 
   pub line-shown : (n : ℕ) (b : List ℕ) → line s n b ≡ lineFrom (s .plan) (s .drawing) (countsIn (s .header .stage)) n b
   unfolding line lineFrom lineOf

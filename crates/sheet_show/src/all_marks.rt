@@ -1,16 +1,15 @@
 // All marks in one call.
 use crate::fit::fit_marks;
-use crate::refusals::show_refusal;
 use plan::data::Plan;
 use plan::numbers::wide;
 use report::data::Counts;
 use report::data::Drawing;
 use sheet::refusals::counts_in;
+use sheet::refusals::show_refusal;
 use sheet::types::LineAnswer;
 use sheet::types::Sheet;
 ghost use Rattle.sheet_data.specs.inner.Parts.{Holds};
-ghost use Rattle.sheet.specs.Calls as spec;
-ghost use Rattle.sheet.specs.Calls.{Writes};
+ghost use Rattle.sheet.specs.Calls.{Writes, WritesMarks};
 ghost use Rattle.sheet_show.specs.inner.Shown.{marksFrom};
 
 // 14, and the marks.
@@ -39,9 +38,9 @@ fn marks_of(plan: Plan, drawing: Drawing, counts: Counts, out: &mut [f64]) -> Li
     )
 }
 
-// All marks one after another in a lent buffer, five numbers each, with how many there are; later numbers stay.
+// All marks one after another in a lent buffer, five exact numbers each, with how many there are; later numbers stay.
 pub fn marks(sheet: Sheet, out: &mut [f64]) -> LineAnswer
-    ensures { λ r. ⌜ Writes (spec.marks sheet (now (out .entry))) r (now (out .exit)) ⌝ }
+    ensures { λ r. ⌜ WritesMarks sheet (now (out .entry)) r (now (out .exit)) ⌝ }
 {
     let header = sheet.header;
     let stage = header.stage;

@@ -3,5 +3,4 @@ pub mod all_marks;
 pub mod fit;
 pub mod line;
 pub mod mark;
-pub mod refusals;
 pub mod whole;

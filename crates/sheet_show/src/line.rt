@@ -1,10 +1,10 @@
 // Line.
 use crate::fit::fit;
-use crate::refusals::show_refusal;
 use plan::data::Plan;
 use report::data::Counts;
 use report::data::Drawing;
 use sheet::refusals::counts_in;
+use sheet::refusals::show_refusal;
 use sheet::types::LineAnswer;
 use sheet::types::Sheet;
 use sheet_data::printed::MAX_LINE;

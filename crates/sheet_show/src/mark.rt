@@ -1,15 +1,15 @@
 // Mark.
-use crate::refusals::show_refusal;
 use plan::data::Plan;
 use report::data::Counts;
 use report::data::Drawing;
 use sheet::refusals::counts_in;
+use sheet::refusals::show_refusal;
 use sheet::types::MarkAnswer;
 use sheet::types::Sheet;
 use sheet_data::marked::mark_with;
 ghost use mathlib.Core.Path.{_≡_};
 ghost use Rattle.sheet_data.specs.inner.Parts.{Holds};
-ghost use Rattle.sheet.specs.Calls as spec;
+ghost use Rattle.sheet.specs.Calls.{GivesMark};
 ghost use Rattle.sheet.specs.Results.{markResultOf};
 ghost use Rattle.sheet_show.specs.inner.Shown.{markFrom};
 
@@ -24,9 +24,9 @@ fn mark_of(plan: Plan, drawing: Drawing, counts: Counts, n: usize) -> MarkAnswer
     MarkAnswer::Given(mark_with(plan, drawing, counts, n))
 }
 
-// "Mark n gives the n-th mark."
+// "Mark n gives the n-th mark", with exact numbers.
 pub fn mark(sheet: Sheet, n: usize) -> MarkAnswer
-    ensures { λ r. ⌜ markResultOf r ≡ spec.mark sheet n ⌝ }
+    ensures { λ r. ⌜ GivesMark sheet n r ⌝ }
 {
     let header = sheet.header;
     let stage = header.stage;

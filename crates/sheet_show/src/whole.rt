@@ -1,11 +1,11 @@
 // All report lines in one call.
 use crate::fit::fit_report;
-use crate::refusals::show_refusal;
 use plan::data::Plan;
 use plan::numbers::wide;
 use report::data::Counts;
 use report::data::Drawing;
 use sheet::refusals::counts_in;
+use sheet::refusals::show_refusal;
 use sheet::types::LineAnswer;
 use sheet::types::Sheet;
 ghost use Rattle.sheet_data.specs.inner.Parts.{Holds, reportWith};

@@ -11,4 +11,5 @@ pub mod StoredText
 pub mod PlanLines
 pub mod PlanLimits
 pub mod TextLength
+pub mod WhenRefused
 pub mod RoundTrip

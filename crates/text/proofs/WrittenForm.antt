@@ -3,7 +3,7 @@
 use mathlib.Core.Path.{_≡_, refl, sym, _∙_, ap}
 use mathlib.Core.Bool.{Bool, true, false}
 use mathlib.Core.List.{List, [], _∷_, _++_, map, append-assoc, append-nil}
-use mathlib.Core.Option.{some}
+use mathlib.Core.Option.{Option, none, some}
 use Prim.Native.Nat.{ℕ, _≤_, _<_}
 use native.Mathlib.Omega.{arith}
 use borrow.Author.Tests.{le-leb}
@@ -140,11 +140,27 @@ plan-writes n l s t e =
       record { levels = a .below; gap = b .below; spacing = c .below; rows = rs .1; segments = gs .1 },
     )))))))))))
 
-pub form-writes : (s : List ℕ) (l : Lines) → formOf s ≡ some l → (s ≡ formText l) × LinesOk l
-unfolding formOf
-form-writes s l e = go (planText (length s) s) refl e
+whole-writes : (n : ℕ) (s : List ℕ) (l : Lines) → whole (planText n s) ≡ some l → (s ≡ formText l) × LinesOk l
+whole-writes n s l e = go (planText n s) refl e
   where
-    go : (g : Got Lines) → planText (length s) s ≡ g → whole g ≡ some l → (s ≡ formText l) × LinesOk l
-    go (got m []) p q = let is : m ≡ l = cc in let w = plan-writes (length s) l s [] (rw is at p) in (w .0 ∙ append-nil (formText l), w .1)
+    go : (g : Got Lines) → planText n s ≡ g → whole g ≡ some l → (s ≡ formText l) × LinesOk l
+    go (got m []) p q = let is : m ≡ l = cc in let w = plan-writes n l s [] (rw is at p) in (w .0 ∙ append-nil (formText l), w .1)
     go (got m (b ∷ t)) p q = never (cc)
     go nothing p q = never (cc)
+
+pub form-writes : (s : List ℕ) (l : Lines) → formOf s ≡ some l → (s ≡ formText l) × LinesOk l
+unfolding formOf
+form-writes s l e = whole-writes (length s) s l e
+
+-- ---- no text has more of anything than bytes: a greater number than its length reads it alike
+pub form-enough : (n : ℕ) (s : List ℕ) → length s ≤ n → whole (planText n s) ≡ formOf s
+unfolding formOf
+form-enough n s h = go (whole (planText n s)) (whole (planText (length s) s)) refl refl
+  where
+    same : (m : ℕ) (l : Lines) → length s ≤ m → (s ≡ formText l) × LinesOk l → whole (planText m s) ≡ some l
+    same m l k w = ap (λ t. whole (planText m t)) (w .0) ∙ ap whole (plan-reads l (w .1) m (omega (arith, ap length (w .0))))
+
+    go : (x y : Option Lines) → whole (planText n s) ≡ x → whole (planText (length s) s) ≡ y → x ≡ y
+    go none none p q = refl
+    go x (some l) p q = sym p ∙ same n l h (whole-writes (length s) s l q)
+    go (some l) none p q = sym (same (length s) l (omega arith) (whole-writes n s l p)) ∙ q

@@ -1,14 +1,15 @@
 -- Reading a plan text: document 01's checks 1 to 6, "Checked in this order", each over the whole text before the next.
-use mathlib.Core.Bool.{Bool, true, cond, _&&_}
-use mathlib.Core.List.{List, map}
+use mathlib.Core.Bool.{Bool, true, false, cond, _&&_}
+use mathlib.Core.List.{List, [], _∷_, map}
 use mathlib.Core.Option.{Option, none, some}
 use Prim.Native.Nat.{ℕ}
 use lib.Dec.{leb, eqb}
 use lib.ListN.{length}
 use Rattle.ints.specs.Lists.{sum, concat}
+use Rattle.ints.specs.Refusals.{Test, check, firstRefusal}
 use Rattle.plan.specs.Plan.{PlanData, dataOf}
 use Rattle.plan.specs.Limits.{within, maxLevels, maxGap, maxSpacing, maxHalfWidth, maxOnLevel, maxVertices, maxSegments}
-use Rattle.plan.specs.Checks.{every, check3, check4, check5, check6}
+use Rattle.plan.specs.Checks.{every, checksOf}
 use Rattle.text.specs.Form.{Vertex, Lines, formOf}
 
 -- 1: "Not in the text's form, or over 65,536 bytes."
@@ -36,28 +37,25 @@ stored l =
     (map length (l .rows)) (map (λ v. v .via) (concat (l .rows))) (map (λ v. v .half) (concat (l .rows)))
     (map (λ s. s .upper) (l .segments)) (map (λ s. s .lower) (l .segments))
 
+-- The checks of a text in their order; 2 to 6 are asked of what its lines say.
+unfoldable pub testsOf : List ℕ → Option Lines → List Test
+testsOf s none = check 1 false ∷ []
+testsOf s (some l) = check 1 (leb (length s) maxBytes) ∷ check 2 (check2 l) ∷ checksOf (stored l)
+
+abbrev pub textTests : List ℕ → List Test
+textTests s = testsOf s (formOf s)
+
 -- What reading gives: a plan, or the number of the first check that fails.
 pub data Reading : Type 0 where
   accepted : PlanData → Reading
   refused : ℕ → Reading
 
--- 3 to 6, of a plan's data.
-unfoldable pub checkedPlan : PlanData → Reading
-checkedPlan p =
-    let after6 = accepted p in
-    let after5 = cond (check6 p) after6 (refused 6) in
-    let after4 = cond (check5 p) after5 (refused 5) in
-    let after3 = cond (check4 p) after4 (refused 4) in
-    cond (check3 p) after3 (refused 3)
-
-unfoldable pub checkedLines : Option Lines → Reading
-checkedLines none = refused 1
-checkedLines (some l) =
-    let p = stored l in
-    let after2 = checkedPlan p in
-    cond (check2 l) after2 (refused 2)
+-- What is read of a text whose checks came out as n.
+abbrev pub readAs : ℕ → Option Lines → Reading
+readAs n none = refused n
+readAs n (some l) = cond (eqb n 0) (accepted (stored l)) (refused n)
 
 unfoldable pub reading : List ℕ → Reading
 reading s =
-    let lines = checkedLines (formOf s) in
-    cond (leb (length s) maxBytes) lines (refused 1)
+    let lines = formOf s in
+    readAs (firstRefusal (testsOf s lines)) lines

@@ -1,1 +1,5 @@
+pub mod Levels
+pub mod Rows
+pub mod SegmentLines
+pub mod Texts
 pub mod Verdict

@@ -5,7 +5,7 @@ use lib.ListN.{length, replicate}
 use Rattle.ints.specs.Lists.{over}
 use Rattle.plan.specs.Limits.{maxLevels, maxVertices, maxSegments}
 use Rattle.plan.specs.Plan.{PlanData, vertexCount}
-use Rattle.plan.specs.Stored.{emptyPlan}
+use Rattle.plan.specs.Stored.{storedPlan, emptyPlan}
 use Rattle.plan.specs.declared.data.Plan.{Plan}
 use Rattle.text.specs.Reading.{Reading, accepted, refused}
 use Rattle.text_read.specs.declared.Answer.the-variants.{Accepted, Refused}
@@ -13,16 +13,9 @@ use Rattle.text_read.specs.declared.ReadText.{ReadText}
 
 -- The data in arrays: 0 beyond them.
 unfoldable pub planOf : PlanData → Plan
-planOf p = record {
-  levels = p .levels;
-  gap = p .gap;
-  spacing = p .spacing;
-  sizes = over (p .sizes) (replicate maxLevels 0);
-  vias = over (p .vias) (replicate maxVertices false);
-  halves = over (p .halves) (replicate maxVertices 0);
-  uppers = over (p .uppers) (replicate maxSegments 0);
-  lowers = over (p .lowers) (replicate maxSegments 0);
-}
+planOf p =
+    storedPlan (p .levels) (p .gap) (p .spacing) (over (p .sizes) (replicate maxLevels 0)) (over (p .vias) (replicate maxVertices false))
+    (over (p .halves) (replicate maxVertices 0)) (over (p .uppers) (replicate maxSegments 0)) (over (p .lowers) (replicate maxSegments 0))
 
 unfoldable pub answerOf : Reading → ReadText
 answerOf (accepted p) = record { answer = Accepted (vertexCount p) (length (p .uppers)); plan = planOf p }

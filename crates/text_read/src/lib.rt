@@ -1,15 +1,18 @@
 // Reading a plan text: checks 1 to 6 of document 01, "in this order".
+pub mod form;
+
+use crate::form::Scanned;
+use crate::form::scan;
 use plan::data::Plan;
 use plan::numbers::wide;
 use plan_checks::checks::check_plan;
 use plan_checks::checks::first_of;
-use text_scan::form::Scanned;
-use text_scan::form::scan;
 ghost use mathlib.Core.Path.{_≡_};
 ghost use mathlib.Core.Bool.{true};
+ghost use Rattle.ints.specs.Refusals.{firstRefusal};
 ghost use Rattle.text.specs.Reading.{refused, reading};
 ghost use Rattle.text_read.specs.Answer.{answerOf};
-ghost use Rattle.text_read.specs.inner.Failed.{Fronts, failedOf};
+ghost use Rattle.text_read.specs.inner.Failed.{Fronts, checksIn};
 
 // "over 65,536 bytes" is no plan text.
 pub const MAX_BYTES: usize = 65536;
@@ -38,7 +41,7 @@ fn refuse(n: u32) -> ReadText
 // The number of the first check that a scanned text fails, 0 if it fails none.
 fn first_failed(s: Scanned, sizes: &[u16], vias: &[bool], uppers: &[u32], lowers: &[u32]) -> u32
     requires { ⌜ (s .form ≡ true → s .limits ≡ true → Fronts s (now sizes) (now vias) (now uppers) (now lowers)) ⌝ }
-    ensures { λ r. ⌜ r ≡ failedOf s (now (sizes .entry)) (now (vias .entry)) (now (uppers .entry)) (now (lowers .entry)) ⌝ }
+    ensures { λ r. ⌜ r ≡ firstRefusal (checksIn s (now (sizes .entry)) (now (vias .entry)) (now (uppers .entry)) (now (lowers .entry))) ⌝ }
 {
     let failed = first_of(1, s.form, 2, s.limits);
     if failed != 0 {
@@ -76,15 +79,15 @@ pub fn read(text: &[u8]) -> ReadText
     }
     ReadText {
         answer: Answer::Accepted(s.vertices, s.segments),
-        plan: Plan {
-            levels: s.levels,
-            gap: s.gap,
-            spacing: s.spacing,
+        plan: Plan::new(
+            s.levels,
+            s.gap,
+            s.spacing,
             sizes,
             vias,
             halves,
             uppers,
             lowers,
-        },
+        ),
     }
 }

@@ -9,6 +9,7 @@ use lib.ListN.{length}
 use lib.IntN.{ℤ}
 use lib.Ieee.{Float}
 use Rattle.ints.specs.Lists.{concat, over}
+use Rattle.ints.specs.Refusals.{firstRefusal}
 use Rattle.plan.specs.Plan.{PlanData, vertexCount}
 use Rattle.plan.proofs.Sound.{sound}
 use Rattle.text.specs.Reading.{Reading, accepted, refused, reading}
@@ -26,7 +27,7 @@ use Rattle.report_lines.proofs.Lengths.{report-short}
 use Rattle.report_lines.proofs.Rooms.{small}
 use Rattle.marks.specs.Marks.{markCount, allNumbers}
 use Rattle.sheet.specs.declared.types.LineAnswer.the-variants.{Written, Refused}
-use Rattle.sheet.specs.Results.{gives, refuses, firstRefusal, resultAfter}
+use Rattle.sheet.specs.Results.{gives, refuses, resultAfter}
 use Rattle.sheet.specs.Tests.{test14}
 use Rattle.sheet.specs.Calls.{TextOut, Writes}
 use Rattle.sheet_show.specs.inner.Shown.{fitted, fittedText}

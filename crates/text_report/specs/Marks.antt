@@ -1,10 +1,11 @@
 -- What becomes of a text: its marks in a lent buffer.
 use mathlib.Core.List.{List, [], _∷_}
 use lib.Ieee.{Float}
+use Rattle.ints.specs.Refusals.{firstRefusal}
 use Rattle.text.specs.Reading.{Reading, accepted, refused}
 use Rattle.passes.specs.Drawing.{drawingOf}
 use Rattle.marks.specs.Marks.{markCount, allNumbers}
-use Rattle.sheet.specs.Results.{refuses, firstRefusal}
+use Rattle.sheet.specs.Results.{refuses}
 use Rattle.sheet.specs.Tests.{test14}
 use Rattle.sheet.specs.Calls.{BufferOut, bufferAfter}
 

@@ -1,10 +1,11 @@
 -- What becomes of a text: the positions of its drawing in a lent buffer.
 use mathlib.Core.List.{List, [], _∷_, _++_}
 use lib.IntN.{ℤ}
+use Rattle.ints.specs.Refusals.{firstRefusal}
 use Rattle.plan.specs.Plan.{PlanData, vertexCount}
 use Rattle.text.specs.Reading.{Reading, accepted, refused}
 use Rattle.passes.specs.Drawing.{drawingOf}
-use Rattle.sheet.specs.Results.{refuses, firstRefusal}
+use Rattle.sheet.specs.Results.{refuses}
 use Rattle.sheet.specs.Tests.{test14}
 use Rattle.sheet.specs.Calls.{BufferOut, bufferAfter}
 

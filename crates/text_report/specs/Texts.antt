@@ -2,10 +2,11 @@
 use mathlib.Core.List.{List, [], _∷_}
 use Prim.Native.Nat.{ℕ}
 use Rattle.ints.specs.Lists.{concat}
+use Rattle.ints.specs.Refusals.{firstRefusal}
 use Rattle.text.specs.Reading.{Reading, accepted, refused}
 use Rattle.passes.specs.Drawing.{drawingOf}
 use Rattle.report.specs.Lines.{reportLines}
-use Rattle.sheet.specs.Results.{refuses, firstRefusal}
+use Rattle.sheet.specs.Results.{refuses}
 use Rattle.sheet.specs.Tests.{test14}
 use Rattle.sheet.specs.Calls.{TextOut, textAfter}
 

@@ -1,5 +1,3 @@
-pub mod Levels
-pub mod Rows
-pub mod SegmentLines
+pub mod Both
+pub mod Lines
 pub mod Stores
-pub mod Texts

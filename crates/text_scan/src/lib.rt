@@ -1,2 +1,3 @@
-// A plan text's form and limits, and its data stored in lent arrays.
-pub mod form;
+// What stands at a position of a plan text, and whether it is within its limits.
+pub mod limits;
+pub mod scanners;

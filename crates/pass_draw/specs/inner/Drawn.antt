@@ -9,7 +9,7 @@ use Rattle.plan.specs.Plan.{PlanData}
 use Rattle.preliminary.specs.Positions.{preliminary}
 use Rattle.passes.specs.Drawing.{drawingOf}
 use Rattle.passes.specs.Words.{boxesListed, maxListed}
-use Rattle.pass_laws.specs.inner.Schedule.{schedule}
+use Rattle.passes.specs.inner.Schedule.{schedule}
 use Rattle.pass_tables.specs.inner.Moments.{Held}
 use Rattle.pass_neighbours.specs.inner.Order.{Starts}
 use Rattle.pass_list.specs.inner.Listing.{Columns, Lies}

@@ -13,7 +13,7 @@ use Rattle.passes.specs.Runs.{Run, isBounded, runsOn, runsOfLevels}
 use Rattle.passes.specs.Drawing.{Placing, listed}
 use Rattle.passes.specs.Words.{boxesListed, maxListed}
 use Rattle.plan.specs.inner.Levels.{firstOn, sizeOn}
-use Rattle.pass_laws.specs.inner.Schedule.{Visit}
+use Rattle.passes.specs.inner.Schedule.{Visit}
 use Rattle.pass_tables.specs.inner.Moments.{stateAfter}
 use Rattle.pass_list.specs.inner.Listing.{Columns, Stored}
 use Rattle.pass_list.specs.inner.Added.{placingOf}

@@ -14,8 +14,8 @@ use Rattle.passes.specs.State.{State}
 use Rattle.passes.specs.Ready.{isSettled, joinedVia}
 use Rattle.passes.specs.Passes.{isDue}
 use Rattle.plan.specs.inner.Levels.{firstOn, sizeOn, On}
-use Rattle.pass_laws.specs.inner.Runs.{IsRun}
-use Rattle.pass_laws.specs.inner.Schedule.{Visit, visitAll, schedule, start}
+use Rattle.passes.specs.inner.Runs.{IsRun}
+use Rattle.passes.specs.inner.Schedule.{Visit, visitAll, schedule, start}
 use Rattle.pass_tables.specs.inner.Tables.{Rows}
 use Rattle.pass_tables.specs.inner.Joins.{Preceding, joinedAt, lastIn, firstIn, markedIn}
 

@@ -5,7 +5,7 @@ use mathlib.Core.Path.{_≡_}
 use Prim.Native.Nat.{ℕ, _≤_}
 use lib.IntN.{ℤ}
 use Rattle.plan.specs.Plan.{vertexCount}
-use Rattle.pass_laws.specs.inner.Schedule.{passVisits}
+use Rattle.passes.specs.inner.Schedule.{passVisits}
 use Rattle.pass_tables.specs.inner.Moments.{Held, Neighbouring, Range, AtLevel, AtPass}
 use Rattle.pass_neighbours.specs.inner.Order.{inTurn, Starts}
 use Rattle.pass_visits.specs.inner.Visits.{Entering}

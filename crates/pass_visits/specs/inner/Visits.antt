@@ -9,7 +9,7 @@ use lib.IntN.{ℤ}
 use Rattle.passes.specs.Runs.{runsOn}
 use Rattle.passes.specs.Passes.{isDue}
 use Rattle.plan.specs.inner.Levels.{firstOn, sizeOn}
-use Rattle.pass_laws.specs.inner.Schedule.{visitOf}
+use Rattle.passes.specs.inner.Schedule.{visitOf}
 use Rattle.pass_tables.specs.inner.Moments.{stateAfter, Held, RunIs, Neighbouring, Tables, AtVisit, AtLevel}
 
 -- What the visits of a level work on: the neighbours of the pass, the tables of readiness, and what the visits change.

@@ -8,7 +8,6 @@ use lib.ListN.{length, getD, set}
 use Rattle.plan.specs.Limits.{maxLevels, maxVertices, maxSegments}
 use Rattle.plan.specs.Plan.{PlanData, dataOf, levelIn}
 use Rattle.plan.specs.Segments.{Segment}
-use Rattle.plan.specs.Checks.{check3, check4, check5, check6}
 
 -- The data of which these lists are part; gap, spacing and half-widths are left out.
 abbrev pub graphOf : List ℕ → List Bool → List ℕ → List ℕ → PlanData
@@ -74,11 +73,3 @@ lowersRise last [] = true
 lowersRise last (s ∷ ss) =
     let more = lowersRise (s .lower) ss in
     cond (ltb (s .lower) last) false more
-
--- Checks 3 to 6 in this order: the number of the first that fails, 0 if none does.
-unfoldable pub firstFailed : PlanData → ℕ
-firstFailed p =
-    let after5 : ℕ = cond (check6 p) 0 6 in
-    let after4 : ℕ = cond (check5 p) after5 5 in
-    let after3 : ℕ = cond (check4 p) after4 4 in
-    cond (check3 p) after3 3

@@ -10,8 +10,8 @@ use Rattle.ints.specs.Ints.{P, N}
 use Rattle.plan.specs.Limits.{maxGap, maxHalfWidth, maxVertices}
 use Rattle.plan.specs.inner.Graph.{Below}
 use Rattle.plan.specs.Plan.{PlanData, Siblings, vertexCount}
-use Rattle.prelim_strands.specs.inner.Links.{Rising, chain, orNone, pairsBy}
-use Rattle.prelim_strands.specs.inner.Strands.{Strung, StrandsBy}
+use Rattle.prelim_classes.specs.inner.Links.{Rising, chain, orNone, pairsBy}
+use Rattle.prelim_classes.specs.inner.Strands.{Strung, StrandsBy}
 use Rattle.preliminary.specs.Classes.{give}
 use Rattle.preliminary.specs.Place.{Placing, Asked, askedBy, placeStrand, placeSiblings, placedStrands}
 

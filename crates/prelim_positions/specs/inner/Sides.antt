@@ -8,7 +8,7 @@ use lib.IntN.{ℤ}
 use Rattle.ints.specs.Ints.{SizedTo}
 use Rattle.plan.specs.Plan.{PlanData}
 use Rattle.preliminary.specs.Positions.{positionsOn}
-use Rattle.prelim_strands.specs.inner.Strands.{StrungPlan}
+use Rattle.prelim_classes.specs.inner.Strands.{StrungPlan}
 use Rattle.prelim_classes.specs.inner.Arranged.{levelsBy}
 
 -- The positions on levels in the order in hand.

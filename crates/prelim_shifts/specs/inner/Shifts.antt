@@ -11,7 +11,7 @@ use Rattle.plan.specs.Limits.{maxLevels, maxGap, maxHalfWidth, maxVertices, max
 use Rattle.plan.specs.Plan.{PlanData, Siblings, numbers}
 use Rattle.plan.specs.inner.Graph.{Below}
 use Rattle.plan.specs.Segments.{segmentsFrom, segmentsOf}
-use Rattle.prelim_strands.specs.inner.Links.{Bucketed, among, pairsBy}
+use Rattle.prelim_classes.specs.inner.Links.{Bucketed, among, pairsBy}
 use Rattle.preliminary.specs.Shift.{placeAt, classAt, shiftEach}
 
 -- The class in whose shift the pair of v and its right sibling w counts: that of v, 0 where there is no w or it is of the same class.

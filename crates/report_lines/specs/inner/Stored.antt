@@ -15,7 +15,7 @@ use Rattle.passes.specs.Drawing.{Placing, Drawing}
 use Rattle.passes.specs.Stored.{placingsFrom}
 use Rattle.ints.specs.Reach.{allWithin}
 use Rattle.passes.specs.Words.{maxListed, drawingWithin}
-use Rattle.report_forms.specs.inner.Forms.{placing}
+use Rattle.report_lines.specs.inner.Forms.{placing}
 use Rattle.report.specs.Lines.{printedNumber, vertexOfLine, atLine, placeLine, reportLines}
 
 -- The data of which these are part, as far as the report asks for them: the level spacing, the levels' sizes and the number of

@@ -1,16 +1,16 @@
 -- What the inner functions promise. They take the parts of a sheet that they need.
-use mathlib.Core.Bool.{not}
 use mathlib.Core.List.{[], _∷_}
 use Prim.Native.Nat.{ℕ}
+use Rattle.ints.specs.Refusals.{test, check, firstRefusal}
 use Rattle.plan.specs.declared.data.Plan.{Plan}
 use Rattle.report.specs.declared.data.Counts.{Counts}
+use Rattle.report.specs.declared.data.Drawing.{Drawing as Arrays}
 use Rattle.report.specs.declared.data.NewDrawing.{NewDrawing}
-use Rattle.sheet_data.specs.inner.Parts.{isPlanWith}
+use Rattle.sheet_data.specs.inner.Parts.{isPlanWith, isDrawingWith}
 use Rattle.sheet.specs.declared.types.Stage.{Stage}
 use Rattle.sheet.specs.declared.types.Stage.the-variants.{Drawn}
 use Rattle.sheet.specs.declared.types.Sheet.{Sheet}
-use Rattle.sheet.specs.Sheet.{isEmpty, verticesIn, segmentsIn, placingsIn}
-use Rattle.sheet.specs.Results.{test, firstRefusal}
+use Rattle.sheet.specs.Sheet.{isEmpty, isDrawn, verticesIn, segmentsIn, placingsIn}
 
 -- The counts of a stage; 0 where it has none.
 abbrev pub countsIn : Stage → Counts
@@ -18,11 +18,21 @@ countsIn t = record { vertices = verticesIn t; segments = segmentsIn t; placings
 
 -- 13 of the plan, else 0.
 unfoldable pub planRefusal : Plan → Counts → ℕ
-planRefusal p c = firstRefusal (test 13 (not (isPlanWith p c)) ∷ [])
+planRefusal p c = firstRefusal (check 13 (isPlanWith p c) ∷ [])
 
 -- The number by which draw is refused, 0 if it is not.
 unfoldable pub drawRefusal : Stage → Plan → ℕ
-drawRefusal t p = firstRefusal (test 11 (isEmpty t) ∷ test 13 (not (isPlanWith p (countsIn t))) ∷ [])
+drawRefusal t p = firstRefusal (test 11 (isEmpty t) ∷ check 13 (isPlanWith p (countsIn t)) ∷ [])
+
+-- 13 of the plan or of the drawing, else 0.
+unfoldable pub dataRefusal : Plan → Arrays → Counts → ℕ
+dataRefusal p d c = firstRefusal (check 13 (isPlanWith p c) ∷ check 13 (isDrawingWith p d c) ∷ [])
+
+-- The number by which line, report, mark and marks are refused before 7 and 14, 0 if they are not.
+unfoldable pub showRefusal : Stage → Plan → Arrays → ℕ
+showRefusal t p d =
+    firstRefusal
+    (test 11 (isEmpty t) ∷ check 12 (isDrawn t) ∷ check 13 (isPlanWith p (countsIn t)) ∷ check 13 (isDrawingWith p d (countsIn t)) ∷ [])
 
 -- A sheet with another drawing of its plan, as it lies in arrays.
 abbrev pub withDrawing : Sheet → NewDrawing → Sheet

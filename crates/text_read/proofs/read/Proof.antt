@@ -27,14 +27,14 @@ returns-2 c =
 
 returns-3 : tie.Need-returns-3
 returns-3 c =
-    let s = c .before .before .before .before .before .before .before .before .before .before .before in
+    let s = c .before .before .before .before .before .before .before .before .before .before .before .before in
     let passed = all-pass (start s .args .text .now) _ _ _ _ _ _ _ _ _ _ _ (s .scan .ensures) (s .before .before .before .before .before .before .if1 .left)
-    _ (c .before .first-failed .ensures) (c .if2 .left) in
-    kept-answer _ _ _ _ _ _ _ (passed .2) ∙ ap answerOf (sym (passed .1))
+    _ (c .before .before .first-failed .ensures) (c .before .if2 .left) in
+    rw (c .new .ensures) (kept-answer _ _ _ _ _ _ _ (passed .2) ∙ ap answerOf (sym (passed .1)))
 
 pub read-spec : {M : Type 1} → statement M
 read-spec =
     tie.close
     (tie.spec (λ c κs. search needs) returns (λ c. search needs) (λ c. search needs) (λ c. search needs) (λ c. search needs)
     (λ c. search needs) (λ c κs. search needs) (λ c. search needs) (λ c. search needs) (λ c. search needs) (λ c. search needs)
-    first-failed-requires (λ c κs. search needs) returns-2 returns-3)
+    first-failed-requires (λ c κs. search needs) returns-2 (λ c κs. search needs) returns-3)

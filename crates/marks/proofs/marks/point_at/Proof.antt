@@ -21,7 +21,7 @@ new-requires c κs =
     rw (read-back s) (within-at (s .args .finals .now) (s .args .v) (s .pre .0 .within), s .pre .0 .low (s .args .v) (omega (arith, s .pre .0 .long, s .pre .1)))
 
 returns : tie.Need-returns
-returns c = c .new .ensures ∙ rw (read-back (c .before .before .before .before))
+returns c = c .new .ensures .is ∙ rw (read-back (c .before .before .before .before))
 
 pub point-at-spec : {M : Type 1} → statement M
 point-at-spec =

@@ -1,12 +1,13 @@
--- `plan_checks::checks::check_plan` meets its contract: two by two, the tests are those of `firstFailed`, and check 3 makes every end
+-- `plan_checks::checks::check_plan` meets its contract: two by two, the checks are those of `checksOf`, and check 3 makes every end
 -- a vertex, which checks 5 and 6 ask for.
-use mathlib.Core.Bool.{true, cond}
+use mathlib.Core.Bool.{true}
 use mathlib.Core.Path.{_≡_}
 use borrow.Author.Needs.{needs}
+use Rattle.ints.specs.Refusals.{firstRefusal}
 use Rattle.plan.specs.Plan.{PlanData}
 use Rattle.plan.specs.Checks.{check3, check4}
 use Rattle.plan.specs.inner.Graph.{graphOf, Within}
-use Rattle.plan.proofs.GraphLaws.{within-of, fails-early, passes-early, fails-late}
+use Rattle.plan.proofs.GraphLaws.{within-of, early, fails-early, passes-early, fails-late}
 use Rattle.plan_checks.proofs.checks.check_plan.Statement.{statement}
 use Rattle.plan_checks.proofs.checks.check_plan.Tie as tie
 
@@ -18,13 +19,13 @@ abbrev start : tie.After-first-of → tie.Start
 start c = c .before .before .before .before .before .before .before
 
 -- checks 3 and 4
-early : (c : tie.After-first-of) → c .first-of .result ≡ cond (check3 (graph (start c))) (cond (check4 (graph (start c))) 0 4) 3
-early c =
+first : (c : tie.After-first-of) → c .first-of .result ≡ firstRefusal (early (graph (start c)))
+first c =
     let a = start c .args in
     rw (← c .before .before .check-levels .ensures, ← c .before .check-order .ensures (a .sizes .now) (a .vias .now)) (c .first-of .ensures)
 
 has-3-4 : (c : tie.Else1) → (check3 (graph (start (c .before))) ≡ true) × (check4 (graph (start (c .before))) ≡ true)
-has-3-4 c = passes-early (graph (start (c .before))) (c .before .first-of .result) (early (c .before)) (c .if1 .left)
+has-3-4 c = passes-early (graph (start (c .before))) (c .before .first-of .result) (first (c .before)) (c .if1 .left)
 
 within : (c : tie.Else1) → let a = start (c .before) .args in Within (a .vias .now) (a .uppers .now) (a .lowers .now)
 within c =
@@ -32,7 +33,7 @@ within c =
     within-of (s .args .sizes .now) (s .args .vias .now) (s .args .uppers .now) (s .args .lowers .now) (s .pre) (has-3-4 c .0)
 
 returns : tie.Need-returns
-returns c = fails-early (graph (start (c .before))) (c .before .first-of .result) (early (c .before)) (c .if1 .taken)
+returns c = fails-early (graph (start (c .before))) (c .before .first-of .result) (first (c .before)) (c .if1 .taken)
 
 check-vias-requires : tie.Need-check-vias-requires
 check-vias-requires c κs = within c

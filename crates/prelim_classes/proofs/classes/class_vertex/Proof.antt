@@ -7,7 +7,7 @@ use Rattle.prelim_classes.proofs.classes.class_vertex.Tie as tie
 use Rattle.prelim_classes.proofs.classes.class_vertex.Reads as reads
 use Rattle.prelim_classes.proofs.classes.class_vertex.Lts as lts
 use Rattle.ints.proofs.wide.Reads as wide-reads
-use Rattle.prelim_strands.proofs.walk.give.Reads as give-reads
+use Rattle.prelim_classes.proofs.walk.give.Reads as give-reads
 
 returns : tie.Need-returns
 returns c = rw (eq-eqb _ _ (c .before .before .before .before .before .before .if1 .taken), ← c .before .before .before .before .wide .ensures) (refl, c .before .before .give .ensures)

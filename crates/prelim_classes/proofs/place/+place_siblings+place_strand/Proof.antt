@@ -7,7 +7,7 @@ use Rattle.preliminary.specs.Classes.{give}
 use mathlib.Core.List.{List}
 use native.Mathlib.Omega.{arith}
 use lib.ListN.{length, getD}
-use Rattle.prelim_strands.specs.inner.Links.{chain}
+use Rattle.prelim_classes.specs.inner.Links.{chain}
 use Rattle.preliminary.specs.Place.{markAll}
 use Rattle.prelim_classes.specs.inner.Walks.{unbegun, distanceBy, Placeable}
 use Rattle.prelim_classes.proofs.PlaceLaws.{still, begin-falls, begun-placeable, strand-kept, strand-placed, strand-kept-already, strand-placed-already, siblings-kept-none, siblings-placed-none, member-long, siblings-placed-without, siblings-placed-with, siblings-kept-with, near}
@@ -23,8 +23,8 @@ use Rattle.prelim_classes.proofs.place.+place_siblings+place_strand.Lts
 use Rattle.ints.proofs.wide.Reads as wide-reads
 use Rattle.prelim_classes.proofs.place.distance.Reads as distance-reads
 use Rattle.prelim_classes.proofs.place.greater.Reads as greater-reads
-use Rattle.prelim_strands.proofs.walk.give.Reads as give-reads
-use Rattle.prelim_strands.proofs.walk.mark.Reads as mark-reads
+use Rattle.prelim_classes.proofs.walk.give.Reads as give-reads
+use Rattle.prelim_classes.proofs.walk.mark.Reads as mark-reads
 use Rattle.prelim_classes.proofs.place.+place_siblings+place_strand.{statement}
 use Rattle.prelim_classes.proofs.place.+place_siblings+place_strand.Tie.{close}
 

@@ -7,7 +7,7 @@ use Rattle.prelim_positions.proofs.positions.positions_in.Reads as read
 use Rattle.prelim_positions.proofs.positions.positions_in.Lts as lts
 use Rattle.prelim_positions.proofs.positions.subtract.Reads as subtract-reads
 use Rattle.prelim_positions.proofs.side.side.Reads as side-reads
-use Rattle.prelim_strands.proofs.inner.strands.Reads as strands-reads
+use Rattle.prelim_classes.proofs.inner.strands.Reads as strands-reads
 
 strands-requires : tie.Need-strands-requires
 strands-requires c κs =

@@ -5,8 +5,8 @@ use mathlib.Core.List.{List}
 use native.Mathlib.Omega.{arith}
 use lib.ListN.{length, replicate, length-replicate}
 use Rattle.preliminary.specs.Classes.{classesFrom}
-use Rattle.prelim_strands.specs.inner.Strands.{StrandsBy}
-use Rattle.prelim_strands.proofs.StrungLaws.{ready}
+use Rattle.prelim_classes.specs.inner.Strands.{StrandsBy}
+use Rattle.prelim_classes.proofs.StrungLaws.{ready}
 use Rattle.prelim_classes.specs.inner.Walks.{cut}
 use Rattle.prelim_positions.proofs.SideLaws.{classed, order-below, to-stand, to-shift, side-is, spread-start}
 use Rattle.prelim_positions.proofs.side.side.Statement.{statement}

@@ -13,7 +13,7 @@ use Rattle.prelim_shifts.proofs.collect.offsets.Statement.{statement}
 use Rattle.prelim_shifts.proofs.collect.offsets.Tie as tie
 use Rattle.prelim_shifts.proofs.collect.offsets.Reads as reads
 use Rattle.prelim_shifts.proofs.collect.offsets.Lts as lts
-use Rattle.prelim_strands.proofs.links.index.Reads as index-reads
+use Rattle.prelim_classes.proofs.links.index.Reads as index-reads
 use Rattle.ints.proofs.wide.Reads as wide-reads
 use Rattle.prelim_shifts.proofs.collect.offset.Reads as offset-reads
 

@@ -3,7 +3,7 @@ use Prim.Native.Nat.{ℕ, _-_, _≤_}
 use mathlib.Core.Path.{_≡_, sym, _∙_, ap}
 use native.Mathlib.Omega.{arith}
 use lib.ListN.{length, getD, length-replicate}
-use Rattle.prelim_strands.proofs.ChainLaws.{Linking}
+use Rattle.prelim_classes.proofs.ChainLaws.{Linking}
 use Rattle.prelim_shifts.specs.inner.Shifts.{gapKey, keysBy}
 use Rattle.prelim_shifts.proofs.KeyLaws.{keyed-start, keyed-next, keyed-end, heads-none, gap-key-small}
 use borrow.Author.Needs.{needs}
@@ -12,8 +12,8 @@ use Rattle.prelim_shifts.proofs.keys.link_pairs.Tie as tie
 use Rattle.prelim_shifts.proofs.keys.link_pairs.Reads as reads
 use Rattle.prelim_shifts.proofs.keys.link_pairs.Lts as lts
 use Rattle.prelim_shifts.proofs.keys.gap_key.Reads as gap-key-reads
-use Rattle.prelim_strands.proofs.links.index.Reads as index-reads
-use Rattle.prelim_strands.proofs.links.put_first.Reads as put-first-reads
+use Rattle.prelim_classes.proofs.links.index.Reads as index-reads
+use Rattle.prelim_classes.proofs.links.put_first.Reads as put-first-reads
 use Rattle.ints.proofs.wide.Reads as wide-reads
 
 abbrev Inv-loop : tie.InvT-loop

@@ -3,7 +3,7 @@ use Prim.Native.Nat.{ℕ, _-_, _≤_}
 use mathlib.Core.Path.{_≡_, sym, _∙_, ap}
 use native.Mathlib.Omega.{arith}
 use lib.ListN.{length, getD, length-replicate}
-use Rattle.prelim_strands.proofs.ChainLaws.{Linking}
+use Rattle.prelim_classes.proofs.ChainLaws.{Linking}
 use Rattle.prelim_shifts.specs.inner.Shifts.{offsetKey, keysBy}
 use Rattle.prelim_shifts.proofs.KeyLaws.{keyed-start, keyed-next, keyed-end, heads-none, offset-key-small}
 use borrow.Author.Needs.{needs}
@@ -12,8 +12,8 @@ use Rattle.prelim_shifts.proofs.keys.link_segments.Tie as tie
 use Rattle.prelim_shifts.proofs.keys.link_segments.Reads as reads
 use Rattle.prelim_shifts.proofs.keys.link_segments.Lts as lts
 use Rattle.prelim_shifts.proofs.keys.offset_key.Reads as offset-key-reads
-use Rattle.prelim_strands.proofs.links.index.Reads as index-reads
-use Rattle.prelim_strands.proofs.links.put_first.Reads as put-first-reads
+use Rattle.prelim_classes.proofs.links.index.Reads as index-reads
+use Rattle.prelim_classes.proofs.links.put_first.Reads as put-first-reads
 
 abbrev Inv-loop : tie.InvT-loop
 Inv-loop uppers lowers classes head₀ link₀ i₀ head link i = (i ≤ length uppers) × (length head ≡ 65) × (length link ≡ length uppers) × Linking (keysBy (offsetKey classes) uppers lowers) head link i

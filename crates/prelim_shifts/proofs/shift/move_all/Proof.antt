@@ -7,7 +7,7 @@ use lib.IntN.{pos, _+ℤ_}
 use mir.Syntax.{w64}
 use mir.Val.{toZ, ofZ}
 use Rattle.ints.proofs.Laws.{back, back′}
-use Rattle.prelim_strands.specs.inner.Links.{chain}
+use Rattle.prelim_classes.specs.inner.Links.{chain}
 use Rattle.prelim_shifts.specs.inner.Counts.{movedAt}
 use Rattle.prelim_shifts.proofs.MoveLaws.{AheadSized, ahead-set, moved-on, moved-end}
 use borrow.Author.Needs.{needs}

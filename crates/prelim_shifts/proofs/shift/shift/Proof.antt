@@ -15,7 +15,7 @@ use Rattle.prelim_shifts.proofs.shift.shift.Lts as lts
 use Rattle.prelim_shifts.proofs.keys.link_pairs.Reads as link-pairs-reads
 use Rattle.prelim_shifts.proofs.keys.link_segments.Reads as link-segments-reads
 use Rattle.prelim_shifts.proofs.shift.shift_each.Reads as shift-each-reads
-use Rattle.prelim_strands.proofs.links.bucket.Reads as bucket-reads
+use Rattle.prelim_classes.proofs.links.bucket.Reads as bucket-reads
 
 array-borrow-prefix-pair-link : tie.Need-array-borrow-prefix-pair-link
 array-borrow-prefix-pair-link c = c .before .before .before .before .before .before .before .pre .0 .few

@@ -10,7 +10,7 @@ use mir.Syntax.{w64}
 use mir.Val.{toZ, ofZ}
 use Rattle.ints.proofs.Laws.{back′}
 use Rattle.preliminary.specs.Shift.{moved}
-use Rattle.prelim_strands.specs.inner.Links.{chain}
+use Rattle.prelim_classes.specs.inner.Links.{chain}
 use Rattle.prelim_shifts.specs.inner.Counts.{movedAt}
 use Rattle.prelim_shifts.specs.inner.Shifts.{gapKey, offsetKey, Spread}
 use Rattle.prelim_shifts.proofs.KeyLaws.{keys-long}

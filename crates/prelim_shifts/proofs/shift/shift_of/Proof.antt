@@ -11,7 +11,7 @@ use Prim.Native.Nat.{ℕ, _-_}
 use native.Mathlib.Omega.{arith}
 use lib.IntN.{ℤ}
 use Rattle.ints.proofs.Laws.{back′}
-use Rattle.prelim_strands.specs.inner.Links.{chain}
+use Rattle.prelim_classes.specs.inner.Links.{chain}
 use Rattle.prelim_shifts.proofs.CollectLaws.{chain-short}
 use borrow.Author.Needs.{needs}
 use Rattle.prelim_shifts.proofs.shift.shift_of.Statement.{statement}

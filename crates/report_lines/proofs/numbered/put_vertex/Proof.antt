@@ -3,7 +3,7 @@ use native.Mathlib.Omega.{arith}
 use lib.IntN.{pos}
 use lib.ListN.{getD}
 use Rattle.ints.proofs.Reach.{within-at}
-use Rattle.report_forms.proofs.Boxes.{read-back}
+use Rattle.report_lines.proofs.Boxes.{read-back}
 use borrow.Author.Needs.{needs}
 use Rattle.report_lines.proofs.numbered.put_vertex.Statement.{statement}
 use Rattle.report_lines.proofs.numbered.put_vertex.Tie as tie

@@ -7,7 +7,7 @@ use lib.ListN.{length, drop}
 use Rattle.ints.specs.Lists.{sum}
 use Rattle.passes.specs.Stored.{placingsFrom}
 use Rattle.report_lines.specs.inner.Stored.{placeLines}
-use Rattle.report_forms.proofs.Partly.{Partly, nothing-yet, all-written}
+use Rattle.report_lines.proofs.Partly.{Partly, nothing-yet, all-written}
 use Rattle.report_lines.proofs.AllLines.{leftFrom, no-placing, boxes-inside, placing-room, placing-written}
 use borrow.Author.Needs.{needs}
 use Rattle.report_lines.proofs.whole.put_placings.Statement.{statement}

@@ -4,7 +4,7 @@ use Prim.Native.Nat.{_≤_, _-_}
 use native.Mathlib.Omega.{arith}
 use lib.ListN.{length}
 use Rattle.report_lines.specs.inner.Stored.{heightIn, vertexLines, allVertexLines}
-use Rattle.report_forms.proofs.Partly.{Partly, all-written}
+use Rattle.report_lines.proofs.Partly.{Partly, all-written}
 use Rattle.report_lines.proofs.AllLines.{no-vertex-yet, no-vertex, vertex-room, vertex-written}
 use borrow.Author.Needs.{needs}
 use Rattle.report_lines.proofs.whole.put_vertices.Statement.{statement}

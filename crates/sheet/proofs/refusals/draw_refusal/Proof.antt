@@ -1,6 +1,6 @@
 -- `sheet::refusals::draw_refusal` meets its contract: by the stage.
 use borrow.Author.Needs.{needs}
-use Rattle.sheet.specs.Results.{firstRefusal}
+use Rattle.ints.specs.Refusals.{firstRefusal}
 use Rattle.sheet.specs.inner.Refusals.{planRefusal, drawRefusal}
 use Rattle.sheet.proofs.refusals.draw_refusal.Statement.{statement}
 use Rattle.sheet.proofs.refusals.draw_refusal.Tie as tie

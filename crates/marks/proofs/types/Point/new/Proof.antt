@@ -2,7 +2,7 @@
 use mathlib.Core.Path.{refl}
 use Rattle.ints.proofs.Laws.{back}
 use Rattle.marks.specs.Half.{point5, halfOf, wholeOf}
-use Rattle.marks.proofs.Exact.{cast-holds, whole-holds}
+use Rattle.marks.proofs.Exact.{cast-holds, whole-holds, point-exact}
 use Rattle.marks.proofs.types.Point.new.Statement.{statement}
 use Rattle.marks.proofs.types.Point.new.Tie as tie
 
@@ -14,7 +14,9 @@ int-to-float-t5 c = let s = c .before .before in whole-holds (s .args .y) (s .pr
 
 returns : tie.Need-returns
 unfolding halfOf wholeOf point5
-returns c = let s = c .before .before in simp (back (s .fits .x)) refl
+returns c =
+    let s = c .before .before in
+    simp (back (s .fits .x)) (record { is = refl; exact = point-exact (s .args .x) (s .args .y) (s .pre .0) (s .pre .1) })
 
 pub new-spec : {M : Type 1} → statement M
 new-spec = tie.close

@@ -1,0 +1,4 @@
+pub mod Replies
+pub mod Step
+pub mod Run
+pub mod inner

@@ -1,0 +1,2 @@
+-- Words of inner contracts. No public promise rests on them.
+pub mod Replied

@@ -1,1 +1,0 @@
-// Laws of the passes, on which their programs and demand 3 rest: see proofs/Lib.antt.

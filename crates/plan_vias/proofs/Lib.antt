@@ -1,2 +1,0 @@
-pub mod InnerLaws
-pub mod SegmentLaws

@@ -1,2 +1,0 @@
-// Checks 5 and 6: the segments of vias.
-pub mod vias;

@@ -1,2 +1,0 @@
-pub mod Partly
-pub mod Boxes

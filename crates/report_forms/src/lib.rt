@@ -1,2 +1,0 @@
-// The lines of a report by their forms.
-pub mod forms;

@@ -1,2 +1,0 @@
-// Refusal 8: whether place-run takes a run.
-pub mod refusal;

@@ -1,0 +1,4 @@
+pub mod ByCase
+pub mod Back
+pub mod Lengths
+pub mod Cases

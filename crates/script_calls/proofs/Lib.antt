@@ -1,0 +1,3 @@
+pub mod ReplyLines
+pub mod RunLines
+pub mod Commands

@@ -1,0 +1,57 @@
+-- A text that is cut to more than 65,536 bytes is refused with 1 as the whole text is, and a list of a run that is cut is refused
+-- with 8 as the whole list is; so what is asked of a command may be asked of so much of it as the buffers have room for.
+use mathlib.Core.Path.{_≡_, refl, sym, _∙_, ap}
+use mathlib.Core.List.{List}
+use mathlib.Core.Option.{Option, none, some}
+use Prim.Native.Nat.{ℕ, _<_}
+use native.Mathlib.Omega.{arith}
+use native.Mathlib.Decide.{decLt}
+use borrow.Author.Tests.{lt-leb}
+use lib.ListN.{length, take, length-take}
+use lib.Seq.{take-all}
+use Rattle.ints.specs.Refusals.{firstRefusal}
+use Rattle.text.specs.Form.{Lines, formOf}
+use Rattle.text.specs.Reading.{maxBytes, testsOf, refused, readAs, reading}
+use Rattle.run.specs.Call.{Request}
+use Rattle.script_runs.specs.inner.Filled.{shortened as shortenedRun}
+use Rattle.script_commands.specs.declared.types.Command.{Command as Found}
+use Rattle.script_commands.specs.Commands.{Command, skip, unknown, load, draw, clear, stage, line, lines, mark, marks, placeRun, poke}
+use Rattle.script_commands.specs.inner.Held.{Lent, commandIn, shortened, Commands}
+
+-- ---- a text
+read-long : (s : List ℕ) (l : Option Lines) → maxBytes < length s → readAs (firstRefusal (testsOf s l)) l ≡ refused 1
+unfolding testsOf firstRefusal
+read-long s none h = refl
+read-long s (some l) h = rw (lt-leb (length s) maxBytes h)
+
+reading-long : (s : List ℕ) → maxBytes < length s → reading s ≡ refused 1
+unfolding reading
+reading-long s h = read-long s (formOf s) h
+
+pub reading-cut : (m : ℕ) (s : List ℕ) → maxBytes < m → reading (take m s) ≡ reading s
+reading-cut m s h = elim (decLt (length s) m) [
+  | yes k ↦ ap reading (take-all m s (omega arith))
+  | no k ↦ reading-long (take m s) (simp length-take (omega arith)) ∙ sym (reading-long s (omega arith))
+]
+
+-- ---- a command
+module _ {X : Type 0} (f : Command → X) (b : Lent)
+    (text : (t : List ℕ) → f (load (take (length (b .text)) t)) ≡ f (load t))
+    (run : (q : Request) (n : ℕ) → f (placeRun (shortenedRun (b .run) q) n) ≡ f (placeRun q n)) where
+  pub same-cut : (c : Command) → f (shortened b c) ≡ f c
+  same-cut skip = refl
+  same-cut unknown = refl
+  same-cut (load t) = text t
+  same-cut draw = refl
+  same-cut clear = refl
+  same-cut stage = refl
+  same-cut (line n m) = refl
+  same-cut lines = refl
+  same-cut (mark n) = refl
+  same-cut marks = refl
+  same-cut (placeRun q n) = run q n
+  same-cut (poke p) = refl
+
+  -- what the program's command answers is what the line's command answers
+  pub same-answer : (c : Command) (r : Found) (after : Lent) → Commands c b r after → f (commandIn r after) ≡ f c
+  same-answer c r after e = ap f (e .says) ∙ same-cut c

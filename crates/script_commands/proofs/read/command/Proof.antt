@@ -1,0 +1,86 @@
+-- `script_commands::read::command` meets its contract: a skipped line, a load, a run, or a line in one of the forms.
+use mathlib.Core.Path.{sym, _∙_, ap}
+use mathlib.Core.List.{_++_}
+use native.Mathlib.Omega.{arith}
+use borrow.Author.Needs.{needs}
+use lib.ListN.{drop}
+use Rattle.text_scan.proofs.Lines.{has, has-not}
+use Rattle.script_words.specs.Parts.{words}
+use Rattle.script_texts.specs.Texts.{unescaped}
+use Rattle.script_words.proofs.PartLaws.{rest}
+use Rattle.script_runs.specs.inner.Filled.{buffers}
+use Rattle.script_commands.specs.Table.{calls, planPokes, drawingPokes, saidBy, loading, placing}
+use Rattle.script_commands.specs.inner.Held.{lent, shortened}
+use Rattle.script_commands.proofs.TableLaws.{command-skip, command-load, command-place, command-said, bare-command}
+use Rattle.script_commands.proofs.read.command.Statement.{statement}
+use Rattle.script_commands.proofs.read.command.Tie as tie
+
+returns : tie.Need-returns
+returns c =
+    let c6 = c .before .before .before .before .before .before in
+    let a = c6 .args in
+    let b = lent (a .text .now) (buffers (a .old .now) (a .distances .now) (a .counts .now) (a .neighbours .now)) in
+    record { says = sym (ap (shortened b) (command-skip (a .line .now) (sym (c .before .is-skipped .ensures) ∙ c .if1 .taken))); inside = tt }
+
+sub-load : tie.Need-sub-load
+sub-load c = c .before .word-at .ensures .inside (c .if2 .taken)
+
+part-load-start : tie.Need-part-load-start
+part-load-start c = omega (arith, c .before .word-at .ensures .inside (c .if2 .taken))
+
+returns-2 : tie.Need-returns-2
+returns-2 c =
+    let c6 = c .before .before .before .before .before .before in
+    let c8 = c6 .before .before in
+    let c9 = c8 .before in
+    let c14 = c9 .before .before .before .before .before in
+    let a = c14 .args in
+    let l = a .line .now in
+    let e = command-load l (sym (c9 .is-skipped .ensures) ∙ c8 .if1 .left) (drop 14 l)
+    (has (c6 .word-at .ensures) (c .before .before .before .before .before .if2 .taken)) in
+    rw (e ∙ ap (λ s. loading (unescaped s)) (sym (rest 14 l)))
+    (c .before .before .load .ensures (buffers (a .old .now) (a .distances .now) (a .counts .now) (a .neighbours .now)))
+
+sub-place-run : tie.Need-sub-place-run
+sub-place-run c = c .before .word-at2 .ensures .inside (c .if3 .taken)
+
+part-place-run-start : tie.Need-part-place-run-start
+part-place-run-start c = omega (arith, c .before .word-at2 .ensures .inside (c .if3 .taken))
+
+returns-3 : tie.Need-returns-3
+returns-3 c =
+    let c6 = c .before .before .before .before .before .before in
+    let c12 = c6 .before .before .before .before .before .before in
+    let c13 = c12 .before in
+    let c15 = c13 .before .before in
+    let c16 = c15 .before in
+    let c18 = c16 .before .before in
+    let c19 = c18 .before in
+    let c24 = c19 .before .before .before .before .before in
+    let a = c24 .args in
+    let l = a .line .now in
+    let e =
+    command-place l (sym (c19 .is-skipped .ensures) ∙ c18 .if1 .left) (has-not (c16 .word-at .ensures) (c15 .if2 .left)) (drop 9 l)
+    (has (c13 .word-at2 .ensures) (c12 .if3 .taken)) in
+    rw (e ∙ ap (λ s. placing (words s)) (sym (rest 9 l))) (c6 .place-run .ensures (a .text .now))
+
+returns-4 : tie.Need-returns-4
+returns-4 c =
+    let c7 = c .before .before .before .before .before .before .before in
+    let c8 = c7 .before in
+    let c13 = c8 .before .before .before .before .before in
+    let a = c13 .args in
+    let l = a .line .now in
+    let b = lent (a .text .now) (buffers (a .old .now) (a .distances .now) (a .counts .now) (a .neighbours .now)) in
+    let e = command-said l (sym (c8 .is-skipped .ensures) ∙ c7 .if1 .left)
+    (has-not (c .before .before .before .before .before .word-at .ensures) (c .before .before .before .before .if2 .left))
+    (has-not (c .before .before .word-at2 .ensures) (c .before .if3 .left)) in
+    rw e (bare-command (saidBy (calls ++ planPokes ++ drawingPokes) l) (c .said .result) b (c .said .ensures))
+
+pub command-spec : {M : Type 1} → statement M
+command-spec =
+    tie.close
+    (tie.spec (λ c κs. search needs) returns (λ c. search needs) (λ c κs. search needs) sub-load part-load-start (λ c. search needs)
+    (λ c κs. search needs) (λ c. search needs) returns-2 (λ c. search needs) (λ c κs. search needs) sub-place-run part-place-run-start
+    (λ c. search needs) (λ c κs. search needs) (λ c. search needs) (λ c. search needs) (λ c. search needs) (λ c. search needs) returns-3
+    (λ c κs. search needs) returns-4)

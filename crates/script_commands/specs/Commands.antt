@@ -1,0 +1,24 @@
+-- What a line of a script says.
+use mathlib.Core.List.{List}
+use Prim.Native.Nat.{ℕ}
+use Rattle.run.specs.Call.{Request}
+use Rattle.script_commands.specs.declared.types.Poke.{Poke}
+
+pub data Command : Type 0 where
+  -- An empty line or a remark, which has no answer.
+  skip : Command
+  -- "a line in any other form"
+  unknown : Command
+  -- `load S strict TEXT`: the bytes that TEXT stands for.
+  load : List ℕ → Command
+  draw : Command
+  clear : Command
+  stage : Command
+  -- `line S n [BUF]`: the number of the line, and the length of the buffer.
+  line : ℕ → ℕ → Command
+  lines : Command
+  mark : ℕ → Command
+  marks : Command
+  -- `placerun ..`: a request for place-run, and the length of the answer buffer.
+  placeRun : Request → ℕ → Command
+  poke : Poke → Command

@@ -1,0 +1,103 @@
+-- "A script has one command a line": the forms of its lines, and what a line in each of them says. S, the number of the sheet, is 1.
+use mathlib.Core.Bool.{Bool, true, false, cond}
+use mathlib.Core.List.{List, [], _∷_, _++_}
+use mathlib.Core.Option.{Option, none, some}
+use Prim.Native.Nat.{ℕ}
+use Prim.Native.String.{String}
+use lib.Dec.{eqb}
+use Rattle.text.specs.Bytes.{bytes}
+use Rattle.text.specs.Parser.{Got, got, nothing, word}
+use Rattle.script_words.specs.Parts.{words}
+use Rattle.script_texts.specs.Texts.{unescaped}
+use Rattle.script_forms.specs.Forms.{hasForm, wholeAt, signedAt}
+use Rattle.script_runs.specs.Runs.{isRequest, requestIn, roomIn}
+use Rattle.script_commands.specs.declared.types.Poke.the-variants.{Empty, Loaded, Drawn, Levels, Gap, Spacing, Size, Vertex, Segment, Preliminary, Final, Pass, Level, Listed}
+use Rattle.script_commands.specs.Commands.{Command, skip, unknown, load, draw, clear, stage, line, lines, mark, marks, placeRun, poke}
+
+-- A form, and what a line in that form says.
+pub record Row : Type 0 where
+  pub form : List ℕ
+  pub says : List ℕ → Command
+
+abbrev pub row : String → (List ℕ → Command) → Row
+row f s = record { form = bytes f; says = s }
+
+-- "BUF: the buffer's length, else long enough": no line has more bytes.
+abbrev pub longEnough : ℕ
+longEnough = 1421
+
+unfoldable pub calls : List Row
+calls =
+    row "draw 1" (λ l. draw)
+    ∷ row "clear 1" (λ l. clear)
+    ∷ row "stage 1" (λ l. stage)
+    ∷ row "line 1 N" (λ l. line (wholeAt l 2) longEnough)
+    ∷ row "line 1 N N" (λ l. line (wholeAt l 2) (wholeAt l 3))
+    ∷ row "lines 1" (λ l. lines)
+    ∷ row "mark 1 N" (λ l. mark (wholeAt l 2))
+    ∷ row "marks 1" (λ l. marks)
+    ∷ []
+
+-- "alters the stored record": the stage and the plan,
+unfoldable pub planPokes : List Row
+planPokes =
+    row "poke 1 stage empty" (λ l. poke Empty)
+    ∷ row "poke 1 stage loaded N N" (λ l. poke (Loaded (wholeAt l 4) (wholeAt l 5)))
+    ∷ row "poke 1 stage drawn N N N" (λ l. poke (Drawn (wholeAt l 4) (wholeAt l 5) (wholeAt l 6)))
+    ∷ row "poke 1 k N" (λ l. poke (Levels (wholeAt l 3)))
+    ∷ row "poke 1 g N" (λ l. poke (Gap (wholeAt l 3)))
+    ∷ row "poke 1 s N" (λ l. poke (Spacing (wholeAt l 3)))
+    ∷ row "poke 1 size N N" (λ l. poke (Size (wholeAt l 3) (wholeAt l 4)))
+    ∷ row "poke 1 vertex N box N" (λ l. poke (Vertex (wholeAt l 3) false (wholeAt l 5)))
+    ∷ row "poke 1 vertex N via N" (λ l. poke (Vertex (wholeAt l 3) true (wholeAt l 5)))
+    ∷ row "poke 1 seg N N N" (λ l. poke (Segment (wholeAt l 3) (wholeAt l 4) (wholeAt l 5)))
+    ∷ []
+
+-- and the drawing.
+unfoldable pub drawingPokes : List Row
+drawingPokes =
+    row "poke 1 pre N Z" (λ l. poke (Preliminary (wholeAt l 3) (signedAt l 4)))
+    ∷ row "poke 1 pos N Z" (λ l. poke (Final (wholeAt l 3) (signedAt l 4)))
+    ∷ row "poke 1 pass N N" (λ l. poke (Pass (wholeAt l 3) (wholeAt l 4)))
+    ∷ row "poke 1 level N N" (λ l. poke (Level (wholeAt l 3) (wholeAt l 4)))
+    ∷ row "poke 1 box N N N Z" (λ l. poke (Listed (wholeAt l 3) (wholeAt l 4) (wholeAt l 5) (signedAt l 6)))
+    ∷ []
+
+-- What the first form says that the line has; "unknown" if it has none.
+unfoldable pub saidBy : List Row → List ℕ → Command
+saidBy [] l = unknown
+saidBy (r ∷ rs) l =
+    let here = r .says l in
+    let more = saidBy rs l in
+    cond (hasForm (r .form) l) here more
+
+-- "empty lines and lines that begin with `#` are skipped"
+abbrev pub isSkipped : List ℕ → Bool
+isSkipped [] = true
+isSkipped (b ∷ l) = eqb b 35
+
+-- "TEXT goes to the line's end".
+abbrev pub loading : Option (List ℕ) → Command
+loading none = unknown
+loading (some text) = load text
+
+abbrev pub loadOr : Got (Unit {0}) → Command → Command
+loadOr (got u text) other = loading (unescaped text)
+loadOr nothing other = other
+
+-- What follows placerun is a request, or the line is unknown.
+abbrev pub placing : List (List ℕ) → Command
+placing ws =
+    let run = placeRun (requestIn ws) (roomIn ws) in
+    cond (isRequest ws) run unknown
+
+abbrev pub placeOr : Got (Unit {0}) → Command → Command
+placeOr (got u given) other = placing (words given)
+placeOr nothing other = other
+
+unfoldable pub commandOf : List ℕ → Command
+commandOf l =
+    let other = saidBy (calls ++ planPokes ++ drawingPokes) l in
+    let run = placeOr (word (bytes "placerun ") l) other in
+    let said = loadOr (word (bytes "load 1 strict ") l) run in
+    cond (isSkipped l) skip said

@@ -1,0 +1,38 @@
+// What a line of a script says, as data.
+use script_runs::types::RunRequest;
+
+// What a poke alters, with the numbers of its line: the stage; K, G, S; the size of a level; kind and half-width of a vertex; the
+// ends of a segment; preliminary and final position of a vertex; pass and level of a placing; and of a placing's box its vertex
+// and position. Levels, vertices, segments, placings and boxes are counted from 0.
+pub enum Poke {
+    Empty,
+    Loaded(usize, usize),
+    Drawn(usize, usize, usize),
+    Levels(usize),
+    Gap(usize),
+    Spacing(usize),
+    Size(usize, usize),
+    Vertex(usize, bool, usize),
+    Segment(usize, usize, usize),
+    Preliminary(usize, i64),
+    Final(usize, i64),
+    Pass(usize, usize),
+    Level(usize, usize),
+    Listed(usize, usize, usize, i64),
+}
+
+// A command. The text of Load lies in a lent buffer, and the number is how many bytes it has; the lists of PlaceRun lie in others.
+pub enum Command {
+    Skip,
+    Unknown,
+    Load(usize),
+    Draw,
+    Clear,
+    Stage,
+    Line(usize, usize),
+    Lines,
+    Mark(usize),
+    Marks,
+    PlaceRun(RunRequest),
+    Poke(Poke),
+}

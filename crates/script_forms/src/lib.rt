@@ -1,0 +1,2 @@
+// Lines by their forms.
+pub mod forms;

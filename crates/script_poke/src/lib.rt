@@ -1,0 +1,4 @@
+// A stored record altered by hand.
+pub mod poke;
+pub mod put;
+pub mod types;

@@ -1,0 +1,5 @@
+pub mod LayLaws
+pub mod Going
+pub mod Lines
+pub mod Whole
+pub mod Twice

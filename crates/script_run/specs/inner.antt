@@ -1,0 +1,2 @@
+-- Words of inner contracts: what is laid into a buffer, answer by answer. No public promise rests on them.
+pub mod Laid

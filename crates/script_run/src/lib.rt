@@ -1,0 +1,4 @@
+// Whole scripts: their answers in a lent buffer.
+pub mod lay;
+pub mod script;
+pub mod types;

@@ -1,0 +1,4 @@
+pub mod ListLaws
+pub mod NameLaws
+pub mod RequestLaws
+pub mod Short

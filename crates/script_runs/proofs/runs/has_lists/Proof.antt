@@ -1,0 +1,67 @@
+-- `script_runs::runs::has_lists` meets its contract: the tests one after another.
+use mathlib.Core.Path.{sym, _∙_, ap}
+use borrow.Author.Tests.{not-true, not-false}
+use borrow.Author.Needs.{needs}
+use Rattle.script_runs.specs.declared.types.Kind.the-variants.{Unsigned, Signed, Any}
+use Rattle.script_runs.specs.Lists.{isList}
+use Rattle.script_runs.specs.Runs.{hasLists}
+use Rattle.script_runs.proofs.runs.has_lists.Statement.{statement}
+use Rattle.script_runs.proofs.runs.has_lists.Tie as tie
+
+returns : tie.Need-returns
+unfolding hasLists
+returns c =
+    rw (sym (c .before .is-list .ensures ∙ ap (isList Signed) (c .before .before .value .ensures)) ∙ not-true _ (c .if1 .taken))
+
+returns-2 : tie.Need-returns-2
+unfolding hasLists
+returns-2 c =
+    let c6 = c .before .before .before .before .before .before in
+    rw (
+      sym (c .before .before .before .before .before .is-list .ensures ∙ ap (isList Signed) (c6 .value .ensures))
+          ∙ not-false _ (c .before .before .before .before .if1 .left),
+      sym
+          (c .before .is-list2 .ensures ∙ ap (isList Unsigned) (c .before .before .value2 .ensures)) ∙ not-true _ (c .if2 .taken),
+    )
+
+returns-3 : tie.Need-returns-3
+unfolding hasLists
+returns-3 c =
+    let c6 = c .before .before .before .before .before .before in
+    let c8 = c6 .before .before in
+    let c9 = c8 .before in
+    let c10 = c9 .before in
+    rw (
+      sym (c9 .is-list .ensures ∙ ap (isList Signed) (c10 .value .ensures))
+          ∙ not-false _ (c8 .if1 .left),
+      sym (c .before .before .before .before .before .is-list2 .ensures ∙ ap (isList Unsigned) (c6 .value2 .ensures))
+          ∙ not-false _ (c .before .before .before .before .if2 .left),
+      sym
+          (c .before .is-list3 .ensures ∙ ap (isList Signed) (c .before .before .value3 .ensures)) ∙ not-true _ (c .if3 .taken),
+    )
+
+returns-4 : tie.Need-returns-4
+unfolding hasLists
+returns-4 c =
+    let c7 = c .before .before .before .before .before .before .before in
+    let c8 = c7 .before in
+    let c9 = c8 .before in
+    let c11 = c9 .before .before in
+    let c12 = c11 .before in
+    let c13 = c12 .before in
+    rw (
+      sym (c12 .is-list .ensures ∙ ap (isList Signed) (c13 .value .ensures))
+          ∙ not-false _ (c11 .if1 .left),
+      sym (c8 .is-list2 .ensures ∙ ap (isList Unsigned) (c9 .value2 .ensures))
+          ∙ not-false _ (c7 .if2 .left),
+      sym (c .before .before .before .before .is-list3 .ensures
+          ∙ ap (isList Signed) (c .before .before .before .before .before .value3 .ensures)) ∙ not-false _ (c .before .before .before .if3 .left),
+    )
+    (c .is-list4 .ensures ∙ ap (isList Any) (c .before .value4 .ensures))
+
+pub has-lists-spec : {M : Type 1} → statement M
+has-lists-spec =
+    tie.close
+    (tie.spec (λ c. search needs) (λ c κs. search needs) (λ c κs. search needs) returns (λ c. search needs) (λ c κs. search needs)
+    (λ c κs. search needs) returns-2 (λ c. search needs) (λ c κs. search needs) (λ c κs. search needs) returns-3 (λ c. search needs)
+    (λ c κs. search needs) (λ c κs. search needs) returns-4)

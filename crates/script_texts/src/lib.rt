@@ -1,0 +1,3 @@
+// Texts with bytes written as escapes.
+pub mod texts;
+pub mod types;

@@ -1,0 +1,119 @@
+-- `lines` and `marks` go up to a refusal: a sheet that shows anything has at most 1,024 + 2,048 + 2 lines and 1,024 + 2,048 marks, so
+-- the last of their answers is a refusal, and no other is.
+use mathlib.Core.Path.{_≡_, refl, sym, _∙_}
+use mathlib.Core.Bool.{Bool, true, false, cond, _&&_}
+use mathlib.Core.List.{List, [], _∷_}
+use Prim.Native.Nat.{ℕ, zero, suc, _+_, _≤_, _<_}
+use native.Mathlib.Omega.{arith}
+use borrow.Author.Tests.{le-ltb}
+use lib.ListN.{length}
+use Rattle.ints.specs.Refusals.{Test, noneRefuses}
+use Rattle.ints.proofs.Laws.{cases}
+use Rattle.ints.proofs.Tests.{test, conj-at, and-false}
+use Rattle.ints.proofs.Refusals.{none-0}
+use Rattle.text.proofs.Words.{never}
+use Rattle.sheet_data.specs.inner.Parts.{Holds}
+use Rattle.sheet_data.proofs.Rooms.{few}
+use Rattle.sheet.specs.declared.types.Sheet.{Sheet}
+use Rattle.sheet.specs.Sheet.{isDrawn}
+use Rattle.sheet.specs.Tests.{holdsPlan, holdsDrawing, linesIn, test7Line, marksIn, test7Mark, test14, lineOf}
+use Rattle.sheet.specs.Calls as sheet
+use Rattle.sheet.specs.Calls.{lineTests, markTests}
+use Rattle.sheet.specs.inner.Refusals.{countsIn}
+use Rattle.sheet.proofs.WhenRefused.{canShow, shows-given}
+use Rattle.calls.specs.declared.types.Call.the-variants.{Line, Mark}
+use Rattle.calls.specs.Step.{step}
+use Rattle.script_commands.specs.Commands.{Command, skip, unknown, load, draw, clear, stage, line, lines, mark, marks, placeRun, poke}
+use Rattle.script_commands.specs.Table.{longEnough}
+use Rattle.script_answers.specs.Answers.{Said}
+use Rattle.script_turn.specs.Turns.{lending, isRefused, upToRefusal, mostAnswers, lineSaid, markSaid, turnOf}
+use Rattle.script_turn.proofs.Goes.{most}
+use Rattle.script_turn.proofs.LineLaws.{zeros}
+use Rattle.script_turn.proofs.CallLaws.{refused-said}
+
+-- The last is a refusal, and none before it.
+unfoldable pub endsRefused : List Said → Bool
+endsRefused [] = false
+endsRefused (a ∷ []) = isRefused a
+endsRefused (a ∷ b ∷ more) = cond (isRefused a) false (endsRefused (b ∷ more))
+
+module _ (f : ℕ → Said) where
+  other : (k n : ℕ) → isRefused (f k) ≡ false → isRefused (f n) ≡ true → n ≡ k → ⊥
+  other k n h e z = never (sym h ∙ (rw z at e))
+
+  ends : (m k n : ℕ) → k ≤ n → n < k + m → isRefused (f n) ≡ true → endsRefused (upToRefusal f k m) ≡ true
+  unfolding endsRefused upToRefusal
+  ends zero k n l u e = absurd (omega arith)
+  ends (suc zero) k n l u e = test (isRefused (f k)) (λ h. rw h h) (λ h. absurd (other k n h e (omega arith)))
+  ends (suc (suc m)) k n l u e =
+      test (isRefused (f k))
+      (λ h. rw h h)
+      (λ h.
+      let later : suc k ≤ n = cases n k (λ p. absurd (other k n h e (omega arith))) (λ p. omega arith) in
+      rw (h, h) (ends (suc m) (suc k) n later (omega arith) e))
+
+module _ (s : Sheet) where
+  holds : canShow s ≡ true → Holds (s .plan) (s .drawing) (countsIn (s .header .stage))
+  holds h = let at = conj-at (isDrawn (s .header .stage)) (holdsPlan s ∷ holdsDrawing s ∷ []) h in record { plan = at 1; drawing = at 2 }
+
+  -- ---- lines
+  abbrev lineMore : ℕ → List Test
+  lineMore n = test7Line s n ∷ test14 (lineOf s n) (zeros longEnough) ∷ []
+
+  line-stops : (n : ℕ) → (canShow s && noneRefuses (lineMore n)) ≡ false → isRefused (lineSaid s n) ≡ true
+  unfolding step sheet.line
+  line-stops n h =
+      let none = shows-given s (lineMore n) ∙ h in
+      refused-said (Line n) (lending [] longEnough) s ∙ rw (none-0 (lineTests s n (zeros longEnough)) refl, none)
+
+  past-lines : noneRefuses (lineMore (linesIn s)) ≡ false
+  unfolding noneRefuses
+  past-lines = rw (le-ltb (linesIn s) (linesIn s) (omega arith))
+
+  pub lines-end : endsRefused (upToRefusal (lineSaid s) 0 mostAnswers) ≡ true
+  lines-end =
+      test (canShow s)
+      (λ h.
+      let few = few (s .plan) (s .drawing) (countsIn (s .header .stage)) (holds h) in
+      ends (lineSaid s) mostAnswers 0 (linesIn s) (omega arith) (omega (arith, few .vertices, few .placings))
+      (line-stops (linesIn s) (rw past-lines (and-false (canShow s)))))
+      (λ h. ends (lineSaid s) mostAnswers 0 0 (omega arith) (omega arith) (line-stops 0 (rw h)))
+
+  -- ---- marks
+  abbrev markMore : ℕ → List Test
+  markMore n = test7Mark s n ∷ []
+
+  mark-stops : (n : ℕ) → (canShow s && noneRefuses (markMore n)) ≡ false → isRefused (markSaid s n) ≡ true
+  unfolding step sheet.mark
+  mark-stops n h =
+      let none = shows-given s (markMore n) ∙ h in
+      refused-said (Mark n) (lending [] 0) s ∙ rw (none-0 (markTests s n) refl, none)
+
+  past-marks : noneRefuses (markMore (marksIn s)) ≡ false
+  unfolding noneRefuses
+  past-marks = rw (le-ltb (marksIn s) (marksIn s) (omega arith))
+
+  pub marks-end : endsRefused (upToRefusal (markSaid s) 0 mostAnswers) ≡ true
+  marks-end =
+      test (canShow s)
+      (λ h.
+      let few = few (s .plan) (s .drawing) (countsIn (s .header .stage)) (holds h) in
+      ends (markSaid s) mostAnswers 0 (marksIn s) (omega arith) (omega (arith, few .vertices, few .segments))
+      (mark-stops (marksIn s) (rw past-marks (and-false (canShow s)))))
+      (λ h. ends (markSaid s) mostAnswers 0 0 (omega arith) (omega arith) (mark-stops 0 (rw h)))
+
+-- ---- no command has more answers
+pub few-answers : (c : Command) (s : Sheet) → length (turnOf c s .said) ≤ mostAnswers
+unfolding turnOf
+few-answers skip s = omega arith
+few-answers unknown s = omega arith
+few-answers (load t) s = omega arith
+few-answers draw s = omega arith
+few-answers clear s = omega arith
+few-answers stage s = omega arith
+few-answers (line n room) s = omega arith
+few-answers lines s = most (lineSaid s) 0 mostAnswers
+few-answers (mark n) s = omega arith
+few-answers marks s = most (markSaid s) 0 mostAnswers
+few-answers (placeRun q room) s = omega arith
+few-answers (poke p) s = omega arith

@@ -1,0 +1,5 @@
+pub mod PartLaws
+pub mod NumberLaws
+pub mod Filling
+pub mod Written
+pub mod Cases

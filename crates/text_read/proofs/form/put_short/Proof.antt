@@ -1,0 +1,13 @@
+-- `text_read::form::put_short` meets its contract: `set` past the end changes nothing.
+use mathlib.Core.Path.{sym}
+use borrow.Author.Needs.{needs}
+use lib.Seq.{set-out}
+use Rattle.text_read.proofs.form.put_short.Statement.{statement}
+use Rattle.text_read.proofs.form.put_short.Tie as tie
+
+returns-2 : tie.Need-returns-2
+returns-2 c = sym (set-out _ _ _ (c .if1 .left))
+
+pub put-short-spec : {M : Type 1} → statement M
+put-short-spec = tie.close
+    (tie.spec (λ c. search needs) (λ c. search needs) (λ c. search needs) (λ c. search needs) returns-2)

@@ -1,3 +1,0 @@
-// What stands at a position of a plan text, and whether it is within its limits.
-pub mod limits;
-pub mod scanners;
