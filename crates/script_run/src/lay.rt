@@ -1,7 +1,6 @@
 // Answers laid into a buffer from a position on, as far as a room goes: counted, and written if that is asked for.
 use crate::types::Laid;
 use text_write::number::put_word;
-ghost use mathlib.Core.Path.{_≡_};
 ghost use Rattle.script_run.specs.inner.Laid.{Lays, InRoom};
 
 // One answer.

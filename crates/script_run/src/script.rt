@@ -39,7 +39,7 @@ fn room_in(length: usize) -> usize
 }
 
 // All answers of a command, one after another by way of a buffer.
-pub fn each_answer(
+fn each_answer(
     sheet: Sheet,
     command: Command,
     text: &[u8],
