@@ -2,7 +2,9 @@
 //! length. A test has a stack of two mebibytes.
 
 use std::fs;
+use std::io::Write;
 use std::path::Path;
+use std::process::{Command, Stdio};
 
 use differential::proved;
 use reference::{script, scripts};
@@ -63,4 +65,29 @@ fn scripts_of_the_gate() {
 fn edges() {
     let edges = ["", "\n", "\n\n", "# no command", "stage 1", "stage 1\n", "stage 1\r\n", "lines 1\nmarks 1", "stage 2", "poke 1 size 64 1"];
     edges.iter().for_each(|commands| compare(commands.as_bytes()));
+}
+
+/// A line of so many bytes fills the room of the program `script`.
+const LINE_ROOM: usize = 2_097_152;
+
+/// What the program `script` answers.
+fn run(commands: &[u8]) -> Vec<u8> {
+    let program = Path::new(env!("CARGO_MANIFEST_DIR")).join("../target/bin/script");
+    let mut child = Command::new(program).stdin(Stdio::piped()).stdout(Stdio::piped()).spawn().expect("the program script");
+    child.stdin.take().expect("its input").write_all(commands).expect("a script sent");
+    child.wait_with_output().expect("its answers").stdout
+}
+
+/// A line that fits the room is answered as the reference answers it; a longer one is no command, or a remark that is passed over.
+#[test]
+fn long_lines_of_the_program() {
+    let long = |front: &str, length: usize| [front.as_bytes(), &vec![b'a'; length - front.len()], b"\nstage 1\n"].concat();
+    for length in [65_536 + 14, 65_537 + 14, 300_000, LINE_ROOM - 1] {
+        let commands = long("load 1 strict ", length);
+        assert_eq!(run(&commands), script::answers(&commands), "{length}");
+    }
+    for length in [LINE_ROOM, LINE_ROOM + 1, 2 * LINE_ROOM, 3 * LINE_ROOM + 5] {
+        assert_eq!(run(&long("load 1 strict ", length)), b"unknown\nok empty\n", "{length}");
+        assert_eq!(run(&long("#", length)), b"ok empty\n", "{length}");
+    }
 }

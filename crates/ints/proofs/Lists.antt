@@ -1,13 +1,13 @@
 -- Laws of lists that the kit does not have: `over`, `sum`, `concat`, and `map` with a part, a store and a load. Assumes nothing.
 -- Elsewhere: `length-map`, `List·getD-map` (lib.ListN), `map-append`, `map-map` (mathlib.Core.List), and of `over` itself,
 -- which is an append, `take-append-seam`, `drop-append-seam`, `set-append-left` (lib.Seq), `List·getD-append` (lib.ListN).
-use Prim.Native.Nat.{ℕ, zero, suc, _+_, _<_, _≤_}
+use Prim.Native.Nat.{ℕ, zero, suc, _+_, _-_, _<_, _≤_}
 use mathlib.Core.Path.{_≡_, refl, sym, _∙_, ap}
 use mathlib.Core.List.{List, [], _∷_, _++_, map, append-assoc, append-nil, map-append}
 use native.Mathlib.Omega.{arith}
 use native.Mathlib.Numerals.{add-one}
 use lib.ListN.{length, take, drop, set, getD, length-append, length-drop, length-map, drop-of-length-le}
-use lib.Seq.{drop-cons, set-at, take-suc, length-take-le}
+use lib.Seq.{drop-cons, set-at, take-nil, take-suc, length-take-le}
 use Rattle.ints.specs.Lists.{over, sum, concat}
 
 -- ---- a list that a loop fills
@@ -23,6 +23,17 @@ module _ {A : Type 0} where
   -- once it is full nothing of the old is left
   pub over-all : (xs o : List A) → length o ≤ length xs → over xs o ≡ xs
   over-all xs o h = rw (drop-of-length-le o h, append-nil)
+
+-- ---- a part of a front
+module _ {A : Type 0} where
+  pub drop-take : (m n : ℕ) (l : List A) → drop m (take n l) ≡ take (n - m) (drop m l)
+  drop-take zero n l = let e : n ≡ n - 0 = omega arith in ap (λ (k : ℕ). take k l) e
+  drop-take (suc m) zero l = let e : 0 ≡ 0 - suc m = omega arith in ap (λ (k : ℕ). take k (drop (suc m) l)) e
+  drop-take (suc m) (suc n) [] = sym (take-nil (suc n - suc m))
+  drop-take (suc m) (suc n) (x ∷ l) = let e : n - m ≡ suc n - suc m = omega arith in drop-take m n l ∙ ap (λ (k : ℕ). take k (drop m l)) e
+
+  pub drop-part : (m n : ℕ) (l : List A) → drop m (take (m + n) l) ≡ take n (drop m l)
+  drop-part m n l = let e : m + n - m ≡ n = omega arith in drop-take m (m + n) l ∙ ap (λ (k : ℕ). take k (drop m l)) e
 
 -- ---- the sum of what is left after the first i
 module _ (xs : List ℕ) (i : ℕ) where

@@ -43,11 +43,12 @@ ExactMark (line x y u v) (Line q r) = ExactPoint x y q × ExactPoint u v r
 ExactMark (line x y u v) (Box q z) = ⊥
 ExactMark (line x y u v) (Bend q) = ⊥
 
--- A list begins with the five numbers of the mark w: its kind (0 a box, 1 a bend, 2 a line), its point, and a box's half-width or
--- a line's second point. (`nan` stands for what is past the end; it has no value.)
+-- The i-th number of a list; `nan`, which has no value, stands for what is past the end.
 abbrev pub nth : List Float → ℕ → Float
 nth l i = getD l i nan
 
+-- A list begins with the five numbers of the mark w: its kind (0 a box, 1 a bend, 2 a line), its point, and a box's half-width or
+-- a line's second point.
 abbrev pub ExactFive : WholeMark → List Float → Type 0
 ExactFive (box x y w) l = IsWhole 0 (nth l 0) × IsHalf x (nth l 1) × IsWhole y (nth l 2) × IsWhole w (nth l 3) × IsWhole 0 (nth l 4)
 ExactFive (bend x y) l = IsWhole 1 (nth l 0) × IsHalf x (nth l 1) × IsWhole y (nth l 2) × IsWhole 0 (nth l 3) × IsWhole 0 (nth l 4)

@@ -1,13 +1,13 @@
 -- The boxes that "Placing one run" takes from what the passes hold are those of the definition. Assumes nothing.
 use mathlib.Core.Path.{_≡_, refl, sym, _∙_, ap}
-use mathlib.Core.List.{List, [], _∷_, map}
+use mathlib.Core.List.{List, _∷_, map}
 use Prim.Native.Nat.{ℕ, zero, suc, _+_, _-_, _≤_, _<_}
 use native.Mathlib.Omega.{arith}
 use lib.ListN.{length, getD, take, drop}
-use lib.Seq.{drop-cons, drop-drop, take-nil, take-take, getD-drop}
+use lib.Seq.{drop-cons, drop-drop, take-take, getD-drop}
 use lib.IntN.{ℤ, pos}
 use Rattle.ints.specs.Lists.{sum}
-use Rattle.ints.proofs.Lists.{map-take, map-drop}
+use Rattle.ints.proofs.Lists.{drop-take, map-take, map-drop}
 use Rattle.run.specs.Run.{Box}
 use Rattle.plan.specs.Plan.{PlanData, numbers}
 use Rattle.plan.specs.inner.Graph.{countOf}
@@ -22,12 +22,6 @@ use Rattle.pass_place.specs.inner.Asked.{countsOf, nearOf}
 
 -- ---- lists
 module _ {A : Type 0} where
-  drop-take : (m n : ℕ) (l : List A) → drop m (take n l) ≡ take (n - m) (drop m l)
-  drop-take zero n l = let e : n ≡ n - 0 = omega arith in ap (λ (k : ℕ). take k l) e
-  drop-take (suc m) zero l = let e : 0 ≡ 0 - suc m = omega arith in ap (λ (k : ℕ). take k (drop (suc m) l)) e
-  drop-take (suc m) (suc n) [] = sym (take-nil (suc n - suc m))
-  drop-take (suc m) (suc n) (x ∷ l) = let e : suc n - suc m ≡ n - m = omega arith in drop-take m n l ∙ ap (λ (k : ℕ). take k (drop m l)) (sym e)
-
   part-cons : (v n : ℕ) (l : List A) (d : A) → v < length l → take (suc n) (drop v l) ≡ getD l v d ∷ take n (drop (v + 1) l)
   part-cons v n l d h = let e : suc v ≡ v + 1 = omega arith in ap (take (suc n)) (drop-cons l v d h) ∙ ap (λ (u : ℕ). getD l v d ∷ take n (drop u l)) e
 

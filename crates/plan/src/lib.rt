@@ -1,3 +1,5 @@
 // A plan's data and what is asked of them: see specs/.
 pub mod data;
+pub mod limits;
 pub mod numbers;
+pub mod questions;

@@ -3,31 +3,17 @@
 use crate::levels::levels;
 use crate::vias::check_inner;
 use crate::vias::check_vias;
-use ints::wide;
 use plan::data::Plan;
+use plan::questions::comes_before;
+use plan::questions::one_down;
 ghost use mathlib.Core.Path.{_≡_};
 ghost use mathlib.Core.Bool.{Bool};
 ghost use mathlib.Core.List.{List, [], _∷_};
 ghost use Prim.Native.Nat.{ℕ};
 ghost use lib.ListN.{length};
 ghost use Rattle.ints.specs.Refusals.{check, firstRefusal};
-ghost use Rattle.plan.specs.Checks.{comesBefore, check3, check4, checksOf};
-ghost use Rattle.plan.specs.inner.Graph.{graphOf, segment, Levelled, oneDown, InLimits};
-
-// Whether a and b are vertices, b one level below a.
-fn one_down(level: &[u16], a: u32, b: u32) -> bool
-    ensures { λ r. ⌜ r ≡ oneDown (now (level .entry)) (segment a b) ⌝ }
-{
-    let upper = a as usize;
-    let lower = b as usize;
-    if level.len() <= upper {
-        return false;
-    }
-    if level.len() <= lower {
-        return false;
-    }
-    wide(level[lower]) == wide(level[upper]) + 1
-}
+ghost use Rattle.plan.specs.Checks.{check3, check4, checksOf};
+ghost use Rattle.plan.specs.inner.Graph.{graphOf, Levelled, InLimits};
 
 // 3: the ends of each segment are vertices, B one level below A. `level` has the level of every vertex.
 pub fn check_ends(level: &[u16], uppers: &[u32], lowers: &[u32]) -> bool
@@ -43,13 +29,6 @@ pub fn check_ends(level: &[u16], uppers: &[u32], lowers: &[u32]) -> bool
         i += 1;
     }
     true
-}
-
-// Whether the segment from a to b comes before that from c to d.
-fn comes_before(a: u32, b: u32, c: u32, d: u32) -> bool
-    ensures { λ r. ⌜ r ≡ comesBefore (segment a b) (segment c d) ⌝ }
-{
-    a < c || (a == c && b < d)
 }
 
 // 4: segments strictly rising by A, then B.

@@ -1,5 +1,6 @@
 // Checks 5 and 6 of document 01, over slices that are as long as the data. Each stops at the first that fails.
 use plan::data::Plan;
+use plan::questions::is_through;
 ghost use mathlib.Core.Path.{_≡_};
 ghost use mathlib.Core.Bool.{true, false, cond, _&&_};
 ghost use mathlib.Core.List.{List};
@@ -7,7 +8,7 @@ ghost use Prim.Native.Nat.{ℕ, _<_, _≤_};
 ghost use lib.ListN.{length, getD};
 ghost use Rattle.plan.specs.Limits.{maxVertices, maxSegments};
 ghost use Rattle.plan.specs.Checks.{check3, check4, check5, check6};
-ghost use Rattle.plan.specs.inner.Graph.{graphOf, Below, Counted, Within, through};
+ghost use Rattle.plan.specs.inner.Graph.{graphOf, Below, Counted, Within};
 
 // Of each vertex, how many of the ends it is.
 fn count(ends: &[u32]) -> [u16; Plan::MAX_VERTICES]
@@ -22,13 +23,6 @@ fn count(ends: &[u32]) -> [u16; Plan::MAX_VERTICES]
         i += 1;
     }
     counts
-}
-
-// Whether a vertex, if it is a via, has one segment up and one down.
-fn is_through(via: bool, up: u16, down: u16) -> bool
-    ensures { λ r. ⌜ r ≡ through via up down ⌝ }
-{
-    if via { up == 1 && down == 1 } else { true }
 }
 
 // 5: every via has exactly one segment up and one down.

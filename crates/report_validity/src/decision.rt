@@ -2,29 +2,17 @@
 // exactly if its data are within the limits and pass checks 3 to 6.
 use ints::total;
 use plan::data::Plan;
-use plan::numbers::in_range;
+use plan::limits::half_width_fits;
+use plan::limits::numbers_fit;
 use plan::numbers::wide;
 use plan_checks::checks::check_plan;
 ghost use mathlib.Core.Path.{_≡_};
 ghost use mathlib.Core.Bool.{_&&_};
-ghost use Rattle.plan.specs.Limits.{within, maxLevels, maxGap, maxSpacing, maxOnLevel};
+ghost use Rattle.plan.specs.Limits.{within, maxOnLevel};
 ghost use Rattle.plan.specs.Checks.{every};
 ghost use Rattle.plan.specs.Acceptable.{halfHolds, halvesHold, limitsHold, acceptable};
 ghost use Rattle.plan.specs.Plan.{dataOf};
 ghost use Rattle.report.specs.Refusal13.{isStoredPlan};
-
-// "K 1 to 64; G 1 to 100; S 1 to 10,000"
-fn numbers_hold(levels: u32, gap: u32, spacing: u32) -> bool
-    ensures { λ r. ⌜ r ≡ (within 1 maxLevels levels && within 1 maxGap gap && within 1 maxSpacing spacing) ⌝ }
-{
-    if !in_range(1, Plan::MAX_LEVELS as u32, levels) {
-        return false;
-    }
-    if !in_range(1, Plan::MAX_GAP, gap) {
-        return false;
-    }
-    in_range(1, Plan::MAX_SPACING, spacing)
-}
 
 fn size_holds(n: u16) -> bool
     ensures { λ r. ⌜ r ≡ within 1 maxOnLevel n ⌝ }
@@ -53,7 +41,7 @@ fn half_holds(via: bool, half: u16) -> bool
     if via {
         half == 0
     } else {
-        1 <= half && half <= Plan::MAX_HALF_WIDTH as u16
+        half_width_fits(half as u32)
     }
 }
 
@@ -87,7 +75,7 @@ fn limits_hold(
 ) -> bool
     ensures { λ r. ⌜ r ≡ limitsHold (dataOf levels gap spacing (now (sizes .entry)) (now (vias .entry)) (now (halves .entry)) (now (uppers .entry)) (now (lowers .entry))) ⌝ }
 {
-    if !numbers_hold(levels, gap, spacing) {
+    if !numbers_fit(levels, gap, spacing) {
         return false;
     }
     if sizes.len() != wide(levels) {

@@ -1,14 +1,14 @@
 -- The columns of the first boxes of a run, and of the others. Assumes nothing.
-use mathlib.Core.Path.{_≡_, refl, sym, ap}
+use mathlib.Core.Path.{_≡_, refl}
 use mathlib.Core.Bool.{true}
 use mathlib.Core.List.{List, [], _∷_}
 use Prim.Native.Nat.{ℕ, zero, suc, _+_, _-_, _≤_}
 use native.Mathlib.Omega.{arith}
 use lib.ListN.{length, take, drop, length-take, length-drop}
-use lib.Seq.{drop-drop, take-take, take-nil}
-use native.Mathlib.Nat.{zero-add, suc-add}
+use lib.Seq.{drop-drop, take-take}
 use lib.IntN.{ℤ}
 use Rattle.run.specs.Run.{nondecreasing}
+use Rattle.ints.proofs.Lists.{drop-part}
 use Rattle.ints.proofs.Tests.{and-left, and-right, _and_}
 use Rattle.ints.specs.Lists.{sum}
 use Rattle.run_columns.specs.inner.Columns.{partsInOrder, Columns}
@@ -38,17 +38,12 @@ sum-cut zero cs = omega arith
 sum-cut (suc k) [] = refl
 sum-cut (suc k) (c ∷ cs) = omega (arith, sum-cut k cs)
 
-pub drop-take : (a b : ℕ) (ns : List ℤ) → drop a (take (a + b) ns) ≡ take b (drop a ns)
-drop-take zero b ns = ap (λ (k : ℕ). take k ns) (zero-add b)
-drop-take (suc a) b [] = rw (suc-add a b) (sym (take-nil b))
-drop-take (suc a) b (n ∷ ns) = rw (suc-add a b) (drop-take a b ns)
-
 order-take : (k : ℕ) (cs : List ℕ) (ns : List ℤ) → partsInOrder cs ns ≡ true → partsInOrder (take k cs) (take (sum (take k cs)) ns) ≡ true
 unfolding partsInOrder sum
 order-take zero cs ns e = refl
 order-take (suc k) [] ns e = refl
 order-take (suc k) (c ∷ cs) ns e = let s = sum (take k cs) in
-    rw (take-take c (c + s) ns (omega arith), drop-take c s ns)
+    rw (take-take c (c + s) ns (omega arith), drop-part c s ns)
     (_and_ {a = nondecreasing (take c ns)} (and-left (nondecreasing (take c ns)) _ e) (order-take k cs (drop c ns) (and-right (nondecreasing (take c ns)) _ e)))
 
 order-drop : (k : ℕ) (cs : List ℕ) (ns : List ℤ) → partsInOrder cs ns ≡ true → partsInOrder (drop k cs) (drop (sum (take k cs)) ns) ≡ true

@@ -16,10 +16,9 @@ use Rattle.run.specs.inner.Coordinates.{less, countUpTo}
 use Rattle.ints.proofs.Tests.{and-left, and-right, _and_}
 use Rattle.ints.specs.Lists.{sum}
 use Rattle.ints.specs.Reach.{reach}
-use Rattle.ints.proofs.Lists.{sum-on, sum-end}
+use Rattle.ints.proofs.Lists.{drop-part, sum-on, sum-end}
 use Rattle.run_columns.specs.inner.Columns.{partsInOrder, Columns, maxSize}
 use Rattle.run_columns.specs.inner.Offsets.{offsetsFrom, lessOffsets, lessNear, plusOffsets, maxOffset, OffsetsOf}
-use Rattle.run_columns.proofs.ColumnLaws.{drop-take}
 
 -- ---- the next distance, also where nothing follows
 pub first-drop : {A : Type 0} (e : A) (i : ℕ) (l : List A) → getD (drop i l) 0 e ≡ getD l i e
@@ -132,7 +131,7 @@ near-take (suc k) [] [] ns e f = refl
 near-take (suc k) [] (c ∷ cs) ns e f = absurd (omega arith)
 near-take (suc k) (o ∷ os) [] ns e f = absurd (omega arith)
 near-take (suc k) (o ∷ os) (c ∷ cs) ns e f = let s = sum (take k cs) in
-    rw (take-past c s (map (less o) (take c ns)) (lessNear os cs (drop c ns)) (mapped-long o c ns (omega arith)), take-take c (c + s) ns (omega arith), drop-take c s ns)
+    rw (take-past c s (map (less o) (take c ns)) (lessNear os cs (drop c ns)) (mapped-long o c ns (omega arith)), take-take c (c + s) ns (omega arith), drop-part c s ns)
     (ap (λ (r : List ℤ). map (less o) (take c ns) ++ r) (near-take k os cs (drop c ns) (omega arith) (omega (arith, length-drop c ns))))
 
 pub near-drop : (k : ℕ) (os cs : List ℕ) (ns : List ℤ) → length os ≡ length cs → length ns ≡ sum cs

@@ -8,7 +8,7 @@ use lib.Seq.{take-at, drop-at, take-take, drop-drop, drop-nil}
 use lib.IntN.{ℤ, pos, _+ℤ_}
 use Rattle.ints.specs.Lists.{sum}
 use Rattle.run.specs.Call.{boxesFrom}
-use Rattle.run_columns.proofs.ColumnLaws.{drop-take}
+use Rattle.ints.proofs.Lists.{drop-part}
 use Rattle.run.specs.Run.{span}
 use Rattle.run.specs.inner.Coordinates.{less, inRun, addOffsets}
 use Rattle.run_columns.specs.inner.Offsets.{offsetsFrom, lessOffsets, lessNear, plusOffsets}
@@ -27,7 +27,7 @@ take-boxes zero os ds cs ns = refl
 take-boxes (suc k) [] ds cs ns = refl
 take-boxes (suc k) (o ∷ os) ds [] ns = refl
 take-boxes (suc k) (o ∷ os) ds (c ∷ cs) ns = let s = sum (take k cs) in
-    rw (take-take c (c + s) ns (omega arith), drop-take c s ns, take-boxes k os (drop 1 ds) cs (drop c ns))
+    rw (take-take c (c + s) ns (omega arith), drop-part c s ns, take-boxes k os (drop 1 ds) cs (drop c ns))
 
 pub drop-boxes : (k : ℕ) (os : List ℤ) (ds cs : List ℕ) (ns : List ℤ) → drop k (boxesFrom os ds cs ns) ≡ boxesFrom (drop k os) (drop k ds) (drop k cs) (drop (sum (take k cs)) ns)
 unfolding boxesFrom sum

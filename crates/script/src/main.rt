@@ -9,7 +9,7 @@ use script_turn::turn::turn;
 use script_words::parts::end_of;
 use sheet::types::Sheet;
 ghost use mathlib.Core.Path.{_≡_};
-ghost use Prim.Native.Nat.{_≤_};
+ghost use Prim.Native.Nat.{_≤_, _<_};
 ghost use lib.ListN.{length};
 ghost use Rattle.script_runs.specs.inner.Filled.{buffers};
 ghost use Rattle.script_commands.specs.Table.{commandOf};
@@ -17,8 +17,8 @@ ghost use Rattle.script_commands.specs.inner.Held.{lent, commandIn, Inside};
 ghost use Rattle.script_answers.specs.inner.Lengths.{maxAnswer};
 ghost use Rattle.script_turn.specs.Turns.{turnOf};
 
-// A room for one line: a load of 65,536 bytes, each written as an escape, has fewer bytes. What is longer is taken as several lines.
-const LINE_ROOM: usize = 262400;
+// The room for one line: a load of 65,536 bytes, each written as an escape, takes an eighth of it. A line that fills it is no command.
+const LINE_ROOM: usize = 2097152;
 
 // More lines than anybody can send.
 const MOST_LINES: u64 = 18446744073709551615;
@@ -27,6 +27,13 @@ const MOST_LINES: u64 = 18446744073709551615;
 struct Span {
     from: usize,
     end: usize,
+    to: usize,
+}
+
+// The sheet after a line, and what is left in the room.
+struct Answered {
+    sheet: Sheet,
+    from: usize,
     to: usize,
 }
 
@@ -155,6 +162,64 @@ fn after(end: usize, to: usize) -> usize
     to
 }
 
+// Passes over the rest of a line that fills the room, which is no command, or over a remark: what follows it.
+fn pass_over(room: &mut [u8]) -> Span
+    requires { ⌜ 0 < length (now room) ⌝ }
+    ensures { λ r. ⌜ (r .from ≤ r .to) × (r .to ≤ length (now (room .exit))) ⌝ }
+{
+    if room[0] != b'#' {
+        io::write_all(STDOUT_FILENO, b"unknown\n");
+    }
+    let mut i: u64 = 0;
+    while i < MOST_LINES {
+        let to = refill(room, 0, 0);
+        let end = end_of(&room[..to], b'\n', 0);
+        if end < to {
+            return Span {
+                from: end + 1,
+                end,
+                to,
+            };
+        }
+        if to < room.len() {
+            return Span {
+                from: to,
+                end: to,
+                to,
+            };
+        }
+        i += 1;
+    }
+    Span {
+        from: 0,
+        end: 0,
+        to: 0,
+    }
+}
+
+// Carries out the command on the line from `a` up to `e`, or passes over it if it fills the room.
+fn answer_next(sheet: Sheet, room: &mut [u8], a: usize, e: usize, to: usize) -> Answered
+    requires { ⌜ (a ≤ e) × (a < to) × (e ≤ to) × (to ≤ length (now room)) ⌝ }
+    ensures { λ r. ⌜ (r .from ≤ r .to) × (r .to ≤ length (now (room .exit))) ⌝ }
+{
+    if e - a == room.len() {
+        let left = pass_over(room);
+        return Answered {
+            sheet,
+            from: left.from,
+            to: left.to,
+        };
+    }
+    let next_sheet = answer_line(sheet, &room[a..e]);
+    let from = after(e, to);
+    Answered {
+        sheet: next_sheet,
+        from,
+        to,
+    }
+}
+
+// The answers to all lines.
 fn serve(room: &mut [u8]) {
     let mut sheet = Sheet::empty();
     let mut from: usize = 0;
@@ -168,8 +233,10 @@ fn serve(room: &mut [u8]) {
         if a == to {
             return;
         }
-        sheet = answer_line(sheet, &room[a..e]);
-        from = after(e, to);
+        let answered = answer_next(sheet, room, a, e, to);
+        sheet = answered.sheet;
+        from = answered.from;
+        to = answered.to;
         i += 1;
     }
 }

@@ -1,5 +1,5 @@
 -- A command that is cut to the buffers' lengths is answered as the whole one, and leaves the same sheet.
-use mathlib.Core.Path.{_≡_, _∙_, ap}
+use mathlib.Core.Path.{_≡_, ap}
 use mathlib.Core.Bool.{Bool}
 use mathlib.Core.List.{List}
 use Prim.Native.Nat.{ℕ, _≤_, _<_}

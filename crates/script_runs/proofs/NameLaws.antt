@@ -1,10 +1,11 @@
 -- Names with values, as loops pass the words. Assumes nothing.
-use mathlib.Core.Path.{_≡_, refl, sym, _∙_, ap}
+use mathlib.Core.Path.{_≡_, refl, ap}
 use mathlib.Core.List.{List, [], _∷_}
-use Prim.Native.Nat.{ℕ, zero, suc, _+_, _-_, _≤_, _<_}
+use Prim.Native.Nat.{ℕ, suc, _+_, _-_, _≤_, _<_}
 use native.Mathlib.Omega.{arith}
-use lib.ListN.{length, take, drop, length-take, length-drop}
-use lib.Seq.{take-nil, drop-drop}
+use lib.ListN.{length, drop, length-take, length-drop}
+use lib.Seq.{drop-drop}
+use Rattle.ints.proofs.Lists.{drop-take}
 use Rattle.text.specs.Parser.{Got, got, nothing, word}
 use Rattle.script_words.specs.Parts.{words}
 use Rattle.script_words.specs.inner.Ends.{between, PartEnds}
@@ -46,12 +47,6 @@ module _ (name s : List ℕ) (from to : ℕ) (e : PartEnds 32 s from to) where
   value-none q h = rw (e .last h, q)
 
 -- ---- the rest of a part
-drop-take : (n k : ℕ) (l : List ℕ) → drop n (take k l) ≡ take (k - n) (drop n l)
-drop-take zero k l = let e : k ≡ k - 0 = omega arith in ap (λ (i : ℕ). take i l) e
-drop-take (suc n) zero l = let e : 0 ≡ 0 - suc n = omega arith in ap (λ (i : ℕ). take i (drop (suc n) l)) e
-drop-take (suc n) (suc k) [] = sym (take-nil (suc k - suc n))
-drop-take (suc n) (suc k) (x ∷ l) = let e : k - n ≡ suc k - suc n = omega arith in drop-take n k l ∙ ap (λ (i : ℕ). take i (drop n l)) e
-
 pub part-after : (n from to : ℕ) (s : List ℕ) → between (from + n) to s ≡ drop (0 + n) (between from to s)
 part-after n from to s =
     let z : 0 + n ≡ n = omega arith in

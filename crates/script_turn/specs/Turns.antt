@@ -38,7 +38,6 @@ lending t room = lent t (replicate room 0) []
 abbrev pub calling : Call → Lent → Sheet → Turn
 calling q l s = saying (callSaid q l s) (step q l s .sheet)
 
--- "n = 0, 1, .. each as its own answer, up to and with the refusal", from n on, at most so many.
 abbrev pub isRefused : Said → Bool
 isRefused notKnown = false
 isRefused (refused n) = true
@@ -48,6 +47,7 @@ isRefused (text l) = false
 isRefused (marked m) = false
 isRefused (positions xs) = false
 
+-- "n = 0, 1, .. each as its own answer, up to and with the refusal", from n on, at most so many.
 unfoldable pub upToRefusal : (ℕ → Said) → ℕ → ℕ → List Said
 upToRefusal f n zero = []
 upToRefusal f n (suc most) =

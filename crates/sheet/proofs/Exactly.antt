@@ -1,7 +1,7 @@
 -- The marks that a sheet gives are exact: a sheet that shows them is not refused 13, so its numbers are small enough for f64.
 -- `PlanArrays` says that the plan's arrays are as long as a stored plan's are.
 use mathlib.Core.Path.{_≡_, refl, sym, _∙_, ap}
-use mathlib.Core.Bool.{Bool, true, false, cond, _&&_}
+use mathlib.Core.Bool.{Bool, true, false, cond}
 use mathlib.Core.List.{List, [], _∷_, _++_}
 use Prim.Native.Nat.{ℕ, _*_, _<_}
 use native.Mathlib.Omega.{arith}

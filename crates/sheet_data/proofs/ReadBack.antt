@@ -48,7 +48,7 @@ counts-read d =
     let f : Placing → ℕ = λ q. length (q .boxes) in
     take-at (map f (d .placings)) (replicate (maxListed - length (map f (d .placings))) 0) (length (d .placings)) (length-map (d .placings) f)
 
-boxes-sum : (qs : List Placing) → sum (map (λ (q : Placing). length (q .boxes)) qs) ≡ length (boxesListed qs)
+pub boxes-sum : (qs : List Placing) → sum (map (λ (q : Placing). length (q .boxes)) qs) ≡ length (boxesListed qs)
 unfolding sum boxesListed
 boxes-sum [] = refl
 boxes-sum (q ∷ qs) = ap (λ n. length (q .boxes) + n) (boxes-sum qs) ∙ sym (length-append (q .boxes) (boxesListed qs))
@@ -60,10 +60,10 @@ replay-long p [] xs = refl
 replay-long p (s ∷ ss) xs = replay-long p ss _ ∙ length-put (runOf p s .boxes) (s .positions) xs
 
 module _ (p : PlanData) (ok : acceptable p ≡ true) where
-  preliminary-long : length (drawingOf p .preliminary) ≡ vertexCount p
+  pub preliminary-long : length (drawingOf p .preliminary) ≡ vertexCount p
   preliminary-long = ap length (demand3 p ok .started) ∙ kept p ok .long
 
-  final-long : length (drawingOf p .final) ≡ vertexCount p
+  pub final-long : length (drawingOf p .final) ≡ vertexCount p
   unfolding finished
   final-long = ap length (demand3 p ok .ended) ∙ replay-long p (traceOf p) (preliminary p) ∙ kept p ok .long
 

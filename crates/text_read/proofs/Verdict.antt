@@ -14,16 +14,20 @@ use Rattle.ints.specs.Refusals.{Test, check, firstRefusal}
 use Rattle.plan.specs.Plan.{PlanData}
 use Rattle.plan.specs.Stored.{storedPlan}
 use Rattle.plan.specs.Checks.{checksOf}
+use Rattle.plan.specs.Acceptable.{acceptable}
 use Rattle.plan.specs.inner.Graph.{graphOf}
 use Rattle.plan.proofs.GraphLaws.{same-checks}
+use Rattle.plan.proofs.Sound.{sound}
 use Rattle.text.specs.Form.{Lines, formOf}
 use Rattle.text.specs.Reading.{maxBytes, check2, stored, testsOf, accepted, refused, readAs, reading}
 use Rattle.text_read.specs.inner.Filled.{isSome, Kept, Scans}
 use Rattle.text_read.specs.declared.form.Scanned.{Scanned}
 use Rattle.text.proofs.Words.{never}
+use Rattle.text.proofs.RoundTrip.{read-acceptable}
 use Rattle.ints.proofs.Tests.{test}
 use Rattle.text_read.specs.Answer.{planOf, answerOf}
 use Rattle.text_read.specs.inner.Failed.{Fronts, checksIn}
+use Rattle.text_read.specs.inner.Taken.{InFronts, Accepts}
 use Rattle.text_read.specs.declared.Answer.the-variants.{Accepted}
 use Rattle.text_read.specs.declared.ReadText.{ReadText}
 
@@ -72,8 +76,8 @@ some-lines none e = never e
 some-lines (some l) e = (l, refl)
 
 -- the front of an array is the data
-take-over : {A : Type 0} (xs o : List A) (n : ℕ) → n ≡ length xs → take n (over xs o) ≡ xs
-take-over xs o n e = take-at xs _ n (sym e)
+front : {A : Type 0} (xs o ys : List A) (n : ℕ) → ys ≡ over xs o → n ≡ length xs → take n ys ≡ xs
+front xs o ys n e f = ap (take n) e ∙ take-at xs _ n (sym f)
 
 within : {A : Type 0} (xs o ys : List A) → ys ≡ over xs o → length xs ≤ length ys
 within xs o ys e = rw (e, length-append) (omega arith)
@@ -81,6 +85,18 @@ within xs o ys e = rw (e, length-append) (omega arith)
 -- ---- the arrays of a plan's data
 module _ (p : PlanData) (r : Scanned) (sizes : List ℕ) (vias : List Bool) (halves uppers lowers sizes′ : List ℕ) (vias′ : List Bool) (halves′ uppers′ lowers′ : List ℕ)
     (K : Kept p r sizes vias halves uppers lowers sizes′ vias′ halves′ uppers′ lowers′) where
+  sizes-front : take (r .levels) sizes′ ≡ p .sizes
+  sizes-front = front (p .sizes) sizes sizes′ (r .levels) (K .sizes-kept) (K .level-lines)
+
+  vias-front : take (r .vertices) vias′ ≡ p .vias
+  vias-front = front (p .vias) vias vias′ (r .vertices) (K .vias-kept) (K .vertices)
+
+  uppers-front : take (r .segments) uppers′ ≡ p .uppers
+  uppers-front = front (p .uppers) uppers uppers′ (r .segments) (K .uppers-kept) (K .segments)
+
+  lowers-front : take (r .segments) lowers′ ≡ p .lowers
+  lowers-front = front (p .lowers) lowers lowers′ (r .segments) (K .lowers-kept) (K .lower-ends)
+
   kept-fronts : length sizes′ ≡ 64 → length vias′ ≡ 1024 → length uppers′ ≡ 2048 → Fronts r sizes′ vias′ uppers′ lowers′
   kept-fronts a b c = record {
     levels = omega (arith, K .level-lines, within (p .sizes) sizes sizes′ (K .sizes-kept));
@@ -93,12 +109,30 @@ module _ (p : PlanData) (r : Scanned) (sizes : List ℕ) (vias : List Bool) (hal
   }
 
   kept-checks : checksOf (graphOf (take (r .levels) sizes′) (take (r .vertices) vias′) (take (r .segments) uppers′) (take (r .segments) lowers′)) ≡ checksOf p
-  kept-checks =
-      let a : take (r .levels) sizes′ ≡ p .sizes = ap (take (r .levels)) (K .sizes-kept) ∙ take-over (p .sizes) sizes (r .levels) (K .level-lines) in
-      let b : take (r .vertices) vias′ ≡ p .vias = ap (take (r .vertices)) (K .vias-kept) ∙ take-over (p .vias) vias (r .vertices) (K .vertices) in
-      let c : take (r .segments) uppers′ ≡ p .uppers = ap (take (r .segments)) (K .uppers-kept) ∙ take-over (p .uppers) uppers (r .segments) (K .segments) in
-      let d : take (r .segments) lowers′ ≡ p .lowers = ap (take (r .segments)) (K .lowers-kept) ∙ take-over (p .lowers) lowers (r .segments) (K .lower-ends) in
-      (λ i. checksOf (graphOf (a i) (b i) (c i) (d i))) ∙ sym (same-checks p)
+  kept-checks = (λ i. checksOf (graphOf (sizes-front i) (vias-front i) (uppers-front i) (lowers-front i))) ∙ sym (same-checks p)
+
+  in-fronts : acceptable p ≡ true → InFronts p r sizes′ vias′ halves′ uppers′ lowers′
+  in-fronts ok =
+      let l = sound p ok .limits in
+      let h : r .vertices ≡ length (p .halves) = K .vertices ∙ sym (l .halves-long) in
+      record {
+        lists = record {
+          levelsAre = sym (ap length sizes-front ∙ l .sizes-long);
+          gapIs = sym (K .gap);
+          sizesAre = sym sizes-front;
+          viasAre = sym vias-front;
+          halvesAre = sym (front (p .halves) halves halves′ (r .vertices) (K .halves-kept) h);
+          uppersAre = sym uppers-front;
+          lowersAre = sym lowers-front;
+          ok = ok;
+        };
+        spaced = sym (K .spacing);
+        sizes-reach = omega (arith, K .level-lines, within (p .sizes) sizes sizes′ (K .sizes-kept));
+        vias-reach = omega (arith, K .vertices, within (p .vias) vias vias′ (K .vias-kept));
+        halves-reach = omega (arith, h, within (p .halves) halves halves′ (K .halves-kept));
+        uppers-reach = omega (arith, K .segments, within (p .uppers) uppers uppers′ (K .uppers-kept));
+        lowers-reach = omega (arith, K .lower-ends, within (p .lowers) lowers lowers′ (K .lowers-kept));
+      }
 
 -- what is answered of the data, from arrays that were 0
 module _ (p : PlanData) (r : Scanned) (sizes′ : List ℕ) (vias′ : List Bool) (halves′ uppers′ lowers′ : List ℕ)
@@ -151,10 +185,18 @@ module _ (s : List ℕ) (r : Scanned) (sizes : List ℕ) (vias : List Bool) (hal
         (λ f. reads-failed s (the-lines f) (the-form f) n (h ∙ same-first f) z)
         (λ f. no-form f ∙ ap refused (sym (rw f at h)))
 
-    pub all-pass : n ≡ 0 → (p : PlanData) × (reading s ≡ accepted p) × Kept p r sizes vias halves uppers lowers sizes′ vias′ halves′ uppers′ lowers′
+    pub all-pass : n ≡ 0 → Accepts s r sizes vias halves uppers lowers sizes′ vias′ halves′ uppers′ lowers′
     unfolding firstRefusal
     all-pass z = test (r .form)
         (λ f. test (r .limits)
-        (λ g. (stored (the-lines f), reads-passed s (the-lines f) (the-form f) n (h ∙ same-first f) z, the-kept f g))
+        (λ g.
+        let p = stored (the-lines f) in
+        let e : reading s ≡ accepted p = reads-passed s (the-lines f) (the-form f) n (h ∙ same-first f) z in
+        record {
+          plan = p;
+          reads = e;
+          kept = the-kept f g;
+          fronts = in-fronts p r sizes vias halves uppers lowers sizes′ vias′ halves′ uppers′ lowers′ (the-kept f g) (read-acceptable s p e);
+        })
         (λ g. absurd (omega (arith, rw (f, g) at h))))
         (λ f. absurd (omega (arith, rw f at h)))

@@ -1,11 +1,11 @@
 // A plan text's form, line by line. What is read goes into lent arrays where it has a place; counts go on, so that the limits
 // are asked once the whole text was read.
 use plan::data::Plan;
+use plan::limits::row_fits;
 use text_scan::limits::both;
 use text_scan::limits::half_fits;
 use text_scan::limits::half_of;
 use text_scan::limits::header_fits;
-use text_scan::limits::row_fits;
 use text_scan::scanners::FoundHeader;
 use text_scan::scanners::ends;
 use text_scan::scanners::header_at;

@@ -13,6 +13,7 @@ ghost use Rattle.ints.specs.Refusals.{firstRefusal};
 ghost use Rattle.text.specs.Reading.{refused, reading};
 ghost use Rattle.text_read.specs.Answer.{answerOf};
 ghost use Rattle.text_read.specs.inner.Failed.{Fronts, checksIn};
+ghost use Rattle.text_read.specs.inner.Taken.{Arrays, Finds};
 
 // "over 65,536 bytes" is no plan text.
 pub const MAX_BYTES: usize = 65536;
@@ -27,6 +28,13 @@ pub enum Answer {
 pub struct ReadText {
     pub answer: Answer,
     pub plan: Plan,
+}
+
+// What reading a text into lent arrays finds: the number of the first check that fails, 0 if none does, and the text's numbers
+// and counts.
+pub struct Found {
+    pub failed: u32,
+    pub scanned: Scanned,
 }
 
 fn refuse(n: u32) -> ReadText
@@ -53,19 +61,48 @@ fn first_failed(s: Scanned, sizes: &[u16], vias: &[bool], uppers: &[u32], lowers
     check_plan(&sizes[..k], &vias[..n], &uppers[..e], &lowers[..e])
 }
 
+// Reads a plan text into lent arrays. What passes the checks is in their first places, and the rest is as it was.
+pub fn read_into(
+    text: &[u8],
+    sizes: &mut [u16],
+    vias: &mut [bool],
+    halves: &mut [u16],
+    uppers: &mut [u32],
+    lowers: &mut [u32],
+) -> Found
+    requires { ⌜ Arrays (now sizes) (now vias) (now halves) (now uppers) (now lowers) ⌝ }
+    ensures { λ r. ⌜ Finds (now (text .entry)) r (now (sizes .entry)) (now (vias .entry)) (now (halves .entry)) (now (uppers .entry))
+        (now (lowers .entry)) (now (sizes .exit)) (now (vias .exit)) (now (halves .exit)) (now (uppers .exit)) (now (lowers .exit)) ⌝ }
+{
+    if MAX_BYTES < text.len() {
+        return Found {
+            failed: 1,
+            scanned: Scanned {
+                form: false,
+                limits: false,
+                levels: 0,
+                gap: 0,
+                spacing: 0,
+                vertices: 0,
+                segments: 0,
+            },
+        };
+    }
+    let scanned = scan(text, sizes, vias, halves, uppers, lowers);
+    let failed = first_failed(scanned, sizes, vias, uppers, lowers);
+    Found { failed, scanned }
+}
+
 // Reads a plan text.
 pub fn read(text: &[u8]) -> ReadText
     ensures { λ r. ⌜ r ≡ answerOf (reading (now (text .entry))) ⌝ }
 {
-    if MAX_BYTES < text.len() {
-        return refuse(1);
-    }
     let mut sizes = [0u16; Plan::MAX_LEVELS];
     let mut vias = [false; Plan::MAX_VERTICES];
     let mut halves = [0u16; Plan::MAX_VERTICES];
     let mut uppers = [0u32; Plan::MAX_SEGMENTS];
     let mut lowers = [0u32; Plan::MAX_SEGMENTS];
-    let s = scan(
+    let r = read_into(
         text,
         &mut sizes,
         &mut vias,
@@ -73,10 +110,10 @@ pub fn read(text: &[u8]) -> ReadText
         &mut uppers,
         &mut lowers,
     );
-    let failed = first_failed(s, &sizes, &vias, &uppers, &lowers);
-    if failed != 0 {
-        return refuse(failed);
+    if r.failed != 0 {
+        return refuse(r.failed);
     }
+    let s = r.scanned;
     ReadText {
         answer: Answer::Accepted(s.vertices, s.segments),
         plan: Plan::new(

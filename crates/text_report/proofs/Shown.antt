@@ -1,100 +1,119 @@
--- The arrays that the draw of a stored plan leaves hold its drawing: so what its report and its marks ask for is there.
-use mathlib.Core.Path.{_≡_, sym, _∙_, ap}
-use mathlib.Core.Bool.{true}
+-- What the report and the marks of a plan that passes the checks ask for: the arrays that its draw leaves have it.
+use mathlib.Core.Path.{_≡_, refl, sym, _∙_, ap}
+use mathlib.Core.Bool.{Bool, true}
 use mathlib.Core.List.{List, map}
-use Prim.Native.Nat.{ℕ, _+_, _≤_}
+use Prim.Native.Nat.{ℕ, _+_, _-_, _≤_}
 use native.Mathlib.Omega.{arith}
-use lib.ListN.{length, take, length-append, length-replicate, length-map}
-use lib.Seq.{length-take-le}
-use lib.IntN.{pos}
-use Rattle.ints.specs.Lists.{concat}
+use lib.ListN.{length, take, replicate, length-append, length-replicate, length-map}
+use lib.Seq.{take-at, length-take-le}
+use lib.IntN.{ℤ, pos}
+use Rattle.ints.specs.Lists.{sum, concat}
 use Rattle.plan.specs.Limits.{maxVertices}
-use Rattle.plan.specs.Plan.{vertexCount}
-use Rattle.plan.specs.Stored.{planData}
-use Rattle.plan.specs.declared.data.Plan.{Plan}
-use Rattle.report.specs.Refusal13.{isStoredPlan}
-use Rattle.report_validity.proofs.Stored.{stored-of}
-use Rattle.passes.specs.Drawing.{BoxAt, Placing, Drawing, drawingOf}
+use Rattle.plan.specs.Plan.{PlanData, vertexCount, dataOf}
+use Rattle.plan.specs.Acceptable.{acceptable}
+use Rattle.plan.specs.inner.Held.{HoldsPlan}
+use Rattle.plan.proofs.Sound.{sound}
+use Rattle.passes.specs.Drawing.{BoxAt, Placing, drawingOf}
 use Rattle.passes.specs.Words.{boxesListed, maxListed}
 use Rattle.passes.specs.Stored.{padded}
 use Rattle.demand3.proofs.Theorem.{demand3}
 use Rattle.report.specs.Lines.{reportLines}
-use Rattle.report_lines.specs.inner.Stored.{planPart, ReportRoom, maxReport}
+use Rattle.report_validity.proofs.Drawn.{drawn-valid}
+use Rattle.report_lines.specs.inner.Stored.{planPart, drawingFrom, Stored, ReportRoom, maxReport}
 use Rattle.report_lines.proofs.Listed.{few-placings, few-boxes, final-within}
+use Rattle.report_lines.proofs.ByNumber.{HasPart, same-lines}
+use Rattle.report_lines.proofs.Rooms.{report-room}
 use Rattle.marks.specs.inner.Asked.{AskedAll}
 use Rattle.marks.proofs.Acceptable.{asked-all}
-use Rattle.report.specs.declared.data.Counts.{Counts}
-use Rattle.report.specs.declared.data.NewDrawing.{NewDrawing}
-use Rattle.report.specs.Arrays.{arraysOf}
-use Rattle.sheet_data.specs.inner.Parts.{drawingWith, Holds, newDrawing}
-use Rattle.sheet_data.proofs.Cuts.{PlanArrays, DrawingArrays, DrawingCut, PlanCut, plan-cut}
-use Rattle.sheet_data.proofs.ReadBack.{preliminary-of, final-of, read-back, drawing-holds}
-use Rattle.sheet_data.proofs.Rooms.{in-drawing, report-asked, report-same}
+use Rattle.pass_list.proofs.Decoded.{decoded}
+use Rattle.pass_draw.specs.inner.Made.{Made}
+use Rattle.sheet_data.proofs.ReadBack.{boxes-sum, preliminary-long, final-long}
 use Rattle.text_report.specs.Positions.{bothOf}
+use Rattle.text_report.specs.inner.Drawn.{heldPlan}
 
--- ---- how long the arrays of a drawing are
-padded-long : {A : Type 0} (n : ℕ) (z : A) (xs : List A) → length xs ≤ n → length (padded n z xs) ≡ n
-padded-long n z xs h = simp (length-append, length-replicate) (omega arith)
+-- ---- a plan by its lists
+module _ {p : PlanData} {gap : ℕ} {sizes : List ℕ} {vias : List Bool} {halves uppers lowers : List ℕ} where
+  pub held-is : (spacing : ℕ) → HoldsPlan p gap sizes vias halves uppers lowers → p .spacing ≡ spacing → p ≡ heldPlan gap spacing sizes vias halves uppers lowers
+  held-is spacing l s = λ i. dataOf (l .levelsAre i) (l .gapIs i) (s i) (l .sizesAre i) (l .viasAre i) (l .halvesAre i) (l .uppersAre i) (l .lowersAre i)
 
-arrays-long : (d : Drawing) → length (d .preliminary) ≤ maxVertices → length (d .final) ≤ maxVertices → length (d .placings) ≤ maxListed → length (boxesListed (d .placings)) ≤ maxListed
-    → DrawingArrays (arraysOf d)
-unfolding arraysOf
-arrays-long d s t k b =
-    let qs = d .placings in
-    let bs = boxesListed qs in
-    record {
-      preliminary = padded-long maxVertices (pos 0) (d .preliminary) s;
-      finals = padded-long maxVertices (pos 0) (d .final) t;
-      passes = padded-long maxListed 0 (map (λ (q : Placing). q .pass) qs) (omega (arith, length-map qs (λ (q : Placing). q .pass)));
-      levels = padded-long maxListed 0 (map (λ (q : Placing). q .level) qs) (omega (arith, length-map qs (λ (q : Placing). q .level)));
-      counts = padded-long maxListed 0 (map (λ (q : Placing). length (q .boxes)) qs) (omega (arith, length-map qs (λ (q : Placing). length (q .boxes))));
-      vertices = padded-long maxListed 0 (map (λ (x : BoxAt). x .vertex) bs) (omega (arith, length-map bs (λ (x : BoxAt). x .vertex)));
-      positions = padded-long maxListed (pos 0) (map (λ (x : BoxAt). x .position) bs) (omega (arith, length-map bs (λ (x : BoxAt). x .position)));
-    }
+pub holds-held : {gap spacing : ℕ} {sizes : List ℕ} {vias : List Bool} {halves uppers lowers : List ℕ} → acceptable (heldPlan gap spacing sizes vias halves uppers lowers) ≡ true
+    → HoldsPlan (heldPlan gap spacing sizes vias halves uppers lowers) gap sizes vias halves uppers lowers
+holds-held ok = record { levelsAre = refl; gapIs = refl; sizesAre = refl; viasAre = refl; halvesAre = refl; uppersAre = refl; lowersAre = refl; ok = ok }
 
-module _ (p : Plan) (a : PlanArrays p) (v e : ℕ) (h : isStoredPlan p v e ≡ true) where
-  -- ---- the report
-  module _ (n : NewDrawing) (is : n ≡ newDrawing (drawingOf (planData p v e))) where
-    abbrev counts : Counts
-    counts = record { vertices = v; segments = e; placings = n .placings }
-
-    holds : Holds p (n .drawing) counts
-    holds = rw is (record { plan = h; drawing = drawing-holds p a v e h })
-
-    pub arrays : DrawingArrays (n .drawing)
-    arrays =
-        let d = drawingOf (planData p v e) in
-        let s = stored-of p v e h in
-        let w = demand3 (planData p v e) (s .plan) .within in
-        rw is (arrays-long d (omega (arith, preliminary-of p a v e h, s .vertices)) (omega (arith, final-of p a v e h, s .vertices)) (few-placings d w) (few-boxes d w))
-
-    drawing-is : drawingWith (n .drawing) counts ≡ drawingOf (planData p v e)
-    drawing-is = rw is (read-back p a v e h)
-
-    pub in-arrays : DrawingCut (n .drawing) counts
-    in-arrays = in-drawing p (n .drawing) counts holds a arrays
-
-    pub asked : {o : List ℕ} → maxReport ≤ length o
-        → ReportRoom (p .spacing) (take (p .levels) (p .sizes)) (take v (n .drawing .preliminary)) (take v (n .drawing .finals)) (take (n .placings) (n .drawing .passes)) (take (n .placings) (n .drawing .levels)) (take (n .placings) (n .drawing .counts)) (n .drawing .vertices) (n .drawing .positions) o
-    asked m = report-asked p (n .drawing) counts holds a arrays m
-
-    pub lines-are : concat (reportLines (planData p v e) (drawingOf (planData p v e)))
-        ≡ concat (reportLines (planPart (p .spacing) (take (p .levels) (p .sizes)) (length (take v (n .drawing .preliminary)))) (drawingWith (n .drawing) counts))
-    lines-are = ap (λ (d : Drawing). concat (reportLines (planData p v e) d)) (sym drawing-is) ∙ report-same p (n .drawing) counts holds a arrays
-
-  -- ---- the marks
-  pub in-plan : PlanCut p (record { vertices = v; segments = e; placings = 0 })
-  in-plan = plan-cut a (record { vertices = v; segments = e; placings = 0 }) h
-
-  pub marks-asked : AskedAll (p .spacing) (take (p .levels) (p .sizes)) (take v (p .vias)) (take v (p .halves)) (take e (p .uppers)) (take e (p .lowers)) (drawingOf (planData p v e) .final)
-  marks-asked =
-      let s = stored-of p v e h in
-      let d = drawingOf (planData p v e) in
-      asked-all (planData p v e) (d .final) (s .plan) (final-within d (demand3 (planData p v e) (s .plan) .within)) (final-of p a v e h ∙ sym (length-take-le v (p .vias) (in-plan .vias)))
+module _ (p : PlanData) (ok : acceptable p ≡ true) where
+  pub few-vertices : vertexCount p ≤ maxVertices
+  few-vertices = sound p ok .limits .vertices
 
   -- ---- the positions
-  pub vertices-are : vertexCount (planData p v e) ≡ v
-  vertices-are = length-take-le v (p .vias) (in-plan .vias)
+  pub both-long : length (bothOf p) ≡ vertexCount p + vertexCount p
+  both-long = let d = drawingOf p in omega (arith, length-append (d .preliminary) (d .final), preliminary-long p ok, final-long p ok)
 
-  pub both-long : length (bothOf (planData p v e)) ≡ v + v
-  both-long = let d = drawingOf (planData p v e) in omega (arith, length-append (d .preliminary) (d .final), preliminary-of p a v e h, final-of p a v e h)
+  -- ---- the marks
+  pub marks-asked : AskedAll (p .spacing) (p .sizes) (p .vias) (p .halves) (p .uppers) (p .lowers) (drawingOf p .final)
+  marks-asked = asked-all p (drawingOf p .final) ok (final-within (drawingOf p) (demand3 p ok .within)) (final-long p ok)
+
+  -- ---- the report
+  placings-few : length (drawingOf p .placings) ≤ maxListed
+  placings-few = few-placings (drawingOf p) (demand3 p ok .within)
+
+  boxes-few : length (boxesListed (drawingOf p .placings)) ≤ maxListed
+  boxes-few = few-boxes (drawingOf p) (demand3 p ok .within)
+
+  -- how long the arrays of the list are
+  padded-long : {A : Type 0} (z : A) (xs ys : List A) → length xs ≤ maxListed → ys ≡ padded maxListed z xs → length ys ≡ maxListed
+  padded-long z xs ys h e = rw e (simp (length-append, length-replicate) (omega arith))
+
+  of-placings : {A : Type 0} (f : Placing → A) (z : A) (ys : List A) → ys ≡ padded maxListed z (map f (drawingOf p .placings)) → length ys ≡ maxListed
+  of-placings f z ys e = padded-long z (map f (drawingOf p .placings)) ys (omega (arith, length-map (drawingOf p .placings) f, placings-few)) e
+
+  of-boxes : {A : Type 0} (f : BoxAt → A) (z : A) (ys : List A) → ys ≡ padded maxListed z (map f (boxesListed (drawingOf p .placings))) → length ys ≡ maxListed
+  of-boxes f z ys e = padded-long z (map f (boxesListed (drawingOf p .placings))) ys (omega (arith, length-map (boxesListed (drawingOf p .placings)) f, boxes-few)) e
+
+  module _ {n : ℕ} {preliminary finals : List ℤ} {passes levels counts vertices : List ℕ} {positions : List ℤ} (m : Made p n preliminary finals passes levels counts vertices positions) where
+    pub in-passes : n ≤ length passes
+    in-passes = omega (arith, m .placings, placings-few, of-placings (λ (q : Placing). q .pass) 0 passes (m .list .ofPasses))
+
+    pub in-levels : n ≤ length levels
+    in-levels = omega (arith, m .placings, placings-few, of-placings (λ (q : Placing). q .level) 0 levels (m .list .ofLevels))
+
+    pub in-counts : n ≤ length counts
+    in-counts = omega (arith, m .placings, placings-few, of-placings (λ (q : Placing). length (q .boxes)) 0 counts (m .list .ofCounts))
+
+    vertices-long : length vertices ≡ maxListed
+    vertices-long = of-boxes (λ (b : BoxAt). b .vertex) 0 vertices (m .list .ofVertices)
+
+    positions-long : length positions ≡ maxListed
+    positions-long = of-boxes (λ (b : BoxAt). b .position) (pos 0) positions (m .list .ofPositions)
+
+    -- the drawing that lies in them, and how many boxes its placings have
+    drawing-is : drawingFrom preliminary finals (take n passes) (take n levels) (take n counts) vertices positions ≡ drawingOf p
+    drawing-is = rw (m .started, m .ended, m .placings, decoded (m .list))
+
+    boxes-are : sum (take n counts) ≡ length (boxesListed (drawingOf p .placings))
+    boxes-are =
+        let qs = drawingOf p .placings in
+        let f : Placing → ℕ = λ q. length (q .boxes) in
+        rw (m .list .ofCounts) (ap sum (take-at (map f qs) (replicate (maxListed - length (map f qs)) 0) n (length-map qs f ∙ sym (m .placings))) ∙ boxes-sum qs)
+
+    has-part : HasPart p (p .spacing) (p .sizes) (length preliminary)
+    has-part = record { ofSpacing = refl; ofSizes = refl; ofVertices = sym (ap length (m .started) ∙ preliminary-long p ok) }
+
+    in-lists : Stored preliminary finals (take n passes) (take n levels) (take n counts) vertices positions
+    in-lists =
+        let l = length-take-le n passes in-passes in
+        record {
+          ofFinals = ap length (m .ended) ∙ final-long p ok ∙ has-part .ofVertices;
+          ofLevels = length-take-le n levels in-levels ∙ sym l;
+          ofCounts = length-take-le n counts in-counts ∙ sym l;
+          few = omega (arith, boxes-are, boxes-few);
+          ofVertices = omega (arith, boxes-are, boxes-few, vertices-long);
+          ofPositions = omega (arith, boxes-are, boxes-few, positions-long);
+          within = rw drawing-is (demand3 p ok .within);
+        }
+
+    pub report-asked : {o : List ℕ} → maxReport ≤ length o → ReportRoom (p .spacing) (p .sizes) preliminary finals (take n passes) (take n levels) (take n counts) vertices positions o
+    report-asked h = report-room ok has-part in-lists (rw drawing-is (drawn-valid p ok)) h
+
+    pub report-is : concat (reportLines p (drawingOf p))
+        ≡ concat (reportLines (planPart (p .spacing) (p .sizes) (length preliminary)) (drawingFrom preliminary finals (take n passes) (take n levels) (take n counts) vertices positions))
+    report-is = rw drawing-is (ap concat (same-lines has-part (drawingOf p)))

@@ -4,37 +4,50 @@ use plan::data::Plan;
 use plan::numbers::wide;
 use sheet::types::LineAnswer;
 use sheet_show::fit::fit_marks;
-use text_read::Answer;
-use text_read::read;
+use text_read::read_into;
 ghost use mathlib.Core.Path.{_≡_};
 ghost use mathlib.Core.Bool.{true};
-ghost use Rattle.plan.specs.Stored.{planData};
+ghost use Rattle.plan.specs.Acceptable.{acceptable};
 ghost use Rattle.text.specs.Reading.{accepted, reading};
-ghost use Rattle.report.specs.Refusal13.{isStoredPlan};
 ghost use Rattle.sheet.specs.Calls.{Writes};
 ghost use Rattle.text_report.specs.Marks.{marksOf};
+ghost use Rattle.text_report.specs.inner.Drawn.{heldPlan};
 
 // The marks of a plan that was read.
-fn marks_plan(plan: Plan, v: usize, e: usize, out: &mut [f64]) -> LineAnswer
-    requires { ⌜ isStoredPlan plan v e ≡ true ⌝ }
-    ensures { λ r. ⌜ Writes (marksOf (accepted (planData plan v e)) (now (out .entry))) r (now (out .exit)) ⌝ }
+fn marks_plan(
+    gap: u32,
+    spacing: u32,
+    sizes: &[u16],
+    vias: &[bool],
+    halves: &[u16],
+    uppers: &[u32],
+    lowers: &[u32],
+    out: &mut [f64],
+) -> LineAnswer
+    requires { ⌜ acceptable (heldPlan gap spacing (now sizes) (now vias) (now halves) (now uppers) (now lowers)) ≡ true ⌝ }
+    ensures { λ r. ⌜ Writes (marksOf (accepted (heldPlan gap spacing (now (sizes .entry)) (now (vias .entry)) (now (halves .entry)) (now (uppers .entry))
+        (now (lowers .entry)))) (now (out .entry))) r (now (out .exit)) ⌝ }
 {
+    let v = vias.len();
     let mut preliminary = [0i64; Plan::MAX_VERTICES];
     let mut finals = [0i64; Plan::MAX_VERTICES];
-    draw_positions(plan, v, e, &mut preliminary[..v], &mut finals[..v]);
-    let k = wide(plan.levels);
-    let sizes = plan.sizes;
-    let vias = plan.vias;
-    let halves = plan.halves;
-    let uppers = plan.uppers;
-    let lowers = plan.lowers;
+    draw_positions(
+        gap,
+        sizes,
+        vias,
+        halves,
+        uppers,
+        lowers,
+        &mut preliminary[..v],
+        &mut finals[..v],
+    );
     fit_marks(
-        plan.spacing,
-        &sizes[..k],
-        &vias[..v],
-        &halves[..v],
-        &uppers[..e],
-        &lowers[..e],
+        spacing,
+        sizes,
+        vias,
+        halves,
+        uppers,
+        lowers,
         &finals[..v],
         out,
     )
@@ -45,10 +58,34 @@ fn marks_plan(plan: Plan, v: usize, e: usize, out: &mut [f64]) -> LineAnswer
 pub fn marks_text(text: &[u8], out: &mut [f64]) -> LineAnswer
     ensures { λ r. ⌜ Writes (marksOf (reading (now (text .entry))) (now (out .entry))) r (now (out .exit)) ⌝ }
 {
-    let r = read(text);
-    let answer = r.answer;
-    match answer {
-        Answer::Accepted(v, e) => marks_plan(r.plan, v, e, out),
-        Answer::Refused(n) => LineAnswer::Refused(n),
+    let mut sizes = [0u16; Plan::MAX_LEVELS];
+    let mut vias = [false; Plan::MAX_VERTICES];
+    let mut halves = [0u16; Plan::MAX_VERTICES];
+    let mut uppers = [0u32; Plan::MAX_SEGMENTS];
+    let mut lowers = [0u32; Plan::MAX_SEGMENTS];
+    let r = read_into(
+        text,
+        &mut sizes,
+        &mut vias,
+        &mut halves,
+        &mut uppers,
+        &mut lowers,
+    );
+    if r.failed != 0 {
+        return LineAnswer::Refused(r.failed);
     }
+    let s = r.scanned;
+    let k = wide(s.levels);
+    let v = s.vertices;
+    let e = s.segments;
+    marks_plan(
+        s.gap,
+        s.spacing,
+        &sizes[..k],
+        &vias[..v],
+        &halves[..v],
+        &uppers[..e],
+        &lowers[..e],
+        out,
+    )
 }

@@ -2,27 +2,44 @@
 use crate::drawn::draw_positions;
 use pass_draw::draw::copy_positions;
 use plan::data::Plan;
+use plan::numbers::wide;
 use sheet::types::LineAnswer;
-use text_read::Answer;
-use text_read::read;
-ghost use mathlib.Core.Path.{_≡_};
-ghost use mathlib.Core.Bool.{true};
-ghost use Rattle.plan.specs.Stored.{planData};
+use text_read::read_into;
+ghost use Rattle.plan.specs.Plan.{PlanData};
+ghost use Rattle.plan.specs.inner.Held.{HoldsPlan, SomePlan};
 ghost use Rattle.text.specs.Reading.{accepted, reading};
-ghost use Rattle.report.specs.Refusal13.{isStoredPlan};
 ghost use Rattle.sheet.specs.Calls.{Writes};
 ghost use Rattle.text_report.specs.Positions.{positionsOf};
 
 // The positions of a plan that was read.
-fn positions_plan(plan: Plan, v: usize, e: usize, out: &mut [i64]) -> LineAnswer
-    requires { ⌜ isStoredPlan plan v e ≡ true ⌝ }
-    ensures { λ r. ⌜ Writes (positionsOf (accepted (planData plan v e)) (now (out .entry))) r (now (out .exit)) ⌝ }
+fn positions_plan(
+    gap: u32,
+    sizes: &[u16],
+    vias: &[bool],
+    halves: &[u16],
+    uppers: &[u32],
+    lowers: &[u32],
+    out: &mut [i64],
+) -> LineAnswer
+    requires { ⌜ SomePlan gap (now sizes) (now vias) (now halves) (now uppers) (now lowers) ⌝ }
+    ensures { λ r. ⌜ ((p : PlanData) → HoldsPlan p gap (now (sizes .entry)) (now (vias .entry)) (now (halves .entry)) (now (uppers .entry)) (now (lowers .entry))
+        → Writes (positionsOf (accepted p) (now (out .entry))) r (now (out .exit))) ⌝ }
 {
+    let v = vias.len();
     if out.len() < v + v {
         return LineAnswer::Refused(14);
     }
     let mut finals = [0i64; Plan::MAX_VERTICES];
-    draw_positions(plan, v, e, &mut out[..v], &mut finals[..v]);
+    draw_positions(
+        gap,
+        sizes,
+        vias,
+        halves,
+        uppers,
+        lowers,
+        &mut out[..v],
+        &mut finals[..v],
+    );
     copy_positions(&finals[..v], &mut out[v..v + v]);
     LineAnswer::Written(v)
 }
@@ -32,10 +49,33 @@ fn positions_plan(plan: Plan, v: usize, e: usize, out: &mut [i64]) -> LineAnswer
 pub fn positions_text(text: &[u8], out: &mut [i64]) -> LineAnswer
     ensures { λ r. ⌜ Writes (positionsOf (reading (now (text .entry))) (now (out .entry))) r (now (out .exit)) ⌝ }
 {
-    let r = read(text);
-    let answer = r.answer;
-    match answer {
-        Answer::Accepted(v, e) => positions_plan(r.plan, v, e, out),
-        Answer::Refused(n) => LineAnswer::Refused(n),
+    let mut sizes = [0u16; Plan::MAX_LEVELS];
+    let mut vias = [false; Plan::MAX_VERTICES];
+    let mut halves = [0u16; Plan::MAX_VERTICES];
+    let mut uppers = [0u32; Plan::MAX_SEGMENTS];
+    let mut lowers = [0u32; Plan::MAX_SEGMENTS];
+    let r = read_into(
+        text,
+        &mut sizes,
+        &mut vias,
+        &mut halves,
+        &mut uppers,
+        &mut lowers,
+    );
+    if r.failed != 0 {
+        return LineAnswer::Refused(r.failed);
     }
+    let s = r.scanned;
+    let k = wide(s.levels);
+    let v = s.vertices;
+    let e = s.segments;
+    positions_plan(
+        s.gap,
+        &sizes[..k],
+        &vias[..v],
+        &halves[..v],
+        &uppers[..e],
+        &lowers[..e],
+        out,
+    )
 }

@@ -1,25 +1,35 @@
 // The report of a text.
+use pass_draw::draw::draw;
 use plan::data::Plan;
 use plan::numbers::wide;
 use report::data::Drawing;
 use sheet::types::LineAnswer;
-use sheet_draw::stored::draw_into;
 use sheet_show::fit::fit_report;
-use text_read::Answer;
-use text_read::read;
+use text_read::read_into;
 ghost use mathlib.Core.Path.{_≡_};
 ghost use mathlib.Core.Bool.{true};
-ghost use Rattle.plan.specs.Stored.{planData};
+ghost use Rattle.plan.specs.Acceptable.{acceptable};
 ghost use Rattle.text.specs.Reading.{accepted, reading};
-ghost use Rattle.report.specs.Refusal13.{isStoredPlan};
 ghost use Rattle.sheet.specs.Calls.{Writes};
 ghost use Rattle.text_report.specs.Texts.{reportOf};
+ghost use Rattle.text_report.specs.inner.Drawn.{heldPlan};
 
 // The report of a plan that was read.
-fn report_plan(plan: Plan, v: usize, e: usize, out: &mut [u8]) -> LineAnswer
-    requires { ⌜ isStoredPlan plan v e ≡ true ⌝ }
-    ensures { λ r. ⌜ Writes (reportOf (accepted (planData plan v e)) (now (out .entry))) r (now (out .exit)) ⌝ }
+fn report_plan(
+    gap: u32,
+    spacing: u32,
+    sizes: &[u16],
+    vias: &[bool],
+    halves: &[u16],
+    uppers: &[u32],
+    lowers: &[u32],
+    out: &mut [u8],
+) -> LineAnswer
+    requires { ⌜ acceptable (heldPlan gap spacing (now sizes) (now vias) (now halves) (now uppers) (now lowers)) ≡ true ⌝ }
+    ensures { λ r. ⌜ Writes (reportOf (accepted (heldPlan gap spacing (now (sizes .entry)) (now (vias .entry)) (now (halves .entry)) (now (uppers .entry))
+        (now (lowers .entry)))) (now (out .entry))) r (now (out .exit)) ⌝ }
 {
+    let v = vias.len();
     let mut preliminary = [0i64; Plan::MAX_VERTICES];
     let mut finals = [0i64; Plan::MAX_VERTICES];
     let mut passes = [0u16; Drawing::MAX_LISTED];
@@ -27,10 +37,13 @@ fn report_plan(plan: Plan, v: usize, e: usize, out: &mut [u8]) -> LineAnswer
     let mut boxes = [0u16; Drawing::MAX_LISTED];
     let mut vertices = [0u16; Drawing::MAX_LISTED];
     let mut positions = [0i64; Drawing::MAX_LISTED];
-    let p = draw_into(
-        plan,
-        v,
-        e,
+    let p = draw(
+        gap,
+        sizes,
+        vias,
+        halves,
+        uppers,
+        lowers,
         &mut preliminary[..v],
         &mut finals[..v],
         &mut passes,
@@ -39,11 +52,9 @@ fn report_plan(plan: Plan, v: usize, e: usize, out: &mut [u8]) -> LineAnswer
         &mut vertices,
         &mut positions,
     );
-    let k = wide(plan.levels);
-    let sizes = plan.sizes;
     fit_report(
-        plan.spacing,
-        &sizes[..k],
+        spacing,
+        sizes,
         &preliminary[..v],
         &finals[..v],
         &passes[..p],
@@ -60,10 +71,34 @@ fn report_plan(plan: Plan, v: usize, e: usize, out: &mut [u8]) -> LineAnswer
 pub fn report_text(text: &[u8], out: &mut [u8]) -> LineAnswer
     ensures { λ r. ⌜ Writes (reportOf (reading (now (text .entry))) (now (out .entry))) r (now (out .exit)) ⌝ }
 {
-    let r = read(text);
-    let answer = r.answer;
-    match answer {
-        Answer::Accepted(v, e) => report_plan(r.plan, v, e, out),
-        Answer::Refused(n) => LineAnswer::Refused(n),
+    let mut sizes = [0u16; Plan::MAX_LEVELS];
+    let mut vias = [false; Plan::MAX_VERTICES];
+    let mut halves = [0u16; Plan::MAX_VERTICES];
+    let mut uppers = [0u32; Plan::MAX_SEGMENTS];
+    let mut lowers = [0u32; Plan::MAX_SEGMENTS];
+    let r = read_into(
+        text,
+        &mut sizes,
+        &mut vias,
+        &mut halves,
+        &mut uppers,
+        &mut lowers,
+    );
+    if r.failed != 0 {
+        return LineAnswer::Refused(r.failed);
     }
+    let s = r.scanned;
+    let k = wide(s.levels);
+    let v = s.vertices;
+    let e = s.segments;
+    report_plan(
+        s.gap,
+        s.spacing,
+        &sizes[..k],
+        &vias[..v],
+        &halves[..v],
+        &uppers[..e],
+        &lowers[..e],
+        out,
+    )
 }

@@ -2,20 +2,19 @@
 use crate::scanners::FoundHeader;
 use crate::scanners::FoundVertex;
 use plan::data::Plan;
-use plan::numbers::in_range;
+use plan::limits::half_width_fits;
+use plan::limits::numbers_fit;
 use plan::numbers::wide;
 ghost use mathlib.Core.Path.{_≡_};
 ghost use mathlib.Core.Bool.{true, _&&_};
 ghost use Rattle.text.specs.Reading.{halfInLimit};
 ghost use Rattle.text_scan.specs.inner.Scanned.{vertexOf, headerInLimits};
-ghost use Rattle.plan.specs.Limits.{maxOnLevel};
-ghost use lib.Dec.{leb};
 
 // "half-width 1 to 200"
 pub fn half_fits(v: FoundVertex) -> bool
     ensures { λ r. ⌜ r ≡ halfInLimit (vertexOf v) ⌝ }
 {
-    v.via || (1 <= v.half && v.half <= Plan::MAX_HALF_WIDTH)
+    v.via || half_width_fits(v.half)
 }
 
 // The half-width that is stored of a vertex within the limits.
@@ -37,19 +36,10 @@ pub fn both(a: bool, b: bool) -> bool
     a && b
 }
 
-// "at most 64 vertices on a level", and each of them fits.
-pub fn row_fits(count: usize, fit: bool) -> bool
-    ensures { λ r. ⌜ r ≡ (leb count maxOnLevel && fit) ⌝ }
-{
-    count <= Plan::MAX_ON_LEVEL && fit
-}
-
 // K, G and S, and K level lines.
 pub fn header_fits(h: FoundHeader, lines: usize) -> bool
     ensures { λ r. ⌜ r ≡ headerInLimits h lines ⌝ }
 {
-    let k = in_range(1, Plan::MAX_LEVELS as u32, h.levels);
-    let g = both(k, in_range(1, Plan::MAX_GAP, h.gap));
-    let s = both(g, in_range(1, Plan::MAX_SPACING, h.spacing));
-    both(s, lines == wide(h.levels))
+    let fit = numbers_fit(h.levels, h.gap, h.spacing);
+    both(fit, lines == wide(h.levels))
 }

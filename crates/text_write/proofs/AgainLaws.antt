@@ -25,7 +25,7 @@ use Rattle.text_read.specs.declared.ReadText.{ReadText}
 use Rattle.text.proofs.DecimalLaws.{decimal-length}
 use Rattle.text.proofs.RoundTrip.{text-short, written-read, read-acceptable}
 use Rattle.text_write.specs.inner.Data.{maxText}
-use Rattle.text_write.specs.Again.{refusedLine, writtenAgain, textIfShort, rewritten, Leaves}
+use Rattle.text_write.specs.Again.{refusedLine, textIfShort, rewritten, Leaves}
 use Rattle.text_write.specs.inner.Written.{Fronts}
 use Rattle.text_write.specs.declared.again.Rewritten.the-variants.{Written, Refused as Not, Short}
 use Rattle.text_write.specs.inner.Stored.{StoredPlan}
@@ -96,14 +96,6 @@ read-refused s r n q a = go (reading s) refl
         h ∙ ap refused same
 
 -- what is written of either
-pub again-accepted : (p : PlanData) → writtenAgain (accepted p) ≡ textOf p
-unfolding writtenAgain
-again-accepted p = refl
-
-pub again-refused : (n : ℕ) → writtenAgain (refused n) ≡ refusedLine n
-unfolding writtenAgain
-again-refused n = refl
-
 pub rewritten-accepted : (p : PlanData) (o : List ℕ) → rewritten (accepted p) o ≡ textIfShort (textOf p) o
 unfolding rewritten
 rewritten-accepted p o = refl

@@ -17,10 +17,6 @@ use Rattle.text_write.specs.declared.again.Rewritten.the-variants.{Writt
 unfoldable pub refusedLine : ℕ → List ℕ
 refusedLine n = bytes "(refused " ++ decimal n ++ bytes ")\n"
 
-unfoldable pub writtenAgain : Reading → List ℕ
-writtenAgain (accepted p) = textOf p
-writtenAgain (refused n) = refusedLine n
-
 -- An answer, and a lent buffer as it is left.
 pub record Left : Type 0 where
   pub answer : Rewritten

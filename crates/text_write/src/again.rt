@@ -13,9 +13,8 @@ ghost use Rattle.plan.specs.Stored.{planData};
 ghost use Rattle.text.specs.Reading.{reading};
 ghost use Rattle.text.specs.Writing.{textOf};
 ghost use Rattle.text_write.specs.inner.Written.{Fronts};
-ghost use Rattle.text_write.specs.inner.Data.{maxText};
 ghost use Rattle.text_write.specs.inner.Stored.{StoredPlan};
-ghost use Rattle.text_write.specs.Again.{refusedLine, writtenAgain, Leaves, textIfShort, rewritten};
+ghost use Rattle.text_write.specs.Again.{refusedLine, Leaves, textIfShort, rewritten};
 
 // What writing a text again gives: how many bytes were written, the number of the text's refusal, or that the buffer is too
 // short.
@@ -57,19 +56,6 @@ fn stored_text(plan: Plan, vertices: usize, segments: usize, out: &mut [u8]) -> 
         &lowers[..segments],
         out,
     )
-}
-
-// The plan's text again, or the line "(refused N)", at the front of the buffer: how many bytes it has.
-pub fn reread(text: &[u8], out: &mut [u8]) -> usize
-    requires { ⌜ maxText ≤ length (now out) ⌝ }
-    ensures { λ r. ⌜ Fronts (writtenAgain (reading (now (text .entry)))) (now (out .entry)) r (now (out .exit)) ⌝ }
-{
-    let r = read(text);
-    let answer = r.answer;
-    match answer {
-        Answer::Accepted(v, e) => stored_text(r.plan, v, e, out),
-        Answer::Refused(n) => refuse(n, out),
-    }
 }
 
 // The text of such a plan, which has n bytes, if the buffer has room for it.

@@ -1,20 +1,23 @@
--- What the draw of a stored plan's positions asks and leaves.
+-- What the draw of a plan's lists, as far as its positions are asked for, asks and leaves.
 use mathlib.Core.Path.{_≡_}
-use mathlib.Core.Bool.{true}
+use mathlib.Core.Bool.{Bool}
 use mathlib.Core.List.{List}
 use Prim.Native.Nat.{ℕ}
 use lib.ListN.{length}
 use lib.IntN.{ℤ}
-use Rattle.plan.specs.Plan.{PlanData}
-use Rattle.plan.specs.declared.data.Plan.{Plan}
-use Rattle.report.specs.Refusal13.{isStoredPlan}
+use Rattle.plan.specs.Plan.{PlanData, dataOf}
+use Rattle.plan.specs.inner.Held.{SomePlan}
 use Rattle.passes.specs.Drawing.{drawingOf}
 
--- A plan of v vertices and e segments that is not refused, and room for its positions.
-pub record PositionsRoom (p : Plan) (v e : ℕ) (preliminary finals : List ℤ) : Type 0 where
-  pub plan : isStoredPlan p v e ≡ true
-  pub preliminaryRoom : length preliminary ≡ v
-  pub finalRoom : length finals ≡ v
+-- The plan that these lists hold.
+abbrev pub heldPlan : ℕ → ℕ → List ℕ → List Bool → List ℕ → List ℕ → List ℕ → PlanData
+heldPlan gap spacing sizes vias halves uppers lowers = dataOf (length sizes) gap spacing sizes vias halves uppers lowers
+
+-- The lists of a plan that passes the checks, and room for its positions.
+pub record PositionsRoom (gap : ℕ) (sizes : List ℕ) (vias : List Bool) (halves uppers lowers : List ℕ) (preliminary finals : List ℤ) : Type 0 where
+  pub some : SomePlan gap sizes vias halves uppers lowers
+  pub preliminaryRoom : length preliminary ≡ length vias
+  pub finalRoom : length finals ≡ length vias
 
 -- These are the positions of the plan's drawing.
 pub record Placed (p : PlanData) (preliminary finals : List ℤ) : Type 0 where

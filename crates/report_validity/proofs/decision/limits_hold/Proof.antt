@@ -10,7 +10,7 @@ use Rattle.report_validity.proofs.decision.limits_hold.Statement.{state
 use Rattle.report_validity.proofs.decision.limits_hold.Tie as tie
 
 returns : tie.Need-returns
-returns c = sym (limits-not _ (λ l. never (sym (not-true _ (c .if1 .taken)) ∙ c .before .numbers-hold .ensures ∙ (l .levels and l .gap and l .spacing))))
+returns c = sym (limits-not _ (λ l. never (sym (not-true _ (c .if1 .taken)) ∙ c .before .numbers-fit .ensures ∙ (l .levels and l .gap and l .spacing))))
 
 returns-2 : tie.Need-returns-2
 returns-2 c = sym (limits-not _ (λ l. c .if2 .taken (l .counted ∙ sym (c .before .wide .ensures))))
@@ -19,7 +19,7 @@ returns-3 : tie.Need-returns-3
 returns-3 c = sym (limits-not _ (λ l. never (sym (not-true _ (c .if3 .taken)) ∙ c .before .sizes-hold .ensures ∙ l .sizes)))
 
 total-requires : tie.Need-total-requires
-total-requires c κs = let a = c .before .before .before .before .before .before .before .before .before .before .before .args in omega (arith, few-levels (a .levels) (a .gap) (a .spacing) (sym (c .before .before .before .before .before .numbers-hold .ensures) ∙ not-false _ (c .before .before .before .before .if1 .left)), c .before .before .if2 .left, c .before .before .before .wide .ensures)
+total-requires c κs = let a = c .before .before .before .before .before .before .before .before .before .before .before .args in omega (arith, few-levels (a .levels) (a .gap) (a .spacing) (sym (c .before .before .before .before .before .numbers-fit .ensures) ∙ not-false _ (c .before .before .before .before .if1 .left)), c .before .before .if2 .left, c .before .before .before .wide .ensures)
 
 returns-4 : tie.Need-returns-4
 returns-4 c = sym (limits-not _ (λ l. c .if4 .taken (c .before .total .ensures ∙ l .summed)))
@@ -31,7 +31,7 @@ returns-6 : tie.Need-returns-6
 returns-6 c = sym (limits-not _ (λ l. c .if6 .taken (l .ends)))
 
 returns-7 : tie.Need-returns-7
-returns-7 c = limits-last _ (sym (c .before .before .before .before .before .before .before .before .before .before .before .numbers-hold .ensures) ∙ not-false _ (c .before .before .before .before .before .before .before .before .before .before .if1 .left)) (c .before .before .before .before .before .before .before .before .if2 .left ∙ c .before .before .before .before .before .before .before .before .before .wide .ensures) (sym (c .before .before .before .before .before .before .before .sizes-hold .ensures) ∙ not-false _ (c .before .before .before .before .before .before .if3 .left)) (sym (c .before .before .before .before .before .total .ensures) ∙ c .before .before .before .before .if4 .left) (sym (c .before .before .before .halves-hold .ensures) ∙ not-false _ (c .before .before .if5 .left)) (c .before .if6 .left) (c .if7 .taken)
+returns-7 c = limits-last _ (sym (c .before .before .before .before .before .before .before .before .before .before .before .numbers-fit .ensures) ∙ not-false _ (c .before .before .before .before .before .before .before .before .before .before .if1 .left)) (c .before .before .before .before .before .before .before .before .if2 .left ∙ c .before .before .before .before .before .before .before .before .before .wide .ensures) (sym (c .before .before .before .before .before .before .before .sizes-hold .ensures) ∙ not-false _ (c .before .before .before .before .before .before .if3 .left)) (sym (c .before .before .before .before .before .total .ensures) ∙ c .before .before .before .before .if4 .left) (sym (c .before .before .before .halves-hold .ensures) ∙ not-false _ (c .before .before .if5 .left)) (c .before .if6 .left) (c .if7 .taken)
 
 returns-8 : tie.Need-returns-8
 returns-8 c = limits-many _ (c .if7 .left)

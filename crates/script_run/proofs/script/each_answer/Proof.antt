@@ -1,6 +1,6 @@
 -- `script_run::script::each_answer` meets its contract: at each turn of the loop the answers from the n-th on are still to be laid, and
 -- only commands that leave the sheet as it was have more than one.
-use mathlib.Core.Path.{_≡_, sym, _∙_}
+use mathlib.Core.Path.{_≡_, sym}
 use Prim.Native.Nat.{_-_, _≤_}
 use native.Mathlib.Omega.{arith}
 use borrow.Author.Needs.{needs}

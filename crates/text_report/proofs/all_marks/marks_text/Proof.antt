@@ -1,31 +1,85 @@
--- `text_report::all_marks::marks_text` meets its contract: by what reading the text answered.
-use mathlib.Core.Path.{ap}
+-- `text_report::all_marks::marks_text` meets its contract: by what reading the text found.
+use mathlib.Core.Path.{sym, _∙_, ap}
+use native.Mathlib.Omega.{arith}
 use borrow.Author.Needs.{needs}
-use Rattle.text_write.proofs.AgainLaws.{read-accepted, read-refused}
+use lib.Seq.{length-take-le}
+use Rattle.plan.specs.Plan.{PlanData}
+use Rattle.plan.specs.Acceptable.{acceptable}
+use Rattle.text.specs.Reading.{accepted}
+use Rattle.text_read.specs.inner.Taken.{InFronts}
 use Rattle.sheet_show.proofs.ShowLaws.{writes}
 use Rattle.text_report.specs.Marks.{marksOf}
+use Rattle.text_report.proofs.Shown.{held-is}
 use Rattle.text_report.proofs.Texts.{marks-not}
 use Rattle.text_report.proofs.all_marks.marks_text.Statement.{statement}
 use Rattle.text_report.proofs.all_marks.marks_text.Tie as tie
-use Rattle.report_validity.proofs.Stored.{stored-holds}
 
-marks-plan-requires : tie.Need-marks-plan-requires
-marks-plan-requires c κs = stored-holds (read-accepted (c .before .before .before .before .before .before .before .args .text .now) (c .before .before .before .before .read .result) _ _ (c .before .before .before .before .read .ensures) (c .before .before .answer .given .1) .stored)
+-- once the text is accepted
+abbrev done : tie.Else1 → tie.After-read-into
+done c = c .before .before .before .before .before .before .before
+
+abbrev plan : tie.Else1 → PlanData
+plan c = done c .read-into .ensures .accepts (c .if1 .left) .plan
+
+fronts : (c : tie.Else1) → let r = done c .read-into in
+    InFronts (plan c) (r .result .scanned) (r .last .1 .0) (r .last .1 .1 .0) (r .last .1 .1 .1 .0) (r .last .1 .1 .1 .1 .0) (r .last .1 .1 .1 .1 .1 .0)
+fronts c = done c .read-into .ensures .accepts (c .if1 .left) .fronts
 
 returns : tie.Need-returns
 returns c =
-    let a = c .before .before .before .before .before .before .before .before .before .before .args in
-    let read = c .before .before .before .before .before .before .before .read in
-    writes (ap (λ g. marksOf g (a .out .now)) (read-accepted (a .text .now) (read .result) _ _ (read .ensures) (c .before .before .before .before .before .answer .given .1) .read)) (c .before .before .marks-plan .ensures)
+    let b = c .before .before .before .before .before .before .before .before .before .before .before .before .before .before .before .args .out .now in
+    writes (ap (λ g. marksOf g b) (c .before .before .before .before .before .before .before .read-into .ensures .refuses (c .if1 .taken))) (marks-not _ b)
+
+array-share-prefix-sizes : tie.Need-array-share-prefix-sizes
+array-share-prefix-sizes c = omega (arith, fronts (c .before .before) .sizes-reach, c .wide .ensures)
+
+slice-aggregate-marks-plan : tie.Need-slice-aggregate-marks-plan
+slice-aggregate-marks-plan c = sym (length-take-le _ _ (omega (arith, fronts (c .before .before .before) .sizes-reach, c .before .wide .ensures)))
+
+array-share-prefix-vias : tie.Need-array-share-prefix-vias
+array-share-prefix-vias c = fronts (c .before .before .before) .vias-reach
+
+slice-aggregate-marks-plan-2 : tie.Need-slice-aggregate-marks-plan-2
+slice-aggregate-marks-plan-2 c = sym (length-take-le _ _ (fronts (c .before .before .before .before) .vias-reach))
+
+array-share-prefix-halves : tie.Need-array-share-prefix-halves
+array-share-prefix-halves c = fronts (c .before .before .before .before) .halves-reach
+
+slice-aggregate-marks-plan-3 : tie.Need-slice-aggregate-marks-plan-3
+slice-aggregate-marks-plan-3 c = sym (length-take-le _ _ (fronts (c .before .before .before .before .before) .halves-reach))
+
+array-share-prefix-uppers : tie.Need-array-share-prefix-uppers
+array-share-prefix-uppers c = fronts (c .before .before .before .before .before) .uppers-reach
+
+slice-aggregate-marks-plan-4 : tie.Need-slice-aggregate-marks-plan-4
+slice-aggregate-marks-plan-4 c = sym (length-take-le _ _ (fronts (c .before .before .before .before .before .before) .uppers-reach))
+
+array-share-prefix-lowers : tie.Need-array-share-prefix-lowers
+array-share-prefix-lowers c = fronts (c .before .before .before .before .before .before) .lowers-reach
+
+slice-aggregate-marks-plan-5 : tie.Need-slice-aggregate-marks-plan-5
+slice-aggregate-marks-plan-5 c = sym (length-take-le _ _ (fronts (c .before .before .before .before .before .before .before) .lowers-reach))
+
+marks-plan-requires : tie.Need-marks-plan-requires
+marks-plan-requires c κs =
+    let e = c .before .before .before .before .before .before .before .before in
+    let f = fronts e in
+    rw (c .before .before .before .before .before .before .wide .ensures) (ap acceptable (sym (held-is (done e .read-into .result .scanned .spacing) (f .lists) (f .spaced))) ∙ f .lists .ok)
 
 returns-2 : tie.Need-returns-2
 returns-2 c =
-    let a = c .before .before .before .before .before .before .args in
-    let read = c .before .before .before .read in
-    writes (ap (λ g. marksOf g (a .out .now)) (read-refused (a .text .now) (read .result) _ (read .ensures) (c .before .answer2 .given .1))) (marks-not _ (a .out .now))
+    let e = c .before .before .before .before .before .before .before .before .before .before .before in
+    let r = done e .read-into in
+    let b = done e .before .before .before .before .before .before .before .before .args .out .now in
+    let f = fronts e in
+    writes (ap (λ g. marksOf g b) (r .ensures .accepts (e .if1 .left) .reads ∙ ap accepted (held-is (r .result .scanned .spacing) (f .lists) (f .spaced))))
+    (rw (c .before .before .before .before .before .before .before .before .before .wide .ensures) at (c .before .before .marks-plan .ensures))
 
 pub marks-text-spec : {M : Type 1} → statement M
 marks-text-spec =
     tie.close
-    (tie.spec (λ c κs. search needs) (λ c. search needs) marks-plan-requires (λ c. search needs) (λ c. search needs) returns
-    returns-2)
+    (tie.spec (λ c. search needs) (λ c. search needs) (λ c. search needs) (λ c. search needs) (λ c. search needs)
+    (λ c κs. search needs) returns (λ c κs. search needs) array-share-prefix-sizes slice-aggregate-marks-plan
+    array-share-prefix-vias slice-aggregate-marks-plan-2 array-share-prefix-halves slice-aggregate-marks-plan-3
+    array-share-prefix-uppers slice-aggregate-marks-plan-4 array-share-prefix-lowers slice-aggregate-marks-plan-5
+    marks-plan-requires (λ c. search needs) returns-2)

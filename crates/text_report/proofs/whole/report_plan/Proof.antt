@@ -1,157 +1,141 @@
 -- `text_report::whole::report_plan` meets its contract: the arrays hold the drawing that the plan has, and the report is made of them.
 use mathlib.Core.Path.{_≡_, refl, sym, _∙_, ap}
-use mathlib.Core.List.{_++_}
-use native.Mathlib.Omega.{arith}
+use mathlib.Core.List.{List, _++_}
+use Prim.Native.Nat.{ℕ}
 use borrow.Author.Needs.{needs}
 use lib.ListN.{length, take, drop, replicate}
 use lib.Seq.{length-take-le}
-use lib.IntN.{pos}
-use Rattle.plan.specs.Stored.{planData}
-use Rattle.passes.specs.Drawing.{drawingOf}
-use Rattle.report.specs.declared.data.NewDrawing.{NewDrawing}
-use Rattle.sheet_data.specs.inner.Parts.{newDrawing}
-use Rattle.sheet_data.proofs.Cuts.{PlanArrays, DrawingArrays, PlanCut, DrawingCut}
-use Rattle.sheet_data.proofs.ReadBack.{preliminary-of, final-of}
-use Rattle.sheet_draw.proofs.NewLaws.{new-is}
+use lib.IntN.{ℤ, pos}
+use Rattle.ints.proofs.FrontLaws.{first-fit, first-is, first-count}
+use Rattle.plan.specs.Plan.{PlanData}
+use Rattle.pass_draw.specs.inner.Made.{Made}
 use Rattle.sheet_show.specs.inner.Shown.{fittedText}
 use Rattle.sheet_show.proofs.ShowLaws.{writes}
-use Rattle.text_report.proofs.Shown.{arrays, in-arrays, asked, lines-are, in-plan}
+use Rattle.text_report.specs.inner.Drawn.{heldPlan}
+use Rattle.text_report.proofs.Shown.{holds-held, few-vertices, in-passes, in-levels, in-counts, report-asked, report-is}
 use Rattle.text_report.proofs.Texts.{report-of}
 use Rattle.text_report.proofs.whole.report_plan.Statement.{statement}
 use Rattle.text_report.proofs.whole.report_plan.Tie as tie
 
-plan-arrays : (c : tie.Start) → PlanArrays (c .args .plan)
-plan-arrays c = record { sizes = search needs; vias = search needs; halves = search needs; uppers = search needs; lowers = search needs }
-
-of-plan : (c : tie.Start) → PlanCut (c .args .plan) (record { vertices = c .args .v; segments = c .args .e; placings = 0 })
-of-plan c = in-plan (c .args .plan) (plan-arrays c) (c .args .v) (c .args .e) (c .pre)
+abbrev held : tie.Start → PlanData
+held c = let a = c .args in heldPlan (a .gap) (a .spacing) (a .sizes .now) (a .vias .now) (a .halves .now) (a .uppers .now) (a .lowers .now)
 
 -- as many zeros as there are vertices
-zeros : (c : tie.Start) → length (take (c .args .v) (replicate 1024 (pos 0))) ≡ c .args .v
-zeros c = length-take-le (c .args .v) (replicate 1024 (pos 0)) (of-plan c .few)
+zeros : (c : tie.Start) → length (take (length (c .args .vias .now)) (replicate 1024 (pos 0))) ≡ length (c .args .vias .now)
+zeros c = length-take-le _ (replicate 1024 (pos 0)) (few-vertices (held c) (c .pre))
 
--- the drawing in the arrays
-abbrev made : tie.After-draw-into → NewDrawing
-made c =
-    let v = c .before .before .before .before .before .before .before .before .before .args .v in
-    let d = c .draw-into in
-    record {
-      drawing = record {
-        preliminary = d .last .1 .1 .1 .0 ++ drop v (replicate 1024 (pos 0));
-        finals = d .last .1 .1 .1 .1 .0 ++ drop v (replicate 1024 (pos 0));
-        passes = d .last .1 .1 .1 .1 .1 .0;
-        levels = d .last .1 .1 .1 .1 .1 .1 .0;
-        counts = d .last .1 .1 .1 .1 .1 .1 .1 .0;
-        vertices = d .last .1 .1 .1 .1 .1 .1 .1 .1 .0;
-        positions = d .last .1 .1 .1 .1 .1 .1 .1 .1 .1 .0;
-      };
-      placings = d .result;
-    }
+abbrev rest : ℕ → List ℤ
+rest n = drop n (replicate 1024 (pos 0))
 
-made-is : (c : tie.After-draw-into) → made c ≡ newDrawing (drawingOf (planData (c .before .before .before .before .before .before .before .before .before .args .plan) (c .before .before .before .before .before .before .before .before .before .args .v) (c .before .before .before .before .before .before .before .before .before .args .e)))
-made-is c =
-    let s = c .before .before .before .before .before .before .before .before .before in
-    let a = s .args in
-    new-is (planData (a .plan) (a .v) (a .e)) (a .v) _ _ _ _ _ _ _ _ (of-plan s .few) (preliminary-of (a .plan) (plan-arrays s) (a .v) (a .e) (s .pre)) (final-of (a .plan) (plan-arrays s) (a .v) (a .e) (s .pre)) (c .draw-into .ensures)
+-- once it is drawn
+abbrev start : tie.After-draw → tie.Start
+start c = c .before .before .before .before .before .before .before .before .before .before .before .before .before .before
 
-in-made : (c : tie.After-draw-into) → DrawingCut (made c .drawing) (record { vertices = c .before .before .before .before .before .before .before .before .before .args .v; segments = c .before .before .before .before .before .before .before .before .before .args .e; placings = made c .placings })
-in-made c = let s = c .before .before .before .before .before .before .before .before .before in in-arrays (s .args .plan) (plan-arrays s) (s .args .v) (s .args .e) (s .pre) (made c) (made-is c)
+abbrev count : tie.After-draw → ℕ
+count c = length (start c .args .vias .now)
 
-arrays-made : (c : tie.After-draw-into) → DrawingArrays (made c .drawing)
-arrays-made c = let s = c .before .before .before .before .before .before .before .before .before in arrays (s .args .plan) (plan-arrays s) (s .args .v) (s .args .e) (s .pre) (made c) (made-is c)
+abbrev firsts : tie.After-draw → List ℤ
+firsts c = c .draw .last .1 .1 .1 .1 .1 .1 .0
+
+abbrev finals : tie.After-draw → List ℤ
+finals c = c .draw .last .1 .1 .1 .1 .1 .1 .1 .0
+
+firsts-long : (c : tie.After-draw) → length (firsts c) ≡ count c
+firsts-long c = c .draw .kept .1 .1 .1 .1 .1 .1 .0 ∙ zeros (start c)
+
+finals-long : (c : tie.After-draw) → length (finals c) ≡ count c
+finals-long c = c .draw .kept .1 .1 .1 .1 .1 .1 .1 .0 ∙ zeros (start c)
+
+firsts-are : (c : tie.After-draw) → take (count c) (firsts c ++ rest (count c)) ≡ firsts c
+firsts-are c = first-is (firsts c) (rest (count c)) (count c) (firsts-long c)
+
+finals-are : (c : tie.After-draw) → take (count c) (finals c ++ rest (count c)) ≡ finals c
+finals-are c = first-is (finals c) (rest (count c)) (count c) (finals-long c)
+
+made : (c : tie.After-draw) → let l = c .draw .last .1 .1 .1 .1 .1 .1 .1 .1 in
+    Made (held (start c)) (c .draw .result) (firsts c) (finals c) (l .0) (l .1 .0) (l .1 .1 .0) (l .1 .1 .1 .0) (l .1 .1 .1 .1 .0)
+made c = c .draw .ensures (held (start c)) (holds-held (start c .pre))
 
 array-borrow-prefix-preliminary : tie.Need-array-borrow-prefix-preliminary
-array-borrow-prefix-preliminary c = of-plan (c .before) .few
+array-borrow-prefix-preliminary c = few-vertices (held (c .before .before .before .before .before .before)) (c .before .before .before .before .before .before .pre)
 
-slice-aggregate-draw-into : tie.Need-slice-aggregate-draw-into
-slice-aggregate-draw-into c = sym (zeros (c .before .before))
+slice-aggregate-draw : tie.Need-slice-aggregate-draw
+slice-aggregate-draw c = sym (zeros (c .before .before .before .before .before .before .before))
 
 array-borrow-prefix-finals : tie.Need-array-borrow-prefix-finals
-array-borrow-prefix-finals c = of-plan (c .before .before) .few
+array-borrow-prefix-finals c = few-vertices (held (c .before .before .before .before .before .before .before)) (c .before .before .before .before .before .before .before .pre)
 
-slice-aggregate-draw-into-2 : tie.Need-slice-aggregate-draw-into-2
-slice-aggregate-draw-into-2 c = sym (zeros (c .before .before .before))
+slice-aggregate-draw-2 : tie.Need-slice-aggregate-draw-2
+slice-aggregate-draw-2 c = sym (zeros (c .before .before .before .before .before .before .before .before))
 
-draw-into-requires : tie.Need-draw-into-requires
-draw-into-requires c κs =
-    let s = c .before .before .before .before .before .before .before .before in
+draw-requires : tie.Need-draw-requires
+draw-requires c κs =
+    let s = c .before .before .before .before .before .before .before .before .before .before .before .before .before in
     record {
-      plan = s .pre;
+      some = record { plan = held s; lists = holds-held (s .pre) };
       preliminaryRoom = zeros s;
       finalRoom = zeros s;
       noPasses = refl;
       noLevels = refl;
-      noBoxes = refl;
+      noCounts = refl;
       noVertices = refl;
       noPositions = refl;
     }
 
-array-share-prefix-sizes : tie.Need-array-share-prefix-sizes
-array-share-prefix-sizes c = omega (arith, of-plan (c .before .before .before .before .before .before .before .before .before .before .before .before .before .before .before .before .before .before) .sizes, c .before .wide .ensures)
+array-share-prefix-preliminary : tie.Need-array-share-prefix-preliminary
+array-share-prefix-preliminary c = let d = c .before .before .before .before .before .before .before in first-fit (firsts d) (rest (count d)) (count d) (firsts-long d)
 
 slice-aggregate-fit-report : tie.Need-slice-aggregate-fit-report
-slice-aggregate-fit-report c = sym (length-take-le _ _ (omega (arith, of-plan (c .before .before .before .before .before .before .before .before .before .before .before .before .before .before .before .before .before .before .before) .sizes, c .before .before .wide .ensures)))
-
-array-share-prefix-preliminary : tie.Need-array-share-prefix-preliminary
-array-share-prefix-preliminary c = in-made (c .before .before .before .before .before .before .before .before .before .before) .preliminary
-
-slice-aggregate-fit-report-2 : tie.Need-slice-aggregate-fit-report-2
-slice-aggregate-fit-report-2 c = sym (length-take-le _ _ (in-made (c .before .before .before .before .before .before .before .before .before .before .before) .preliminary))
+slice-aggregate-fit-report c = let d = c .before .before .before .before .before .before .before .before in first-count (firsts d) (rest (count d)) (count d) (firsts-long d)
 
 array-share-prefix-finals : tie.Need-array-share-prefix-finals
-array-share-prefix-finals c = in-made (c .before .before .before .before .before .before .before .before .before .before .before) .finals
+array-share-prefix-finals c = let d = c .before .before .before .before .before .before .before .before in first-fit (finals d) (rest (count d)) (count d) (finals-long d)
 
-slice-aggregate-fit-report-3 : tie.Need-slice-aggregate-fit-report-3
-slice-aggregate-fit-report-3 c = sym (length-take-le _ _ (in-made (c .before .before .before .before .before .before .before .before .before .before .before .before) .finals))
+slice-aggregate-fit-report-2 : tie.Need-slice-aggregate-fit-report-2
+slice-aggregate-fit-report-2 c = let d = c .before .before .before .before .before .before .before .before .before in first-count (finals d) (rest (count d)) (count d) (finals-long d)
 
 array-share-prefix-passes : tie.Need-array-share-prefix-passes
-array-share-prefix-passes c = in-made (c .before .before .before .before .before .before .before .before .before .before .before .before) .passes
+array-share-prefix-passes c = let d = c .before .before .before .before .before .before .before .before .before in in-passes (held (start d)) (start d .pre) (made d)
 
-slice-aggregate-fit-report-4 : tie.Need-slice-aggregate-fit-report-4
-slice-aggregate-fit-report-4 c = sym (length-take-le _ _ (in-made (c .before .before .before .before .before .before .before .before .before .before .before .before .before) .passes))
+slice-aggregate-fit-report-3 : tie.Need-slice-aggregate-fit-report-3
+slice-aggregate-fit-report-3 c =
+    let d = c .before .before .before .before .before .before .before .before .before .before in
+    sym (length-take-le _ _ (in-passes (held (start d)) (start d .pre) (made d)))
 
 array-share-prefix-levels : tie.Need-array-share-prefix-levels
-array-share-prefix-levels c = in-made (c .before .before .before .before .before .before .before .before .before .before .before .before .before) .levels
+array-share-prefix-levels c = let d = c .before .before .before .before .before .before .before .before .before .before in in-levels (held (start d)) (start d .pre) (made d)
 
-slice-aggregate-fit-report-5 : tie.Need-slice-aggregate-fit-report-5
-slice-aggregate-fit-report-5 c = sym (length-take-le _ _ (in-made (c .before .before .before .before .before .before .before .before .before .before .before .before .before .before) .levels))
+slice-aggregate-fit-report-4 : tie.Need-slice-aggregate-fit-report-4
+slice-aggregate-fit-report-4 c =
+    let d = c .before .before .before .before .before .before .before .before .before .before .before in
+    sym (length-take-le _ _ (in-levels (held (start d)) (start d .pre) (made d)))
 
 array-share-prefix-boxes : tie.Need-array-share-prefix-boxes
-array-share-prefix-boxes c = in-made (c .before .before .before .before .before .before .before .before .before .before .before .before .before .before) .counts
+array-share-prefix-boxes c = let d = c .before .before .before .before .before .before .before .before .before .before .before in in-counts (held (start d)) (start d .pre) (made d)
 
-slice-aggregate-fit-report-6 : tie.Need-slice-aggregate-fit-report-6
-slice-aggregate-fit-report-6 c = sym (length-take-le _ _ (in-made (c .before .before .before .before .before .before .before .before .before .before .before .before .before .before .before) .counts))
-
-slice-aggregate-fit-report-7 : tie.Need-slice-aggregate-fit-report-7
-slice-aggregate-fit-report-7 c = sym (arrays-made (c .before .before .before .before .before .before .before .before .before .before .before .before .before .before .before .before) .vertices)
-
-slice-aggregate-fit-report-8 : tie.Need-slice-aggregate-fit-report-8
-slice-aggregate-fit-report-8 c = sym (arrays-made (c .before .before .before .before .before .before .before .before .before .before .before .before .before .before .before .before .before) .positions)
+slice-aggregate-fit-report-5 : tie.Need-slice-aggregate-fit-report-5
+slice-aggregate-fit-report-5 c =
+    let d = c .before .before .before .before .before .before .before .before .before .before .before .before in
+    sym (length-take-le _ _ (in-counts (held (start d)) (start d .pre) (made d)))
 
 fit-report-requires : tie.Need-fit-report-requires
 fit-report-requires c κs =
-    let s = c .before .before .before .before .before .before .before .before .before .before .before .before .before .before .before .before .before .before .before .before .before .before .before .before .before .before .before in
-    let d = c .before .before .before .before .before .before .before .before .before .before .before .before .before .before .before .before .before .before in
-    rw (c .before .before .before .before .before .before .before .before .before .before .wide .ensures) (λ o m. asked (s .args .plan) (plan-arrays s) (s .args .v) (s .args .e) (s .pre) (made d) (made-is d) m)
-
-same-length : tie.Need-same-length
-same-length c = c .before .before .fit-report .kept .1 .1 .1 .1 .1 .1 .1 .1 .1 .0
+    let d = c .before .before .before .before .before .before .before .before .before .before .before .before .before .before .before in
+    rw (firsts-are d, finals-are d) (λ o m. report-asked (held (start d)) (start d .pre) (made d) m)
 
 returns : tie.Need-returns
 returns c =
-    let s = c .before .before .before .before .before .before .before .before .before .before .before .before .before .before .before .before .before .before .before .before .before .before .before .before .before .before .before .before .before .before in
-    let a = s .args in
-    let d = c .before .before .before .before .before .before .before .before .before .before .before .before .before .before .before .before .before .before .before .before .before in
-    let b = a .out .now in
-    writes (report-of (planData (a .plan) (a .v) (a .e)) b ∙ ap (λ w. fittedText w b) (lines-are (a .plan) (plan-arrays s) (a .v) (a .e) (s .pre) (made d) (made-is d))) (rw (c .before .before .before .before .before .before .before .before .before .before .before .before .before .wide .ensures) at (c .before .before .fit-report .ensures))
+    let d = c .before .before .before .before .before .before .before .before .before .before .before .before .before .before .before .before .before .before in
+    let p = held (start d) in
+    let b = start d .args .out .now in
+    writes (report-of p b ∙ ap (λ w. fittedText w b) (report-is p (start d .pre) (made d))) (rw (firsts-are d, finals-are d) at (c .before .before .fit-report .ensures))
 
 pub report-plan-spec : {M : Type 1} → statement M
 report-plan-spec =
     tie.close
-    (tie.spec array-borrow-prefix-preliminary slice-aggregate-draw-into array-borrow-prefix-finals slice-aggregate-draw-into-2
-    (λ c. search needs) (λ c. search needs) (λ c. search needs) (λ c. search needs) (λ c. search needs) draw-into-requires
-    (λ c κs. search needs) array-share-prefix-sizes slice-aggregate-fit-report array-share-prefix-preliminary
-    slice-aggregate-fit-report-2 array-share-prefix-finals slice-aggregate-fit-report-3 array-share-prefix-passes
-    slice-aggregate-fit-report-4 array-share-prefix-levels slice-aggregate-fit-report-5 array-share-prefix-boxes
-    slice-aggregate-fit-report-6 slice-aggregate-fit-report-7 slice-aggregate-fit-report-8 fit-report-requires same-length
-    returns)
+    (tie.spec array-borrow-prefix-preliminary slice-aggregate-draw array-borrow-prefix-finals slice-aggregate-draw-2
+    (λ c. search needs) (λ c. search needs) (λ c. search needs) (λ c. search needs) (λ c. search needs) draw-requires
+    array-share-prefix-preliminary slice-aggregate-fit-report array-share-prefix-finals slice-aggregate-fit-report-2
+    array-share-prefix-passes slice-aggregate-fit-report-3 array-share-prefix-levels slice-aggregate-fit-report-4
+    array-share-prefix-boxes slice-aggregate-fit-report-5 (λ c. search needs) (λ c. search needs) fit-report-requires
+    (λ c. search needs) returns)

@@ -1,9 +1,9 @@
--- `plan_checks::checks::one_down` meets its contract: its tests are those of `oneDown`.
+-- `plan::questions::one_down` meets its contract: its tests are those of `oneDown`.
 use borrow.Author.Needs.{needs}
 use borrow.Author.Tests.{lt-ltb, le-ltb}
 use native.Mathlib.Omega.{arith}
-use Rattle.plan_checks.proofs.checks.one_down.Statement.{statement}
-use Rattle.plan_checks.proofs.checks.one_down.Tie as tie
+use Rattle.plan.proofs.questions.one_down.Statement.{statement}
+use Rattle.plan.proofs.questions.one_down.Tie as tie
 
 returns : tie.Need-returns
 returns c = rw (le-ltb _ _ (c .if1 .taken))

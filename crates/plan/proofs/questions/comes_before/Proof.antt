@@ -1,7 +1,7 @@
--- `plan_checks::checks::comes_before` meets its contract: its tests are those of `comesBefore`.
+-- `plan::questions::comes_before` meets its contract: its tests are those of `comesBefore`.
 use borrow.Author.Tests.{lt-ltb, le-ltb, eq-eqb, ne-eqb}
-use Rattle.plan_checks.proofs.checks.comes_before.Statement.{statement}
-use Rattle.plan_checks.proofs.checks.comes_before.Tie as tie
+use Rattle.plan.proofs.questions.comes_before.Statement.{statement}
+use Rattle.plan.proofs.questions.comes_before.Tie as tie
 
 returns : tie.Need-returns
 returns c = rw (lt-ltb _ _ (c .if1 .taken))

@@ -1,7 +1,7 @@
--- `text_scan::limits::row_fits` meets its contract: its two tests are those of the limit and of the vertices.
+-- `plan::limits::row_fits` meets its contract: its two tests are those of the limit and of the vertices.
 use borrow.Author.Tests.{le-leb, lt-leb}
-use Rattle.text_scan.proofs.limits.row_fits.Statement.{statement}
-use Rattle.text_scan.proofs.limits.row_fits.Tie as tie
+use Rattle.plan.proofs.limits.row_fits.Statement.{statement}
+use Rattle.plan.proofs.limits.row_fits.Tie as tie
 
 returns : tie.Need-returns
 returns c = rw (le-leb _ _ (c .if1 .taken))

@@ -1,7 +1,7 @@
--- `plan_checks::vias::is_through` meets its contract: its tests are those of `through`.
+-- `plan::questions::is_through` meets its contract: its tests are those of `through`.
 use borrow.Author.Tests.{eq-eqb, ne-eqb}
-use Rattle.plan_checks.proofs.vias.is_through.Statement.{statement}
-use Rattle.plan_checks.proofs.vias.is_through.Tie as tie
+use Rattle.plan.proofs.questions.is_through.Statement.{statement}
+use Rattle.plan.proofs.questions.is_through.Tie as tie
 
 returns : tie.Need-returns
 returns c = rw (c .before .if1 .taken, eq-eqb (c .before .before .args .up) 1 (c .if2 .taken))
