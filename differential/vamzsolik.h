@@ -19,6 +19,9 @@ extern "C" {
 /* A buffer of this many numbers has room for the positions of every plan: two for each of 1,024 vertices. */
 #define VAMZSOLIK_MAX_POSITIONS 2048
 
+/* A buffer of this many bytes has room for every picture. */
+#define VAMZSOLIK_MAX_PICTURE 1257182
+
 /* Writes the report of the plan text into out and returns its length. If the text is refused with N, 1 to 6, it returns -N, and
    -14 if out is too short; out is then untouched. What lies beyond the report stays. */
 int64_t report_c(const uint8_t *text, size_t text_length, uint8_t *out, size_t out_length);
@@ -37,6 +40,11 @@ int64_t draw_c(const uint8_t *text, size_t text_length, int64_t *out, size_t out
 
 /* Writes the plan's text again into out and returns its length. Refusals as for report_c. What lies beyond the text stays. */
 int64_t reread_c(const uint8_t *text, size_t text_length, uint8_t *out, size_t out_length);
+
+/* Writes the picture of the plan's drawing into out, an SVG document, its boxes named by the text of names, which may be empty, and returns
+   its length. Refusals as for report_c; if the names are refused, -(100 + L), L the line or 0 if they are too long. What lies beyond the
+   picture stays. */
+int64_t picture_c(const uint8_t *text, size_t text_length, const uint8_t *names, size_t names_length, uint8_t *out, size_t out_length);
 
 /* Carries out the commands of a script, one a line, from an empty sheet on; writes their answers into out and returns how many bytes they
    have, or -14 if out is too short; out is then untouched. What lies beyond the answers stays. */

@@ -7,6 +7,9 @@ use reference::requests::Request;
 /// No report has more bytes.
 pub const MAX_REPORT: usize = 119_834;
 
+/// No picture has more bytes.
+pub const MAX_PICTURE: usize = 1_257_182;
+
 /// Numbers of a mark in a buffer.
 pub const NUMBERS: usize = 5;
 
@@ -36,6 +39,15 @@ extern "C" {
     fn reread_c(text: *const u8, text_len: usize, out: *mut u8, out_len: usize) -> i64;
 
     fn report_c(text: *const u8, text_len: usize, out: *mut u8, out_len: usize) -> i64;
+
+    fn picture_c(
+        text: *const u8,
+        text_len: usize,
+        names: *const u8,
+        names_len: usize,
+        out: *mut u8,
+        out_len: usize,
+    ) -> i64;
 
     fn marks_c(text: *const u8, text_len: usize, out: *mut f64, out_len: usize) -> i64;
 
@@ -91,6 +103,22 @@ pub fn write_answers(script: &[u8], out: &mut [u8]) -> Result<usize, u32> {
     answer(unsafe { script_c(script.as_ptr(), script.len(), out.as_mut_ptr(), out.len()) })
 }
 
+/// Writes the picture of a plan's drawing, its boxes named, into the buffer: how many bytes it has. Else as for `reread`; names that are
+/// refused are told by 100 and their line.
+pub fn write_picture(text: &[u8], names: &[u8], out: &mut [u8]) -> Result<usize, u32> {
+    // The function reads and writes the lent slices alone, within their lengths.
+    answer(unsafe {
+        picture_c(
+            text.as_ptr(),
+            text.len(),
+            names.as_ptr(),
+            names.len(),
+            out.as_mut_ptr(),
+            out.len(),
+        )
+    })
+}
+
 /// Writes the marks of a plan's drawing into the buffer, five numbers each: how many marks there are. Else as for `reread`.
 pub fn write_marks(text: &[u8], out: &mut [f64]) -> Result<usize, u32> {
     // The function reads and writes the lent slices alone, within their lengths.
@@ -108,6 +136,14 @@ pub fn draw(text: &[u8], out: &mut [i64]) -> i64 {
 pub fn report(text: &[u8]) -> Result<Vec<u8>, u32> {
     let mut out = vec![0; MAX_REPORT];
     let length = write_report(text, &mut out)?;
+    out.truncate(length);
+    Ok(out)
+}
+
+/// The picture of a plan's drawing with these names, or the number of the refusal.
+pub fn picture(text: &[u8], names: &[u8]) -> Result<Vec<u8>, u32> {
+    let mut out = vec![0; MAX_PICTURE];
+    let length = write_picture(text, names, &mut out)?;
     out.truncate(length);
     Ok(out)
 }

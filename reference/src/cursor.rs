@@ -13,6 +13,11 @@ impl<'a> Cursor<'a> {
         self.rest.is_empty()
     }
 
+    /// What is not yet read.
+    pub fn rest(&self) -> &'a [u8] {
+        self.rest
+    }
+
     /// Goes past `word` if it comes next, and says whether it did.
     #[inline]
     pub fn take(&mut self, word: &[u8]) -> bool {

@@ -6,6 +6,7 @@
 //! - [`place_run`] places one run: [`half_steps`] is the definition, [`jumps`] the fast way to the same outcome;
 //! - [`passes`] goes over the levels three times, places their runs and lists the placings;
 //! - [`report`] prints the drawing, and reads a printed one; [`marks`] gives it as points for a screen;
+//! - [`picture`] gives it as an SVG document: [`names`] reads what boxes are called, [`label`] fits it into them;
 //! - [`sheet`] has the calls on a sheet with their refusals, [`stored`] what its record holds; [`script`] answers scripts of
 //!   such calls.
 //!
@@ -26,8 +27,11 @@ pub mod edges;
 pub mod generate;
 pub mod half_steps;
 pub mod jumps;
+pub mod label;
 pub mod marks;
+pub mod names;
 pub mod passes;
+pub mod picture;
 pub mod place_run;
 pub mod plan;
 mod poke;

@@ -7,10 +7,11 @@ use std::process::ExitCode;
 
 use reference::random::Random;
 use reference::requests::{self, Request};
-use reference::{check, generate, passes, readings, report, script, scripts, text};
+use reference::{check, generate, names, passes, picture, readings, report, script, scripts, text};
 
 const USAGE: &str = "\
 reference report < PLAN          the report, or (refused N)
+reference picture [NAMES] < PLAN the SVG document with the names in the file, or the line that refuses
 reference steps < PLAN           how many half steps all joins of the draw take; 0 if refused
 reference check [REPORT] < PLAN  judges the report, its own or that in the file: ok or (refused N), or each
                                  promise that fails
@@ -48,6 +49,8 @@ fn main() -> ExitCode {
 fn run(words: &[&str]) -> io::Result<bool> {
     match words {
         ["report"] => print(&report::answer(&input()?)),
+        ["picture"] => print(&picture::answer(&input()?, b"")),
+        ["picture", names] => print(&picture::answer(&input()?, &start(fs::File::open(names)?, names::MAX_BYTES + 1)?)),
         ["steps"] => print(format!("{}\n", steps(&input()?)).as_bytes()),
         ["check"] => check(None),
         ["check", file] => check(Some(&fs::read(file)?)),
@@ -75,9 +78,15 @@ fn number(word: &str) -> io::Result<u64> {
 /// Standard input; of a text that is too long, one byte more than the limit.
 fn input() -> io::Result<Vec<u8>> {
     let mut stdin = io::stdin().lock();
-    let mut bytes = Vec::with_capacity(text::MAX_BYTES + 1);
-    stdin.by_ref().take(text::MAX_BYTES as u64 + 1).read_to_end(&mut bytes)?;
+    let bytes = start(&mut stdin, text::MAX_BYTES + 1)?;
     io::copy(&mut stdin, &mut io::sink())?;
+    Ok(bytes)
+}
+
+/// The first bytes, at most so many.
+fn start(source: impl Read, most: usize) -> io::Result<Vec<u8>> {
+    let mut bytes = Vec::with_capacity(most);
+    source.take(most as u64).read_to_end(&mut bytes)?;
     Ok(bytes)
 }
 

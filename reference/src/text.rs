@@ -15,7 +15,7 @@ use crate::{refusal, Refusal};
 pub const MAX_BYTES: usize = 65_536;
 
 /// Digits of the longest number in a plan text.
-const MAX_DIGITS: usize = 5;
+pub(crate) const MAX_DIGITS: usize = 5;
 
 /// Reads a plan text; each check goes over the whole text before the next begins.
 pub fn read(text: &[u8]) -> Result<Plan, Refusal> {

@@ -4,7 +4,7 @@ use std::io::Write;
 use std::process::{Command, Output, Stdio};
 use std::{env, fs, process};
 
-use reference::report;
+use reference::{picture, report};
 
 const CASE_1: &[u8] = include_bytes!("vectors/case-1.plan");
 const CASE_1_REPORT: &[u8] = include_bytes!("vectors/case-1.report");
@@ -53,6 +53,21 @@ fn a_refused_text() {
         prints(&[command], &[0xff; 100_000], b"(refused 1)\n");
     }
     prints(&["steps"], b"", b"0\n");
+}
+
+#[test]
+fn a_picture_with_names() {
+    let file = env::temp_dir().join(format!("reference-{}.names", process::id()));
+    let name = file.to_str().expect("a name");
+    prints(&["picture"], CASE_1, &picture::answer(CASE_1, b""));
+    fs::write(&file, b"0 start battery\n").expect("a file");
+    prints(&["picture", name], CASE_1, &picture::answer(CASE_1, b"0 start battery\n"));
+    prints(&["picture", name], b"", b"(refused 1)\n");
+    fs::write(&file, b"0 start battery\n0 \xff").expect("a file");
+    prints(&["picture", name], CASE_1, b"(names refused at line 2)\n");
+    fs::write(&file, [b'x'; 100_000]).expect("a file");
+    prints(&["picture", name], CASE_1, b"(names refused at line 0)\n");
+    fs::remove_file(&file).expect("the file");
 }
 
 #[test]
@@ -143,7 +158,7 @@ fn scripts_and_their_answers() {
 
 #[test]
 fn wrong_requests() {
-    let wrong: [&[&str]; 23] = [
+    let wrong: [&[&str]; 25] = [
         &[],
         &[""],
         &["draw"],
@@ -162,6 +177,8 @@ fn wrong_requests() {
         &["inputs", "."],
         &["reports", "no such folder", "1"],
         &["check", "no such file"],
+        &["picture", "no such file"],
+        &["picture", "a", "b"],
         &["script", "x"],
         &["scripts", "1"],
         &["scripts", "1", "x"],

@@ -1,4 +1,5 @@
 pub mod Code
 pub mod Again
+pub mod Picture
 pub mod Run
 pub mod inner

@@ -1,6 +1,8 @@
 // The calls for C and Rust: numbers and slices alone.
 use ints::minus;
 use ints::plus;
+use picture_fit::types::PictureAnswer;
+use picture_text::whole::picture_text;
 use place_run::call::place_run;
 use run::types::Answer;
 use run::types::Bound;
@@ -22,7 +24,9 @@ ghost use Rattle.text_report.specs.Positions.{positionsOf};
 ghost use Rattle.text_report.specs.Texts.{reportOf};
 ghost use Rattle.c_calls.specs.Code.{codeOf, Codes};
 ghost use Rattle.c_calls.specs.inner.Few.{Few};
+ghost use Rattle.picture_text.specs.Text.{pictureIn};
 ghost use Rattle.c_calls.specs.Again as again;
+ghost use Rattle.c_calls.specs.Picture as picture;
 ghost use Rattle.c_calls.specs.Run.{boundOf, Answers};
 
 // What a call answers, as one number.
@@ -77,6 +81,21 @@ pub extern "C" fn reread_c(text: &[u8], out: &mut [u8]) -> i64
         Rewritten::Written(n) => plus(0, n as u64),
         Rewritten::Refused(n) => minus(0, n as u64),
         Rewritten::Short => minus(0, 14),
+    }
+}
+
+// How many bytes the picture of the text's plan has, its boxes named by a text of names, which is at the front of the buffer; -N if the text
+// is refused with N, -(100 + L) if line L is the first of the names that is refused, or the names are too long, L then 0; -14 if the
+// buffer is shorter than the picture. Where it is negative the buffer stays as it is.
+#[no_mangle]
+pub extern "C" fn picture_c(text: &[u8], names: &[u8], out: &mut [u8]) -> i64
+    ensures { λ r. ⌜ picture.Codes (pictureIn (reading (now (text .entry))) (now (names .entry)) (now (out .entry))) r (now (out .exit)) ⌝ }
+{
+    let answer = picture_text(text, names, out);
+    match answer {
+        PictureAnswer::Written(n) => plus(0, n as u64),
+        PictureAnswer::Refused(n) => minus(0, n as u64),
+        PictureAnswer::BadNames(line) => minus(0, 100 + line as u64),
     }
 }
 

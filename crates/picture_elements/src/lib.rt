@@ -1,0 +1,2 @@
+// The elements of a picture: see specs/.
+pub mod elements;

@@ -1,0 +1,6 @@
+pub mod LabelLaws
+pub mod SizeLaws
+pub mod Lengths
+pub mod Within
+pub mod Cases
+pub mod Accepted

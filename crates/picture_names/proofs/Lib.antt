@@ -1,0 +1,4 @@
+pub mod CharLaws
+pub mod NameLaws
+pub mod Sizes
+pub mod Cases

@@ -1,0 +1,4 @@
+pub mod ByCase
+pub mod Cases
+pub mod Lengths
+pub mod Times

@@ -1,0 +1,3 @@
+// Numbers of thousandths of a step: see specs/.
+pub mod attributes;
+pub mod thousandths;

@@ -1,0 +1,5 @@
+pub mod EscapeLaws
+pub mod ColumnLaws
+pub mod RowLaws
+pub mod Within
+pub mod Cases

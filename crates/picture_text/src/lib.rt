@@ -1,0 +1,3 @@
+// From a plan's text and a text of names to the picture: see specs/.
+pub mod print;
+pub mod whole;

@@ -1,0 +1,3 @@
+pub mod MeasureLaws
+pub mod Shown
+pub mod Lengths

@@ -1,0 +1,4 @@
+pub mod Measure
+pub mod View
+pub mod Inside
+pub mod inner
