@@ -7,7 +7,7 @@ ghost use mathlib.Core.List.{map};
 ghost use lib.ListN.{length};
 ghost use Rattle.ints.specs.Lists.{sum};
 ghost use Rattle.picture_marks.specs.Picture.{pictureOf};
-ghost use Rattle.picture_marks.specs.inner.Asked.{planIn, namesIn, PictureAsked};
+ghost use Rattle.picture_marks.specs.inner.Asked.{heldPlan, namesIn, PictureAsked};
 ghost use Rattle.picture_fit.specs.Fitted.{fitted, Leaves};
 
 // No picture is longer.
@@ -38,9 +38,9 @@ fn picture_copied(
     ends: &[u32],
     out: &mut [u8],
 ) -> PictureAnswer
-    requires { ⌜ PictureAsked (planIn gap spacing (now sizes) (now vias) (now halves) (now uppers) (now lowers)) (now finals) (now names) (now starts) (now ends)
+    requires { ⌜ PictureAsked (heldPlan gap spacing (now sizes) (now vias) (now halves) (now uppers) (now lowers)) (now finals) (now names) (now starts) (now ends)
         × (sum (map length (namesIn (now names) (now starts) (now ends) (length (now vias)))) ≤ 65536) ⌝ }
-    ensures { λ r. ⌜ Leaves (fitted (pictureOf (planIn gap spacing (now (sizes .entry)) (now (vias .entry)) (now (halves .entry)) (now (uppers .entry)) (now (lowers .entry)))
+    ensures { λ r. ⌜ Leaves (fitted (pictureOf (heldPlan gap spacing (now (sizes .entry)) (now (vias .entry)) (now (halves .entry)) (now (uppers .entry)) (now (lowers .entry)))
         (now (finals .entry)) (namesIn (now (names .entry)) (now (starts .entry)) (now (ends .entry)) (length (now (vias .entry))))) (now (out .entry))) r (now (out .exit)) ⌝ }
 {
     let mut room = [0u8; MAX_PICTURE];
@@ -76,9 +76,9 @@ pub fn fit_picture(
     ends: &[u32],
     out: &mut [u8],
 ) -> PictureAnswer
-    requires { ⌜ PictureAsked (planIn gap spacing (now sizes) (now vias) (now halves) (now uppers) (now lowers)) (now finals) (now names) (now starts) (now ends)
+    requires { ⌜ PictureAsked (heldPlan gap spacing (now sizes) (now vias) (now halves) (now uppers) (now lowers)) (now finals) (now names) (now starts) (now ends)
         × (sum (map length (namesIn (now names) (now starts) (now ends) (length (now vias)))) ≤ 65536) ⌝ }
-    ensures { λ r. ⌜ Leaves (fitted (pictureOf (planIn gap spacing (now (sizes .entry)) (now (vias .entry)) (now (halves .entry)) (now (uppers .entry)) (now (lowers .entry)))
+    ensures { λ r. ⌜ Leaves (fitted (pictureOf (heldPlan gap spacing (now (sizes .entry)) (now (vias .entry)) (now (halves .entry)) (now (uppers .entry)) (now (lowers .entry)))
         (now (finals .entry)) (namesIn (now (names .entry)) (now (starts .entry)) (now (ends .entry)) (length (now (vias .entry))))) (now (out .entry))) r (now (out .exit)) ⌝ }
 {
     if out.len() < MAX_PICTURE {

@@ -29,7 +29,7 @@ pub fn put_title(out: &mut [u8], at: usize, number: u32, name: &[u8]) -> usize
     put_escaped(out, next, name)
 }
 
-// Rows of a name, at most three, the first at the place k.
+// Rows of a name, at most three, the first at the place `first`, each two places below the one before it.
 fn put_rows(
     out: &mut [u8],
     from: usize,
@@ -90,6 +90,7 @@ fn put_name(out: &mut [u8], at: usize, x: i64, y: u64, hw: u16, measure: u32, na
     put_rows(out, at, x, y, size, 3 - count, name, cols)
 }
 
+// The label of a box: its name in rows, or its number.
 pub fn put_label(
     out: &mut [u8],
     at: usize,

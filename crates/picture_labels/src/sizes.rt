@@ -30,6 +30,7 @@ fn digits(n: u32) -> u64
     4
 }
 
+// The height of a number's letters.
 pub fn number_size(hw: u16, measure: u32, number: u32) -> u64
     requires { ⌜ number < 10000 ⌝ }
     ensures { λ r. ⌜ r ≡ numberSize hw measure number ⌝ }
@@ -51,12 +52,14 @@ fn asked(name: &[u8]) -> u64
     wide as u64
 }
 
+// The height of a name's letters.
 pub fn name_size(hw: u16, measure: u32, name: &[u8]) -> u64
     ensures { λ r. ⌜ r ≡ nameSize hw measure (now (name .entry)) ⌝ }
 {
     lesser(100 * measure as u64, 3000 * hw as u64 / asked(name))
 }
 
+// The columns of a row.
 pub fn columns_in(hw: u16, size: u64) -> usize
     requires { ⌜ 0 < size ⌝ }
     ensures { λ r. ⌜ r ≡ columnsIn hw size ⌝ }

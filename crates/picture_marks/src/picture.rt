@@ -6,7 +6,7 @@ use plan_checks::levels::heights;
 ghost use lib.ListN.{length};
 ghost use Rattle.text_write.specs.inner.Written.{Room, Wrote};
 ghost use Rattle.picture_marks.specs.Picture.{pictureOf};
-ghost use Rattle.picture_marks.specs.inner.Asked.{planIn, namesIn, PictureAsked};
+ghost use Rattle.picture_marks.specs.inner.Asked.{heldPlan, namesIn, PictureAsked};
 
 // Writes the whole document at the front of a lent buffer, and answers its length. The name of vertex v is the part of `names` from
 // `starts[v]` to `ends[v]`.
@@ -24,10 +24,10 @@ pub fn put_picture(
     ends: &[u32],
     out: &mut [u8],
 ) -> usize
-    requires { ⌜ PictureAsked (planIn gap spacing (now sizes) (now vias) (now halves) (now uppers) (now lowers)) (now finals) (now names) (now starts) (now ends)
-        × Room (pictureOf (planIn gap spacing (now sizes) (now vias) (now halves) (now uppers) (now lowers)) (now finals)
+    requires { ⌜ PictureAsked (heldPlan gap spacing (now sizes) (now vias) (now halves) (now uppers) (now lowers)) (now finals) (now names) (now starts) (now ends)
+        × Room (pictureOf (heldPlan gap spacing (now sizes) (now vias) (now halves) (now uppers) (now lowers)) (now finals)
         (namesIn (now names) (now starts) (now ends) (length (now vias)))) (now out) 0 ⌝ }
-    ensures { λ r. ⌜ Wrote (pictureOf (planIn gap spacing (now (sizes .entry)) (now (vias .entry)) (now (halves .entry)) (now (uppers .entry)) (now (lowers .entry)))
+    ensures { λ r. ⌜ Wrote (pictureOf (heldPlan gap spacing (now (sizes .entry)) (now (vias .entry)) (now (halves .entry)) (now (uppers .entry)) (now (lowers .entry)))
         (now (finals .entry)) (namesIn (now (names .entry)) (now (starts .entry)) (now (ends .entry)) (length (now (vias .entry)))))
         (now (out .entry)) 0 r (now (out .exit)) ⌝ }
 {

@@ -11,7 +11,7 @@ ghost use mathlib.Core.Path.{_≡_};
 ghost use mathlib.Core.Bool.{true};
 ghost use Rattle.plan.specs.Acceptable.{acceptable};
 ghost use Rattle.text.specs.Reading.{accepted, reading};
-ghost use Rattle.picture_marks.specs.inner.Asked.{planIn};
+ghost use Rattle.picture_marks.specs.inner.Asked.{heldPlan};
 ghost use Rattle.picture_fit.specs.Fitted.{Leaves};
 ghost use Rattle.picture_text.specs.Text.{pictureIn};
 ghost use Rattle.picture_text.specs.inner.Named.{NamedPlan};
@@ -30,8 +30,8 @@ fn picture_named(
     ends: &[u32],
     out: &mut [u8],
 ) -> PictureAnswer
-    requires { ⌜ NamedPlan (planIn gap spacing (now sizes) (now vias) (now halves) (now uppers) (now lowers)) (now names) (now starts) (now ends) ⌝ }
-    ensures { λ r. ⌜ Leaves (pictureIn (accepted (planIn gap spacing (now (sizes .entry)) (now (vias .entry)) (now (halves .entry)) (now (uppers .entry))
+    requires { ⌜ NamedPlan (heldPlan gap spacing (now sizes) (now vias) (now halves) (now uppers) (now lowers)) (now names) (now starts) (now ends) ⌝ }
+    ensures { λ r. ⌜ Leaves (pictureIn (accepted (heldPlan gap spacing (now (sizes .entry)) (now (vias .entry)) (now (halves .entry)) (now (uppers .entry))
         (now (lowers .entry)))) (now (names .entry)) (now (out .entry))) r (now (out .exit)) ⌝ }
 {
     let v = vias.len();
@@ -75,8 +75,8 @@ fn picture_plan(
     names: &[u8],
     out: &mut [u8],
 ) -> PictureAnswer
-    requires { ⌜ acceptable (planIn gap spacing (now sizes) (now vias) (now halves) (now uppers) (now lowers)) ≡ true ⌝ }
-    ensures { λ r. ⌜ Leaves (pictureIn (accepted (planIn gap spacing (now (sizes .entry)) (now (vias .entry)) (now (halves .entry)) (now (uppers .entry))
+    requires { ⌜ acceptable (heldPlan gap spacing (now sizes) (now vias) (now halves) (now uppers) (now lowers)) ≡ true ⌝ }
+    ensures { λ r. ⌜ Leaves (pictureIn (accepted (heldPlan gap spacing (now (sizes .entry)) (now (vias .entry)) (now (halves .entry)) (now (uppers .entry))
         (now (lowers .entry)))) (now (names .entry)) (now (out .entry))) r (now (out .exit)) ⌝ }
 {
     let mut starts = [0u32; Plan::MAX_VERTICES];

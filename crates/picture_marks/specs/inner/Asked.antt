@@ -11,8 +11,8 @@ use Rattle.plan.specs.Acceptable.{acceptable}
 use Rattle.picture_names.specs.inner.Indexed.{nameAt}
 
 -- The plan of these lists.
-abbrev pub planIn : ℕ → ℕ → List ℕ → List Bool → List ℕ → List ℕ → List ℕ → PlanData
-planIn gap spacing sizes vias halves uppers lowers = dataOf (length sizes) gap spacing sizes vias halves uppers lowers
+abbrev pub heldPlan : ℕ → ℕ → List ℕ → List Bool → List ℕ → List ℕ → List ℕ → PlanData
+heldPlan gap spacing sizes vias halves uppers lowers = dataOf (length sizes) gap spacing sizes vias halves uppers lowers
 
 -- The names of n vertices.
 abbrev pub namesIn : List ℕ → List ℕ → List ℕ → ℕ → List (List ℕ)

@@ -5,7 +5,7 @@ use lib.ListN.{length}
 use mathlib.Core.List.{List}
 use Prim.Native.Nat.{ℕ, _≤_}
 use Rattle.picture_marks.specs.Picture.{pictureOf}
-use Rattle.picture_marks.specs.inner.Asked.{planIn, namesIn, maxPicture}
+use Rattle.picture_marks.specs.inner.Asked.{heldPlan, namesIn, maxPicture}
 use Rattle.picture_fit.proofs.FitLaws.{fits, asked-short}
 use Rattle.picture_fit.proofs.fit.fit_picture.Statement.{statement}
 use Rattle.picture_fit.proofs.fit.fit_picture.Tie as tie
@@ -13,13 +13,13 @@ use Rattle.picture_fit.proofs.fit.fit_picture.Tie as tie
 abbrev picture : tie.Start → List ℕ
 picture c =
     let a = c .args in
-    pictureOf (planIn (a .gap) (a .spacing) (a .sizes .now) (a .vias .now) (a .halves .now) (a .uppers .now) (a .lowers .now)) (a .finals .now)
+    pictureOf (heldPlan (a .gap) (a .spacing) (a .sizes .now) (a .vias .now) (a .halves .now) (a .uppers .now) (a .lowers .now)) (a .finals .now)
     (namesIn (a .names .now) (a .starts .now) (a .ends .now) (length (a .vias .now)))
 
 short : (c : tie.Start) → length (picture c) ≤ maxPicture
 short c =
     let a = c .args in
-    asked-short (planIn (a .gap) (a .spacing) (a .sizes .now) (a .vias .now) (a .halves .now) (a .uppers .now) (a .lowers .now)) (a .finals .now)
+    asked-short (heldPlan (a .gap) (a .spacing) (a .sizes .now) (a .vias .now) (a .halves .now) (a .uppers .now) (a .lowers .now)) (a .finals .now)
     (a .names .now) (a .starts .now) (a .ends .now) (c .pre .0) (c .pre .1)
 
 put-picture-requires : tie.Need-put-picture-requires

@@ -6,7 +6,7 @@ use borrow.Author.Needs.{needs}
 use lib.ListN.{length}
 use lib.Seq.{length-take-le}
 use Rattle.picture_marks.specs.Picture.{pictureOf}
-use Rattle.picture_marks.specs.inner.Asked.{planIn, namesIn, maxPicture}
+use Rattle.picture_marks.specs.inner.Asked.{heldPlan, namesIn, maxPicture}
 use Rattle.picture_fit.proofs.FitLaws.{asked-short, new-long, new-room, copied-long, copied-is}
 use Rattle.picture_fit.proofs.fit.picture_copied.Statement.{statement}
 use Rattle.picture_fit.proofs.fit.picture_copied.Tie as tie
@@ -14,13 +14,13 @@ use Rattle.picture_fit.proofs.fit.picture_copied.Tie as tie
 abbrev picture : tie.Start → List ℕ
 picture c =
     let a = c .args in
-    pictureOf (planIn (a .gap) (a .spacing) (a .sizes .now) (a .vias .now) (a .halves .now) (a .uppers .now) (a .lowers .now)) (a .finals .now)
+    pictureOf (heldPlan (a .gap) (a .spacing) (a .sizes .now) (a .vias .now) (a .halves .now) (a .uppers .now) (a .lowers .now)) (a .finals .now)
     (namesIn (a .names .now) (a .starts .now) (a .ends .now) (length (a .vias .now)))
 
 short : (c : tie.Start) → length (picture c) ≤ maxPicture
 short c =
     let a = c .args in
-    asked-short (planIn (a .gap) (a .spacing) (a .sizes .now) (a .vias .now) (a .halves .now) (a .uppers .now) (a .lowers .now)) (a .finals .now)
+    asked-short (heldPlan (a .gap) (a .spacing) (a .sizes .now) (a .vias .now) (a .halves .now) (a .uppers .now) (a .lowers .now)) (a .finals .now)
     (a .names .now) (a .starts .now) (a .ends .now) (c .pre .0) (c .pre .1)
 
 slice-aggregate-put-picture : tie.Need-slice-aggregate-put-picture

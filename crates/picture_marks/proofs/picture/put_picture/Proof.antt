@@ -15,14 +15,14 @@ use Rattle.picture_names.specs.inner.Indexed.{nameAt}
 use Rattle.picture_view.specs.Measure.{measure}
 use Rattle.picture_view.specs.View.{viewHeight}
 use Rattle.picture_marks.specs.Picture.{pictureOf}
-use Rattle.picture_marks.specs.inner.Asked.{planIn, namesIn}
+use Rattle.picture_marks.specs.inner.Asked.{heldPlan, namesIn}
 use Rattle.picture_marks.specs.inner.Listed.{documentIn}
 use Rattle.picture_marks.proofs.ByLists.{picture-is, document-stands, view-low, given-at}
 use Rattle.picture_marks.proofs.picture.put_picture.Statement.{statement}
 use Rattle.picture_marks.proofs.picture.put_picture.Tie as tie
 
 abbrev plan-of : tie.Start → PlanData
-plan-of c = planIn (c .args .gap) (c .args .spacing) (c .args .sizes .now) (c .args .vias .now) (c .args .halves .now) (c .args .uppers .now) (c .args .lowers .now)
+plan-of c = heldPlan (c .args .gap) (c .args .spacing) (c .args .sizes .now) (c .args .vias .now) (c .args .halves .now) (c .args .uppers .now) (c .args .lowers .now)
 
 of-plan : (c : tie.Start) → Limits (plan-of c)
 of-plan c = sound (plan-of c) (c .pre .0 .drawn .plan) .limits

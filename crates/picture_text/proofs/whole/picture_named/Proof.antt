@@ -10,13 +10,13 @@ use Rattle.ints.proofs.FrontLaws.{first-fit, first-is, first-count}
 use Rattle.plan.specs.Plan.{PlanData}
 use Rattle.passes.specs.Drawing.{drawingOf}
 use Rattle.text_report.proofs.Shown.{holds-held, few-vertices}
-use Rattle.picture_marks.specs.inner.Asked.{planIn}
+use Rattle.picture_marks.specs.inner.Asked.{heldPlan}
 use Rattle.picture_text.proofs.TextLaws.{leaves, picture-of, names-is, names-few, picture-asked}
 use Rattle.picture_text.proofs.whole.picture_named.Statement.{statement}
 use Rattle.picture_text.proofs.whole.picture_named.Tie as tie
 
 abbrev held : tie.Start → PlanData
-held c = let a = c .args in planIn (a .gap) (a .spacing) (a .sizes .now) (a .vias .now) (a .halves .now) (a .uppers .now) (a .lowers .now)
+held c = let a = c .args in heldPlan (a .gap) (a .spacing) (a .sizes .now) (a .vias .now) (a .halves .now) (a .uppers .now) (a .lowers .now)
 
 -- as many zeros as there are vertices
 zeros : (c : tie.Start) → length (take (length (c .args .vias .now)) (replicate 1024 (pos 0))) ≡ length (c .args .vias .now)

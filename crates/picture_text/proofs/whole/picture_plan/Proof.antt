@@ -3,13 +3,13 @@ use native.Mathlib.Omega.{arith}
 use borrow.Author.Needs.{needs}
 use Rattle.plan.specs.Plan.{PlanData}
 use Rattle.text_report.proofs.Shown.{few-vertices}
-use Rattle.picture_marks.specs.inner.Asked.{planIn}
+use Rattle.picture_marks.specs.inner.Asked.{heldPlan}
 use Rattle.picture_text.proofs.TextLaws.{good-named, bad-refused}
 use Rattle.picture_text.proofs.whole.picture_plan.Statement.{statement}
 use Rattle.picture_text.proofs.whole.picture_plan.Tie as tie
 
 abbrev held : tie.Start → PlanData
-held c = let a = c .args in planIn (a .gap) (a .spacing) (a .sizes .now) (a .vias .now) (a .halves .now) (a .uppers .now) (a .lowers .now)
+held c = let a = c .args in heldPlan (a .gap) (a .spacing) (a .sizes .now) (a .vias .now) (a .halves .now) (a .uppers .now) (a .lowers .now)
 
 index-names-requires : tie.Need-index-names-requires
 index-names-requires c κs =
