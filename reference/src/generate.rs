@@ -1,7 +1,8 @@
 //! Random plan texts, the same for the same kind and seed.
 //!
 //! A plan has a given number of places on each level; long cables take some of them for their vias, boxes stand on the
-//! rest. The cables have one order from left to right, which all levels keep, so that inner segments do not cross.
+//! rest. The cables have one order from left to right, which all levels keep, so that inner segments do not cross; but in
+//! some kinds vias change places.
 
 use std::collections::BTreeSet;
 
@@ -10,8 +11,10 @@ use crate::plan::{Draft, Plan, Vertex};
 use crate::random::Random;
 use crate::text;
 
-/// The kinds of texts: all are acceptable, except most tangled and damaged ones.
-pub const KINDS: [&str; 8] = ["small", "medium", "wide", "deep", "vias", "max", "tangled", "damaged"];
+/// The kinds of texts: all are acceptable, except most tangled, crossed and damaged ones. Tangled and crossed ones pass
+/// checks 1 to 5.
+pub const KINDS: [&str; 10] =
+    ["small", "medium", "wide", "deep", "vias", "max", "tangled", "crossed", "crossed-max", "damaged"];
 
 /// A random text of that kind; none if there is no such kind.
 pub fn generate(kind: &str, seed: u64) -> Option<Vec<u8>> {
@@ -24,6 +27,8 @@ pub fn generate(kind: &str, seed: u64) -> Option<Vec<u8>> {
         "vias" => vias(random),
         "max" => max(random, seed),
         "tangled" => tangled(random),
+        "crossed" => crossed(random),
+        "crossed-max" => crossed_max(random, seed),
         "damaged" => return Some(damaged(random)),
         _ => return None,
     };
@@ -44,12 +49,27 @@ fn damaged(random: &mut Random) -> Vec<u8> {
 // ---------------------------------------------------------------------------------------------------------------------
 // Shapes
 
+/// Which vias change places on their level, so that inner segments cross.
+#[derive(Clone, Copy)]
+enum Tangle {
+    /// None.
+    Never,
+    /// Two, on some levels.
+    Seldom,
+    /// Some neighbours, on every level.
+    Near,
+    /// All, on every level.
+    Anyhow,
+}
+
 /// What a random plan is to be like.
 struct Shape {
     /// How many vertices stand on each level.
     sizes: Vec<usize>,
     /// How many knots of cables are tried, see [`Cables::tie_knot`].
     knots: usize,
+    /// How many cables from the top level to the bottom level are tried.
+    through: usize,
     /// How many further long cables are tried.
     cables: usize,
     /// The most vias a cable has.
@@ -58,8 +78,7 @@ struct Shape {
     segments: usize,
     /// Whether segments are added until there are as many as a plan may have.
     fill: bool,
-    /// Whether vias change places, so that inner segments cross.
-    tangle: bool,
+    tangle: Tangle,
     /// The greatest half-width of a box.
     half_width: i64,
     gap: i64,
@@ -71,11 +90,12 @@ impl Shape {
         let places: usize = sizes.iter().sum();
         Shape {
             knots: 0,
+            through: 0,
             cables: random.below(places),
             reach: 1 + random.below(sizes.len()),
             segments: random.below(2 * places),
             fill: false,
-            tangle: false,
+            tangle: Tangle::Never,
             half_width: random.pick(&[1, 2, 5, 20, Plan::MAX_HALF_WIDTH]),
             gap: random.pick(&[1, 2, 3, 10, Plan::MAX_GAP]),
             spacing: random.pick(&[1, 10, 25, Plan::MAX_SPACING]),
@@ -168,7 +188,33 @@ fn tangled(random: &mut Random) -> Shape {
     let mut shape = Shape::new(random, sizes);
     shape.cables = random.within(3, 30) as usize;
     shape.reach = random.within(2, 9) as usize;
-    shape.tangle = true;
+    shape.tangle = Tangle::Seldom;
+    shape
+}
+
+/// Long cables that cross on most levels, in plans of all shapes but the largest.
+fn crossed(random: &mut Random) -> Shape {
+    let mut shape = match random.below(8) {
+        0 => wide(random),
+        1 => deep(random),
+        2 | 3 => vias(random),
+        4 => medium(random),
+        _ => tangled(random),
+    };
+    shape.cables = shape.cables.max(random.pick(&[10, 30, 200]));
+    shape.reach = shape.reach.max(6);
+    shape.through = random.pick(&[0, 2, 4]);
+    shape.tangle = random.pick(&[Tangle::Near, Tangle::Anyhow]);
+    shape
+}
+
+/// The same with as many vertices as a plan may have, at times nearly all of them vias on full levels.
+fn crossed_max(random: &mut Random, seed: u64) -> Shape {
+    let mut shape = max(random, seed);
+    if random.once_in(3) {
+        shape.through = Plan::MAX_ON_LEVEL;
+    }
+    shape.tangle = random.pick(&[Tangle::Near, Tangle::Anyhow]);
     shape
 }
 
@@ -206,6 +252,9 @@ impl Cables {
             (0..shape.knots).for_each(|_| cables.tie_knot(random));
         }
         if levels > 2 {
+            for _ in 0..shape.through {
+                cables.add(0, Cable { top: 0, bottom: levels - 1 });
+            }
             for _ in 0..shape.cables {
                 let top = random.below(levels - 2);
                 let bottom = (top + 2 + random.below(shape.reach)).min(levels - 1);
@@ -276,18 +325,36 @@ fn draft(random: &mut Random, shape: &Shape) -> Draft {
     }
 }
 
-/// The items of a level from left to right: the vias in the order of their cables, boxes anywhere between.
+/// The items of a level from left to right: the vias in the order of their cables, or tangled, boxes anywhere between.
 fn arrange(random: &mut Random, shape: &Shape, cables: &[Cable], level: usize) -> Vec<Item> {
     let mut row: Vec<Item> = (0..cables.len()).filter(|&cable| cables[cable].crosses(level)).map(Item::Via).collect();
-    if shape.tangle && row.len() > 1 && random.once_in(3) {
-        let i = random.below(row.len());
-        let j = random.below(row.len());
-        row.swap(i, j);
-    }
+    tangle(random, shape.tangle, &mut row);
     while row.len() < shape.sizes[level] {
         row.insert(random.below(row.len() + 1), Item::Box);
     }
     row
+}
+
+/// Lets vias change places.
+fn tangle(random: &mut Random, tangle: Tangle, vias: &mut [Item]) {
+    match tangle {
+        Tangle::Never => {}
+        Tangle::Seldom => {
+            if vias.len() > 1 && random.once_in(3) {
+                let i = random.below(vias.len());
+                let j = random.below(vias.len());
+                vias.swap(i, j);
+            }
+        }
+        Tangle::Near => {
+            for i in 1..vias.len() {
+                if random.once_in(3) {
+                    vias.swap(i - 1, i);
+                }
+            }
+        }
+        Tangle::Anyhow => random.shuffle(vias),
+    }
 }
 
 /// The segments of the cables, and random ones between boxes.

@@ -1,7 +1,8 @@
-//! Level diagrams for boat supply plans: a second reading of document 01.
+//! Level diagrams for boat supply plans: a second reading of document 01, and of document 02's first request, E1.
 //!
 //! From text to picture, one module for each part of the paper:
 //! - [`text`] reads a plan text (check 1) and writes it again; [`plan`] holds the plan and makes checks 2 to 6;
+//! - [`tangled`] reads a plan text whose inner segments may cross, and rearranges the plan (E1);
 //! - [`preliminary`] gives every vertex its preliminary position;
 //! - [`place_run`] places one run: [`half_steps`] is the definition, [`jumps`] the fast way to the same outcome;
 //! - [`passes`] goes over the levels three times, places their runs and lists the placings;
@@ -46,6 +47,7 @@ pub mod script;
 pub mod scripts;
 pub mod sheet;
 pub mod stored;
+pub mod tangled;
 pub mod text;
 mod words;
 

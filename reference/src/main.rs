@@ -11,6 +11,7 @@ use reference::{check, generate, names, passes, picture, readings, report, scrip
 
 const USAGE: &str = "\
 reference report < PLAN          the report, or (refused N)
+reference report tangled < PLAN  the same for a plan that may be tangled, loaded by the second way
 reference picture [NAMES] < PLAN the SVG document with the names in the file, or the line that refuses
 reference steps < PLAN           how many half steps all joins of the draw take; 0 if refused
 reference check [REPORT] < PLAN  judges the report, its own or that in the file: ok or (refused N), or each
@@ -24,8 +25,10 @@ reference inputs DIR COUNT       plan texts, each after a line with its length: 
 reference reports DIR COUNT      their reports, one after another
 reference script < SCRIPT        the answer to each command, a line each
 reference scripts COUNT SEED     COUNT random scripts from that seed on, as one, each after a remark with its seed
+reference scripts COUNT SEED tangled
+                                 the same with tangled loads, and pokes of what a sheet remembers
 reference answers DIR START      compares the answers to every NAME.script whose name starts so with NAME.answers
-KIND: small medium wide deep vias max tangled damaged
+KIND: small medium wide deep vias max tangled crossed crossed-max damaged
 ";
 
 /// Most characters in the line of a request that is listed.
@@ -49,6 +52,7 @@ fn main() -> ExitCode {
 fn run(words: &[&str]) -> io::Result<bool> {
     match words {
         ["report"] => print(&report::answer(&input()?)),
+        ["report", "tangled"] => print(&report::answer_tangled(&input()?)),
         ["picture"] => print(&picture::answer(&input()?, b"")),
         ["picture", names] => print(&picture::answer(&input()?, &start(fs::File::open(names)?, names::MAX_BYTES + 1)?)),
         ["steps"] => print(format!("{}\n", steps(&input()?)).as_bytes()),
@@ -62,6 +66,9 @@ fn run(words: &[&str]) -> io::Result<bool> {
         ["reports", folder, count] => print(&of_every_kind(folder, count, report::answer)?),
         ["script"] => print(&script::answers(&whole_input()?)),
         ["scripts", count, seed] => print(scripts::scripts(number(count)?, number(seed)?).as_bytes()),
+        ["scripts", count, seed, "tangled"] => {
+            print(scripts::tangled_scripts(number(count)?, number(seed)?).as_bytes())
+        }
         ["answers", folder, start] => answers(Path::new(folder), start),
         _ => Err(wrong(USAGE)),
     }

@@ -119,6 +119,13 @@ impl Plan {
 
     /// The plan that the draft describes, if it passes checks 2 to 6. A draft that no text can say is refused with 1.
     pub fn new(draft: Draft) -> Result<Plan, Refusal> {
+        let plan = Plan::up_to_check_5(draft)?;
+        plan.check_crossings()?;
+        Ok(plan)
+    }
+
+    /// The same without check 6: inner segments may cross, so this is to be rearranged, see [`crate::tangled`].
+    pub(crate) fn up_to_check_5(draft: Draft) -> Result<Plan, Refusal> {
         check_sayable(&draft)?;
         check_limits(&draft)?;
         let level_start = level_starts(&draft.sizes);
@@ -130,7 +137,6 @@ impl Plan {
         let below = Links::new(vertices, draft.segments.iter().copied());
         let plan = Plan { draft, level_start, level_of, above, below };
         plan.check_vias()?;
-        plan.check_crossings()?;
         Ok(plan)
     }
 

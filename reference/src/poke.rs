@@ -7,7 +7,7 @@ use crate::words::number;
 /// Alters the record as the words say; none, and nothing altered, if they are no poke. What is stored may be any number
 /// of 64 bits; indexes stay within the record.
 pub(crate) fn poke(sheet: &mut Sheet, words: &[&str]) -> Option<()> {
-    let Sheet { stage, plan, drawing } = sheet;
+    let Sheet { stage, plan, loading, drawing } = sheet;
     match *words {
         ["stage", ref words @ ..] => *stage = stage_in(words)?,
         ["k", k] => plan.levels = number(k)?,
@@ -16,6 +16,9 @@ pub(crate) fn poke(sheet: &mut Sheet, words: &[&str]) -> Option<()> {
         ["size", level, size] => *entry(&mut plan.sizes, level)? = number(size)?,
         ["vertex", i, kind, half_width] => *entry(&mut plan.vertices, i)? = vertex_in(kind, half_width)?,
         ["seg", i, a, b] => *entry(&mut plan.segments, i)? = (number(a)?, number(b)?),
+        ["mem", i, number_in_text] => *entry(&mut loading.numbers, i)? = number(number_in_text)?,
+        ["tangled", "0"] => loading.tangled = false,
+        ["tangled", "1"] => loading.tangled = true,
         ["pre", i, x] => *entry(&mut drawing.preliminary, i)? = number(x)?,
         ["pos", i, x] => *entry(&mut drawing.position, i)? = number(x)?,
         ["pass", i, pass] => entry(&mut drawing.placings, i)?.pass = number(pass)?,

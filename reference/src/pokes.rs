@@ -14,9 +14,9 @@ pub(crate) struct Damage {
     pub repair: String,
 }
 
-/// One kind of damage, which may take several pokes.
-pub(crate) fn damage(random: &mut Random, sheet: &Sheet) -> Vec<Damage> {
-    match random.below(18) {
+/// One kind of damage, which may take several pokes; with E1's pokes or without. A plan that grows needs one of them.
+pub(crate) fn damage(random: &mut Random, sheet: &Sheet, with_tangled: bool) -> Vec<Damage> {
+    match random.below(if with_tangled { 23 } else { 18 }) {
         0 | 1 => vec![stage(random, sheet)],
         2 => vec![levels(random, sheet)],
         3 => vec![gap(random, sheet)],
@@ -27,9 +27,12 @@ pub(crate) fn damage(random: &mut Random, sheet: &Sheet) -> Vec<Damage> {
         9 => vec![segment(random, sheet)],
         10 => exchange_segments(random, sheet),
         11 => exchange_lower_ends(random, sheet),
-        12 => grow(sheet),
+        12 if with_tangled => grow(sheet),
         13 | 14 => vec![position(random, sheet)],
         15 => vec![placing(random, sheet)],
+        18 | 19 => vec![number(random, sheet)],
+        20 | 21 => exchange_numbers(random, sheet),
+        22 => vec![way(random, sheet)],
         _ => listed_box(random, sheet).map_or_else(Vec::new, |damage| vec![damage]),
     }
 }
@@ -176,8 +179,9 @@ fn exchange_lower_ends(random: &mut Random, sheet: &Sheet) -> Vec<Damage> {
     vec![segment_change(sheet, i, (first.0, second.1)), segment_change(sheet, i + 1, (second.0, first.1))]
 }
 
-/// The last level gains a box at its right end; no placing is listed any more. All of it together is an acceptable plan.
-fn grow(sheet: &Sheet) -> Vec<Damage> {
+/// The last level gains a box at its right end, remembered by its own number; no placing is listed any more. All of it
+/// together is an acceptable plan.
+pub(crate) fn grow(sheet: &Sheet) -> Vec<Damage> {
     let (v, e, _) = counts(sheet.stage);
     let (Ok(last), Ok(next)) = (usize::try_from(sheet.plan.levels.wrapping_sub(1)), usize::try_from(v)) else {
         return Vec::new();
@@ -191,8 +195,37 @@ fn grow(sheet: &Sheet) -> Vec<Damage> {
     vec![
         size_change(sheet, last, sheet.plan.sizes[last].saturating_add(1)),
         change(&format!("vertex {next}"), vertex_words(new), vertex_words(old)),
+        number_change(sheet, next, v),
         change("stage", stage, sheet.stage),
     ]
+}
+
+// ---------------------------------------------------------------------------------------------------------------------
+// What is remembered of the loading
+
+/// Another number for a vertex, which is then remembered twice or not at all.
+fn number(random: &mut Random, sheet: &Sheet) -> Damage {
+    let v = index(random, counts(sheet.stage).0, Plan::MAX_VERTICES);
+    let new = near(random, sheet.loading.numbers[v], &[0, 1, 1_023, 1_024, 65_535, u64::MAX]);
+    number_change(sheet, v, new)
+}
+
+fn number_change(sheet: &Sheet, v: usize, new: u64) -> Damage {
+    change(&format!("mem {v}"), new, sheet.loading.numbers[v])
+}
+
+/// Two vertices that follow each other, or seldom any two, exchange their numbers: those of a level are still its own then.
+fn exchange_numbers(random: &mut Random, sheet: &Sheet) -> Vec<Damage> {
+    let used = counts(sheet.stage).0.saturating_sub(1);
+    let v = index(random, used, Plan::MAX_VERTICES - 1);
+    let w = if random.once_in(4) { index(random, used, Plan::MAX_VERTICES) } else { v + 1 };
+    let numbers = &sheet.loading.numbers;
+    vec![number_change(sheet, v, numbers[w]), number_change(sheet, w, numbers[v])]
+}
+
+/// The way, the other one or the same.
+fn way(random: &mut Random, sheet: &Sheet) -> Damage {
+    change("tangled", u8::from(random.once_in(2)), u8::from(sheet.loading.tangled))
 }
 
 // ---------------------------------------------------------------------------------------------------------------------

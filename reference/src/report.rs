@@ -3,6 +3,7 @@
 use crate::cursor::Cursor;
 use crate::passes::{self, Drawing, Placing};
 use crate::plan::Plan;
+use crate::tangled::{self, Loaded};
 use crate::text::{self, push_line, push_number};
 use crate::Refusal;
 
@@ -14,6 +15,14 @@ pub fn answer(text: &[u8]) -> Vec<u8> {
     }
 }
 
+/// The same for a text that may be tangled, in the numbers of the text.
+pub fn answer_tangled(text: &[u8]) -> Vec<u8> {
+    match tangled::read(text) {
+        Ok(loaded) => remembered_lines(&loaded, &passes::draw(&loaded.plan)),
+        Err(number) => refused(number),
+    }
+}
+
 /// The line of a refusal.
 pub fn refused(number: Refusal) -> Vec<u8> {
     let mut line = Vec::new();
@@ -21,29 +30,41 @@ pub fn refused(number: Refusal) -> Vec<u8> {
     line
 }
 
-/// All report lines of a drawing.
+/// All report lines of a drawing, in the plan's own numbers.
 pub fn lines(plan: &Plan, drawing: &Drawing) -> Vec<u8> {
+    let own: Vec<usize> = (0..plan.vertices()).collect();
+    lines_by(plan, &own, drawing)
+}
+
+/// All report lines of a drawing in the remembered numbers. E1: "Report lines use those numbers, at-lines in their order,
+/// placings left to right."
+pub fn remembered_lines(loaded: &Loaded, drawing: &Drawing) -> Vec<u8> {
+    lines_by(&loaded.plan, &loaded.numbers, drawing)
+}
+
+/// All report lines, vertex v printed as `numbers[v]`; the numbers are all that there are, once each.
+fn lines_by(plan: &Plan, numbers: &[usize], drawing: &Drawing) -> Vec<u8> {
     let mut report = Vec::with_capacity(64 + 32 * plan.vertices() + 24 * drawing.placed.len());
     push_line(&mut report, b"(drawing", &[plan.vertices() as i64, drawing.placings.len() as i64]);
-    for v in 0..plan.vertices() {
+    for (number, v) in tangled::inverse(numbers).into_iter().enumerate() {
         let (preliminary, position) = (drawing.preliminary[v], drawing.position[v]);
-        push_line(&mut report, b"(at", &[printed(v), preliminary, position, plan.height(plan.level_of(v))]);
+        push_line(&mut report, b"(at", &[printed(number), preliminary, position, plan.height(plan.level_of(v))]);
     }
     for placing in &drawing.placings {
-        push_placing(&mut report, placing, drawing.boxes(placing));
+        push_placing(&mut report, placing, drawing.boxes(placing), numbers);
     }
     report.extend_from_slice(b"(end)\n");
     report
 }
 
-fn push_placing(report: &mut Vec<u8>, placing: &Placing, boxes: &[(usize, i64)]) {
+fn push_placing(report: &mut Vec<u8>, placing: &Placing, boxes: &[(usize, i64)], numbers: &[usize]) {
     report.extend_from_slice(b"(place ");
     push_number(report, i64::from(placing.pass));
     report.push(b' ');
     push_number(report, placing.level as i64);
     for &(v, position) in boxes {
         report.extend_from_slice(b" (");
-        push_number(report, printed(v));
+        push_number(report, printed(numbers[v]));
         report.push(b' ');
         push_number(report, position);
         report.push(b')');
@@ -51,9 +72,9 @@ fn push_placing(report: &mut Vec<u8>, placing: &Placing, boxes: &[(usize, i64)])
     report.extend_from_slice(b")\n");
 }
 
-/// The number by which a vertex is printed.
-fn printed(v: usize) -> i64 {
-    v as i64
+/// A vertex's number as it is printed.
+fn printed(number: usize) -> i64 {
+    number as i64
 }
 
 /// Digits of the longest number taken from a report.

@@ -2,6 +2,7 @@
 //!
 //! ```text
 //! load S strict TEXT           ok
+//! load S tangled TEXT          ok
 //! draw S, clear S              ok
 //! stage S                      ok empty, ok loaded V E, ok drawn V E P
 //! line S n [BUF]               ok LENGTH LINE, without its LF; BUF is the length of the buffer, else it is long enough
@@ -73,6 +74,7 @@ impl Script {
         let text = unescaped(parts.next()?)?;
         match way {
             b"strict" => Some(said(sheet.load(&text).map(|()| String::new()))),
+            b"tangled" => Some(said(sheet.load_tangled(&text).map(|()| String::new()))),
             _ => None,
         }
     }

@@ -1,7 +1,7 @@
 //! Random scripts, the same for the same seed.
 //!
 //! A script is answered while it is made, so that its commands know how many lines, marks and entries there are to ask for
-//! or to alter.
+//! or to alter. Scripts come without or with the commands of E1: tangled loads, and pokes of what a sheet remembers.
 
 use crate::generate::generate;
 use crate::pokes::{self, Damage};
@@ -19,7 +19,7 @@ const MOST_IN_LOAD: usize = 200_000;
 const MOST_IN_REQUEST: usize = 2_000;
 
 /// Lines that are no commands.
-const UNKNOWN: [&str; 50] = [
+const UNKNOWN: [&str; 54] = [
     " ",
     "drow 1",
     "Draw 1",
@@ -70,6 +70,10 @@ const UNKNOWN: [&str; 50] = [
     "poke 1 pos 0 18446744073709551616",
     "poke 1 pass 2048 1",
     "poke 1 level 2048 1",
+    "poke 1 mem 1024 0",
+    "poke 1 mem 0 -1",
+    "poke 1 tangled",
+    "poke 1 tangled 2",
 ];
 
 /// Commands at the edges of the form.
@@ -91,7 +95,7 @@ const LATER: [&str; 16] = [
     "draw 2",
     "mark 1 1 0",
     "marks 1 1",
-    "load 1 tangled (plan 1 1 1)\\n(level (box 1))\\n(end)\\n",
+    "texts 1",
     "load 1 generous (plan 1 1 1)\\n(level (box 1))\\n(end)\\n",
     "text 1 0",
     "walk 1 (plan 1 1 1)\\n(level (box 1))\\n(end)\\n",
@@ -108,14 +112,31 @@ const LATER: [&str; 16] = [
 
 /// So many scripts from a seed on, as one: each starts with a remark that has its seed, and a clear.
 pub fn scripts(count: u64, seed: u64) -> String {
+    joined(count, seed, script)
+}
+
+/// The same with the commands of E1.
+pub fn tangled_scripts(count: u64, seed: u64) -> String {
+    joined(count, seed, tangled_script)
+}
+
+fn joined(count: u64, seed: u64, script: fn(u64) -> String) -> String {
     let one = |seed: u64| format!("# script {seed}\nclear 1\n{}", script(seed));
     (0..count).map(|i| one(seed.wrapping_add(i))).collect()
 }
 
-/// The script of a seed.
+/// The script of a seed, without the commands of E1.
 pub fn script(seed: u64) -> String {
-    let random = Random::new("script", seed);
-    let mut maker = Maker { random, run: Script::new(), text: String::new(), repairs: Vec::new() };
+    made(Random::new("script", seed), false)
+}
+
+/// The script of a seed, with the commands of E1.
+pub fn tangled_script(seed: u64) -> String {
+    made(Random::new("tangled script", seed), true)
+}
+
+fn made(random: Random, with_tangled: bool) -> String {
+    let mut maker = Maker { random, with_tangled, run: Script::new(), text: String::new(), repairs: Vec::new() };
     let pokes = maker.random.once_in(3);
     for _ in 0..maker.random.within(5, 40) {
         if pokes && maker.random.once_in(2) {
@@ -133,6 +154,8 @@ pub fn script(seed: u64) -> String {
 /// A script that is being made.
 struct Maker {
     random: Random,
+    /// Whether it has commands of E1.
+    with_tangled: bool,
     /// What the lines so far have done.
     run: Script,
     text: String,
@@ -177,15 +200,24 @@ impl Maker {
     fn load(&mut self) {
         let kinds = ["small", "small", "small", "medium", "vias", "vias", "tangled", "damaged", "damaged"];
         let large = ["wide", "deep", "max"];
-        let kind = if self.random.once_in(50) { self.random.pick(&large) } else { self.random.pick(&kinds) };
-        let seed = self.random.next();
-        let line = format!("load 1 strict {}", escaped(&generate(kind, seed).unwrap_or_default()));
-        if line.len() <= MOST_IN_LOAD {
-            self.say(&line);
-            self.repairs.clear();
+        if self.with_tangled && !self.random.once_in(3) {
+            let kinds = ["small", "vias", "tangled", "crossed", "crossed", "crossed", "damaged", "damaged"];
+            self.load_one_of("tangled", &kinds, &["wide", "max", "crossed-max"]);
+        } else {
+            self.load_one_of("strict", &kinds, &large);
         }
         if !self.random.once_in(3) {
             self.say("draw 1");
+        }
+    }
+
+    fn load_one_of(&mut self, way: &str, kinds: &[&str], large: &[&str]) {
+        let kind = if self.random.once_in(50) { self.random.pick(large) } else { self.random.pick(kinds) };
+        let seed = self.random.next();
+        let line = format!("load 1 {way} {}", escaped(&generate(kind, seed).unwrap_or_default()));
+        if line.len() <= MOST_IN_LOAD {
+            self.say(&line);
+            self.repairs.clear();
         }
     }
 
@@ -256,7 +288,7 @@ impl Maker {
     }
 
     fn damage(&mut self) {
-        for Damage { poke, repair } in pokes::damage(&mut self.random, &self.run.sheet) {
+        for Damage { poke, repair } in pokes::damage(&mut self.random, &self.run.sheet, self.with_tangled) {
             self.say(&poke);
             self.repairs.push(repair);
         }
@@ -284,13 +316,13 @@ mod tests {
 
     #[test]
     fn damage_is_repaired() {
-        for seed in 0..300 {
+        for seed in 0..600 {
             let random = &mut Random::new("damage", seed);
             let mut run = Script::new();
-            run.sheet.load(&generate("vias", seed).expect("a kind")).expect("an acceptable plan");
+            run.sheet.load_tangled(&generate("crossed", seed).expect("a kind")).expect("a plan that may be tangled");
             run.sheet.draw().expect("a plan");
             let before = run.sheet.clone();
-            let damage = pokes::damage(random, &run.sheet);
+            let damage = pokes::damage(random, &run.sheet, seed % 2 == 0);
             for Damage { poke, .. } in &damage {
                 assert_eq!(run.answers(poke.as_bytes()), ["ok"], "{poke}");
             }
@@ -301,9 +333,31 @@ mod tests {
         }
     }
 
+    /// Damage that adds a box is none as a whole, and not less is needed.
+    #[test]
+    fn a_plan_that_grows_is_drawn() {
+        let mut run = Script::new();
+        run.sheet.load(&generate("vias", 1).expect("a kind")).expect("an acceptable plan");
+        let damage = pokes::grow(&run.sheet);
+        for Damage { poke, .. } in &damage {
+            assert_eq!(run.answers(poke.as_bytes()), ["ok"], "{poke}");
+        }
+        assert_eq!(run.sheet.clone().draw(), Ok(()));
+        for Damage { repair, .. } in damage.iter().rev().skip(1) {
+            let mut other = run.clone();
+            other.answers(repair.as_bytes());
+            assert_eq!(other.sheet.draw(), Err(crate::refusal::NO_PLAN), "{repair}");
+        }
+    }
+
     #[test]
     fn scripts_meet_every_answer() {
-        let answers = script::answers(scripts(300, 0).as_bytes());
+        meet_every_answer(&scripts(300, 0));
+        meet_every_answer(&tangled_scripts(300, 0));
+    }
+
+    fn meet_every_answer(script: &str) {
+        let answers = script::answers(script.as_bytes());
         let answers = String::from_utf8(answers).expect("ASCII");
         for number in [1, 2, 3, 4, 5, 6, 7, 8, 11, 12, 13, 14] {
             let refused = format!("refused {number}");
@@ -311,6 +365,40 @@ mod tests {
         }
         for start in ["ok", "unknown", "ok empty", "ok loaded ", "ok drawn ", "ok box ", "ok bend ", "ok line "] {
             assert!(answers.lines().any(|line| line.starts_with(start)), "{start}");
+        }
+    }
+
+    /// What commands with that start are answered in scripts.
+    fn answers_to(start: &str, scripts: &str) -> Vec<String> {
+        let mut run = Script::new();
+        let answered = scripts.lines().flat_map(|line| {
+            let answers = run.answers(line.as_bytes());
+            if line.starts_with(start) {
+                answers
+            } else {
+                Vec::new()
+            }
+        });
+        answered.collect()
+    }
+
+    #[test]
+    fn tangled_loads_in_scripts_are_refused_with_1_to_5_only() {
+        let answers = answers_to("load 1 tangled ", &tangled_scripts(300, 0));
+        let count = |answer: &str| answers.iter().filter(|given| *given == answer).count();
+        assert!(count("ok") > 500, "{}", count("ok"));
+        let refused = [1, 2, 3, 4, 5].map(|number| count(&format!("refused {number}")));
+        assert!(refused.iter().all(|&count| count > 10), "{refused:?}");
+        assert_eq!(count("ok") + refused.iter().sum::<usize>(), answers.len());
+    }
+
+    #[test]
+    fn scripts_with_and_without_pokes_of_what_is_remembered() {
+        let (without, with) = (scripts(300, 0), tangled_scripts(300, 0));
+        for start in ["load 1 tangled ", "poke 1 mem ", "poke 1 tangled "] {
+            let done = |scripts| answers_to(start, scripts).iter().filter(|answer| *answer == "ok").count();
+            let (without, with) = (done(&without), done(&with));
+            assert!(without == 0 && with > 20, "{start}: {without} and {with}");
         }
     }
 }

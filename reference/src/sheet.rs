@@ -1,14 +1,18 @@
 //! A sheet and its calls: load, draw, line, mark and clear.
 //!
 //! A refused call changes neither sheet nor buffer. The tests before a line or mark come in the order 11, 12, 13, 7, 14;
-//! of a sheet's drawing nothing is asked before 13 has looked at plan and drawing.
+//! of a sheet's drawing nothing is asked before 13 has looked at plan, remembered numbers and drawing.
+//!
+//! There are two ways of loading: the first refuses crossed inner segments with 6, the second (E1) takes such plans and
+//! rearranges them. After either, lines use the numbers of the text, which are the sheet's own unless vias were rearranged;
+//! marks go by the sheet's own numbers.
 
 use std::fmt::{self, Display};
 
 use crate::marks::{self, Mark};
 use crate::passes::{self, Drawing};
-use crate::plan::Plan;
-use crate::stored::{StoredDrawing, StoredPlan};
+use crate::stored::{StoredDrawing, StoredLoading, StoredPlan};
+use crate::tangled::{self, Loaded};
 use crate::{refusal, report, text, Refusal};
 
 /// The longest report line: 64 boxes of 22 bytes, and 13 more.
@@ -67,6 +71,8 @@ pub struct Sheet {
     pub stage: Stage,
     /// Its plan, if it is not empty.
     pub plan: StoredPlan,
+    /// What it remembers of its loading, if it is not empty.
+    pub loading: StoredLoading,
     /// Its drawing, if it is drawn.
     pub drawing: StoredDrawing,
 }
@@ -74,21 +80,40 @@ pub struct Sheet {
 impl Sheet {
     /// An empty sheet.
     pub fn empty() -> Self {
-        Sheet { stage: Stage::Empty, plan: StoredPlan::empty(), drawing: StoredDrawing::empty() }
+        Sheet {
+            stage: Stage::Empty,
+            plan: StoredPlan::empty(),
+            loading: StoredLoading::empty(),
+            drawing: StoredDrawing::empty(),
+        }
     }
 
-    /// Reads a plan text and replaces whatever was there. Refused with 1 to 6.
-    pub fn load(&mut self, text: &[u8]) -> Result<(), Refusal> {
-        let plan = text::read(text)?;
+    /// A sheet just loaded, by the second way or not.
+    fn of(Loaded { plan, numbers }: &Loaded, tangled: bool) -> Self {
         let (vertices, segments) = (plan.vertices() as u64, plan.segments().len() as u64);
-        let stage = Stage::Loaded { vertices, segments };
-        *self = Sheet { stage, plan: StoredPlan::of(&plan), drawing: StoredDrawing::empty() };
+        Sheet {
+            stage: Stage::Loaded { vertices, segments },
+            plan: StoredPlan::of(plan),
+            loading: StoredLoading::of(tangled, numbers),
+            drawing: StoredDrawing::empty(),
+        }
+    }
+
+    /// Reads a plan text by the first way and replaces whatever was there. Refused with 1 to 6.
+    pub fn load(&mut self, text: &[u8]) -> Result<(), Refusal> {
+        *self = Sheet::of(&Loaded::in_own_numbers(text::read(text)?), false);
+        Ok(())
+    }
+
+    /// The same by the second way, which takes tangled plans. Refused with 1 to 5.
+    pub fn load_tangled(&mut self, text: &[u8]) -> Result<(), Refusal> {
+        *self = Sheet::of(&tangled::read(text)?, true);
         Ok(())
     }
 
     /// Draws the plan, drawn already or not. Refused with 11, 13.
     pub fn draw(&mut self) -> Result<(), Refusal> {
-        let plan = self.loaded()?;
+        let Loaded { plan, .. } = self.loaded()?;
         let drawing = passes::draw(&plan);
         self.stage = Stage::Drawn {
             vertices: plan.vertices() as u64,
@@ -116,31 +141,34 @@ impl Sheet {
 
     /// All report lines, each with its LF. Refused with 11, 12, 13.
     pub fn lines(&self) -> Result<Vec<Vec<u8>>, Refusal> {
-        let (plan, drawing) = self.drawn()?;
-        Ok(report::lines(&plan, &drawing).split_inclusive(|&byte| byte == b'\n').map(<[u8]>::to_vec).collect())
+        let (loaded, drawing) = self.drawn()?;
+        let report = report::remembered_lines(&loaded, &drawing);
+        Ok(report.split_inclusive(|&byte| byte == b'\n').map(<[u8]>::to_vec).collect())
     }
 
     /// All marks. Refused with 11, 12, 13.
     pub fn marks(&self) -> Result<Vec<Mark>, Refusal> {
-        let (plan, drawing) = self.drawn()?;
+        let (Loaded { plan, .. }, drawing) = self.drawn()?;
         Ok(marks::marks(&plan, &drawing))
     }
 
-    /// The plan, after tests 11 and 13 as far as it goes.
-    fn loaded(&self) -> Result<Plan, Refusal> {
+    /// The plan with its remembered numbers, after tests 11 and 13 as far as they go.
+    fn loaded(&self) -> Result<Loaded, Refusal> {
         let (vertices, segments) = self.stage.counts().ok_or(refusal::EMPTY)?;
-        self.plan.plan(vertices, segments).ok_or(refusal::NO_PLAN)
+        let plan = self.plan.plan(vertices, segments).ok_or(refusal::NO_PLAN)?;
+        let numbers = self.loading.numbers(&plan).ok_or(refusal::NO_PLAN)?;
+        Ok(Loaded { plan, numbers })
     }
 
-    /// Plan and drawing, after tests 11, 12 and 13.
-    fn drawn(&self) -> Result<(Plan, Drawing), Refusal> {
+    /// Plan, remembered numbers and drawing, after tests 11, 12 and 13.
+    fn drawn(&self) -> Result<(Loaded, Drawing), Refusal> {
         match self.stage {
             Stage::Empty => Err(refusal::EMPTY),
             Stage::Loaded { .. } => Err(refusal::NOT_DRAWN),
             Stage::Drawn { placings, .. } => {
-                let plan = self.loaded()?;
-                let drawing = self.drawing.drawing(&plan, placings).ok_or(refusal::NO_PLAN)?;
-                Ok((plan, drawing))
+                let loaded = self.loaded()?;
+                let drawing = self.drawing.drawing(&loaded.plan, placings).ok_or(refusal::NO_PLAN)?;
+                Ok((loaded, drawing))
             }
         }
     }

@@ -1,5 +1,5 @@
-//! What a sheet's record holds beside its stage: a plan and a drawing in arrays of fixed length, one entry for each
-//! vertex, segment, placing or listed box that there may be.
+//! What a sheet's record holds beside its stage: a plan, what is remembered of its loading, and a drawing, in arrays of
+//! fixed length, one entry for each vertex, segment, placing or listed box that there may be.
 //!
 //! A record may be handed in, so its contents can be anything. Which entries count is said elsewhere: the stage has the
 //! numbers of vertices, segments and placings, the plan that of levels. What lies beyond is no part of plan or drawing;
@@ -92,6 +92,41 @@ impl StoredPlan {
             vertices: first(&self.vertices, vertices)?.iter().map(vertex).collect::<Option<_>>()?,
             segments: first(&self.segments, segments)?.iter().map(segment).collect::<Option<_>>()?,
         })
+    }
+}
+
+/// What a sheet remembers of its loading (E1).
+#[derive(Clone, Debug, PartialEq, Eq)]
+pub struct StoredLoading {
+    /// Whether the plan was loaded by the second way, which takes tangled plans.
+    pub tangled: bool,
+    /// The number in the text of each vertex.
+    pub numbers: [u64; Plan::MAX_VERTICES],
+}
+
+impl StoredLoading {
+    /// Nothing remembered.
+    pub fn empty() -> Self {
+        StoredLoading { tangled: false, numbers: [0; Plan::MAX_VERTICES] }
+    }
+
+    /// The way and the numbers as loading stores them.
+    pub fn of(tangled: bool, numbers: &[usize]) -> Self {
+        let mut stored = StoredLoading { tangled, ..StoredLoading::empty() };
+        fill(&mut stored.numbers, numbers.iter().map(|&number| number as u64));
+        stored
+    }
+
+    /// The numbers of this plan's vertices. E1: "Remembered numbers that are not each level's own, once each, are refused
+    /// with 13."
+    pub fn numbers(&self, plan: &Plan) -> Option<Vec<usize>> {
+        let numbers: Vec<u64> = self.numbers[..plan.vertices()].to_vec();
+        let own_once_each = |level| {
+            let mut sorted = numbers[plan.level(level)].to_vec();
+            sorted.sort_unstable();
+            plan.level(level).map(|v| v as u64).eq(sorted)
+        };
+        (0..plan.levels()).all(own_once_each).then(|| numbers.iter().map(|&number| number as usize).collect())
     }
 }
 

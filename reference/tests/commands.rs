@@ -56,6 +56,18 @@ fn a_refused_text() {
 }
 
 #[test]
+fn a_tangled_plan() {
+    let crossed = b"(plan 4 1 1)\n(level (box 1))\n(level (via) (via))\n(level (via) (via))\n(level (box 1))\n\
+        (seg 0 1)\n(seg 0 2)\n(seg 1 4)\n(seg 2 3)\n(seg 3 5)\n(seg 4 5)\n(end)\n";
+    prints(&["report"], crossed, b"(refused 6)\n");
+    prints(&["report", "tangled"], crossed, &report::answer_tangled(crossed));
+    assert!(report::answer_tangled(crossed).starts_with(b"(drawing 6 4)\n"));
+    prints(&["report", "tangled"], CASE_1, CASE_1_REPORT);
+    prints(&["report", "tangled"], b"", b"(refused 1)\n");
+    prints(&["report", "tangled"], &[b'('; 100_000], b"(refused 1)\n");
+}
+
+#[test]
 fn a_picture_with_names() {
     let file = env::temp_dir().join(format!("reference-{}.names", process::id()));
     let name = file.to_str().expect("a name");
@@ -138,6 +150,8 @@ fn scripts_and_their_answers() {
     prints(&["script"], b"stage 1\n", b"ok empty\n");
     let (code, scripts) = run(&["scripts", "3", "7"], b"");
     assert_eq!((code, String::from_utf8_lossy(&scripts)), (WELL, reference::scripts::scripts(3, 7).into()));
+    let (code, tangled) = run(&["scripts", "3", "7", "tangled"], b"");
+    assert_eq!((code, String::from_utf8_lossy(&tangled)), (WELL, reference::scripts::tangled_scripts(3, 7).into()));
     let starts: Vec<&[u8]> =
         scripts.split(|&byte| byte == b'\n').filter(|line| line.starts_with(b"# script ")).collect();
     assert_eq!(starts, [b"# script 7", b"# script 8", b"# script 9"]);
@@ -158,11 +172,13 @@ fn scripts_and_their_answers() {
 
 #[test]
 fn wrong_requests() {
-    let wrong: [&[&str]; 25] = [
+    let wrong: [&[&str]; 28] = [
         &[],
         &[""],
         &["draw"],
         &["report", "x"],
+        &["report", "Tangled"],
+        &["report", "tangled", "x"],
         &["gen"],
         &["gen", "small"],
         &["gen", "small", "x"],
@@ -182,6 +198,7 @@ fn wrong_requests() {
         &["script", "x"],
         &["scripts", "1"],
         &["scripts", "1", "x"],
+        &["scripts", "1", "1", "x"],
         &["answers", "."],
         &["answers", "no such folder", "e"],
     ];

@@ -14,7 +14,7 @@ fn scripts() -> Vec<PathBuf> {
 #[test]
 fn answers_are_those_of_the_vectors() {
     let scripts = scripts();
-    assert_eq!(scripts.len(), 20);
+    assert_eq!(scripts.len(), 47);
     for file in scripts {
         let expected = fs::read(file.with_extension("answers")).expect("answers");
         assert!(script::answers(&fs::read(&file).expect("a script")) == expected, "{}", file.display());
@@ -101,6 +101,38 @@ fn every_poke_reaches_its_entry() {
 }
 
 #[test]
+fn a_tangled_load_and_what_it_remembers() {
+    let plan = "(plan 4 1 5)\\n(level (box 1) (box 2))\\n(level (via) (via))\\n(level (via) (via))\\n(level (box 1) (box 2))\\n\
+                (seg 0 2)\\n(seg 1 3)\\n(seg 2 5)\\n(seg 3 4)\\n(seg 4 6)\\n(seg 5 7)\\n(end)\\n";
+    answered(&[
+        (&format!("load 1 strict {plan}"), "refused 6"),
+        ("stage 1", "ok empty"),
+        (&format!("load 1 tangled {plan}"), "ok"),
+        ("stage 1", "ok loaded 8 6"),
+        ("draw 1", "ok"),
+        ("line 1 5", "ok 14 (at 4 1 1 10)"),
+        ("line 1 6", "ok 16 (at 5 -1 -1 10)"),
+        ("mark 1 4", "ok bend -0.5 10"),
+        ("mark 1 5", "ok bend 0.5 10"),
+        ("poke 1 mem 4 4", "ok"),
+        ("line 1 5", "refused 13"),
+        ("line 1 99 0", "refused 13"),
+        ("mark 1 4", "refused 13"),
+        ("draw 1", "refused 13"),
+        ("poke 1 mem 5 5", "ok"),
+        ("line 1 5", "ok 16 (at 4 -1 -1 10)"),
+        ("poke 1 tangled 0", "ok"),
+        ("line 1 5", "ok 16 (at 4 -1 -1 10)"),
+        ("poke 1 tangled 1", "ok"),
+        ("poke 1 mem 8 18446744073709551615", "ok"),
+        ("poke 1 mem 1023 5", "ok"),
+        ("draw 1", "ok"),
+        ("load 1 tangled (end)\\n", "refused 1"),
+        ("stage 1", "ok drawn 8 6 4"),
+    ]);
+}
+
+#[test]
 fn other_lines_change_nothing() {
     let lines = [
         "clear",
@@ -115,7 +147,10 @@ fn other_lines_change_nothing() {
         "load 1 strict",
         "load 1 Strict (end)\\n",
         "load 2 strict (plan 1 1 1)\\n(level (box 1))\\n(end)\\n",
-        "load 1 tangled (plan 1 1 1)\\n(level (box 1))\\n(end)\\n",
+        "load 2 tangled (plan 1 1 1)\\n(level (box 1))\\n(end)\\n",
+        "load 1 tangled",
+        "load 1 Tangled (plan 1 1 1)\\n(level (box 1))\\n(end)\\n",
+        "load 1 tangled (plan 1 1 1)\\n(level (box 1))\\n(end)\\n\\q",
         "load 1 generous (plan 1 1 1)\\n(level (box 1))\\n(end)\\n",
         "load 1 strict (plan 1 1 1)\\n(level (box 1))\\n(end)\\n\\q",
         "line 1 0 1 1",
@@ -138,8 +173,16 @@ fn other_lines_change_nothing() {
         "poke 1 box 2 0 0 0",
         "poke 1 box 2048 0 0 0",
         "poke 1 slope none",
-        "poke 1 mem 0 1",
-        "poke 1 tangled 1",
+        "poke 1 mem 0",
+        "poke 1 mem 0 -1",
+        "poke 1 mem 0 18446744073709551616",
+        "poke 1 mem 1024 0",
+        "poke 1 mem -1 0",
+        "poke 1 tangled",
+        "poke 1 tangled 2",
+        "poke 1 tangled 01",
+        "poke 1 tangled 1 1",
+        "text 1 0",
         "placerun r=1 old=0 counts=0 nbrs= dist= ratings=",
         "placerun r=1 old=0 old=0 counts=0 nbrs= dist=",
         "placerun r=1 old=0, counts=0 nbrs= dist=",
