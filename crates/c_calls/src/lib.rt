@@ -1,44 +1,28 @@
 // The calls for C and Rust: numbers and slices alone.
-use ints::minus;
-use ints::plus;
-use picture_fit::types::PictureAnswer;
+use c_codes::again_code;
+use c_codes::bound;
+use c_codes::code;
+use c_codes::picture_code;
+use c_codes::run_code;
 use picture_text::whole::picture_text;
 use place_run::call::place_run;
-use run::types::Answer;
-use run::types::Bound;
 use script_run::script::answers;
-use sheet::types::LineAnswer;
 use text_report::all_marks::marks_text;
 use text_report::positions::positions_text;
 use text_report::whole::report_text;
-use text_write::again::Rewritten;
 use text_write::again::rewrite;
-ghost use mathlib.Core.Path.{_≡_};
 ghost use Rattle.run.specs.Call.{callOf};
 ghost use Rattle.text.specs.Reading.{reading};
 ghost use Rattle.text_write.specs.Again.{rewritten};
-ghost use Rattle.sheet.specs.Results.{lineResultOf};
 ghost use Rattle.script_run.specs.Scripts.{scriptOf};
 ghost use Rattle.text_report.specs.Marks.{marksOf};
 ghost use Rattle.text_report.specs.Positions.{positionsOf};
 ghost use Rattle.text_report.specs.Texts.{reportOf};
-ghost use Rattle.c_calls.specs.Code.{codeOf, Codes};
-ghost use Rattle.c_calls.specs.inner.Few.{Few};
 ghost use Rattle.picture_text.specs.Text.{pictureIn};
-ghost use Rattle.c_calls.specs.Again as again;
-ghost use Rattle.c_calls.specs.Picture as picture;
-ghost use Rattle.c_calls.specs.Run.{boundOf, Answers};
-
-// What a call answers, as one number.
-fn code(answer: LineAnswer) -> i64
-    requires { ⌜ Few answer ⌝ }
-    ensures { λ r. ⌜ r ≡ codeOf (lineResultOf answer) ⌝ }
-{
-    match answer {
-        LineAnswer::Written(n) => plus(0, n as u64),
-        LineAnswer::Refused(n) => minus(0, n as u64),
-    }
-}
+ghost use Rattle.c_codes.specs.Code.{Codes};
+ghost use Rattle.c_codes.specs.Again as again;
+ghost use Rattle.c_codes.specs.Picture as picture;
+ghost use Rattle.c_codes.specs.Run.{boundOf, Answers};
 
 // How many bytes all report lines of the text's plan have, which are at the front of the buffer; -N if the text is refused with N,
 // -14 if the buffer is shorter than the lines. Where it is negative the buffer stays as it is.
@@ -77,11 +61,7 @@ pub extern "C" fn reread_c(text: &[u8], out: &mut [u8]) -> i64
     ensures { λ r. ⌜ again.Codes (rewritten (reading (now (text .entry))) (now (out .entry))) r (now (out .exit)) ⌝ }
 {
     let answer = rewrite(text, out);
-    match answer {
-        Rewritten::Written(n) => plus(0, n as u64),
-        Rewritten::Refused(n) => minus(0, n as u64),
-        Rewritten::Short => minus(0, 14),
-    }
+    again_code(answer)
 }
 
 // How many bytes the picture of the text's plan has, its boxes named by a text of names, which is at the front of the buffer; -N if the text
@@ -92,11 +72,7 @@ pub extern "C" fn picture_c(text: &[u8], names: &[u8], out: &mut [u8]) -> i64
     ensures { λ r. ⌜ picture.Codes (pictureIn (reading (now (text .entry))) (now (names .entry)) (now (out .entry))) r (now (out .exit)) ⌝ }
 {
     let answer = picture_text(text, names, out);
-    match answer {
-        PictureAnswer::Written(n) => plus(0, n as u64),
-        PictureAnswer::Refused(n) => minus(0, n as u64),
-        PictureAnswer::BadNames(line) => minus(0, 100 + line as u64),
-    }
+    picture_code(answer)
 }
 
 // How many bytes the answers to a script's commands have, which are at the front of the buffer; -14 if the buffer is shorter than the
@@ -133,7 +109,7 @@ pub extern "C" fn place_run_c(
       neighbours = now (neighbours .entry);
     }) (now (answer .entry))) n (now (answer .exit)) ⌝ }
 {
-    let outcome = place_run(
+    let answered = place_run(
         r,
         bound(has_left, left),
         bound(has_right, right),
@@ -143,18 +119,5 @@ pub extern "C" fn place_run_c(
         neighbours,
         answer,
     );
-    match outcome {
-        Answer::Accepted => 0,
-        Answer::Refused => 8,
-    }
-}
-
-fn bound(flag: u32, value: i64) -> Bound
-    ensures { λ r. ⌜ r ≡ boundOf flag value ⌝ }
-{
-    if flag == 0 {
-        Bound::Free
-    } else {
-        Bound::At(value)
-    }
+    run_code(answered)
 }

@@ -1,6 +1,7 @@
 pub mod FrontLaws
 pub mod Laws
 pub mod Lists
+pub mod Members
 pub mod Reach
 pub mod Refusals
 pub mod Tests

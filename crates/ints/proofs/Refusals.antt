@@ -168,3 +168,26 @@ module _ (m : ℕ) where
   unfolding isFirst
   first-early [] ys h = first-never ys h
   first-early (x ∷ xs) ys h = rw (first-early xs ys h)
+
+-- ---- one more test at the end: where it is the first that refuses none before it does, and other numbers are found as before
+module _ (t : Test) where
+  pub last-first : (ts : List Test) → lacks (t .number) ts ≡ true → isFirst (t .number) (ts ++ (t ∷ [])) ≡ true → noneRefuses ts ≡ true
+  unfolding isFirst noneRefuses
+  last-first [] l e = refl
+  last-first (x ∷ ts) l e =
+      let n = not-first (eqb (x .number) (t .number)) (lacks (t .number) ts) l in
+      by (x .refuses) (n .0) e (last-first ts (n .1))
+    where
+      by : (b : Bool) → eqb (x .number) (t .number) ≡ false → cond b (eqb (x .number) (t .number)) (isFirst (t .number) (ts ++ (t ∷ []))) ≡ true
+          → (isFirst (t .number) (ts ++ (t ∷ [])) ≡ true → noneRefuses ts ≡ true) → cond b false (noneRefuses ts) ≡ true
+      by true n e later = absurd (false≢true (sym n ∙ e))
+      by false n e later = later e
+
+  pub last-other : (m : ℕ) → eqb (t .number) m ≡ false → (ts : List Test) → isFirst m (ts ++ (t ∷ [])) ≡ isFirst m ts
+  unfolding isFirst
+  last-other m n [] = by (t .refuses)
+    where
+      by : (b : Bool) → cond b (eqb (t .number) m) false ≡ false
+      by true = n
+      by false = refl
+  last-other m n (x ∷ ts) = rw (last-other m n ts)

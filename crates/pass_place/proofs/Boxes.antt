@@ -6,11 +6,10 @@ use native.Mathlib.Omega.{arith}
 use lib.ListN.{length, getD, take, drop}
 use lib.Seq.{drop-cons, drop-drop, take-take, getD-drop}
 use lib.IntN.{ℤ, pos}
-use Rattle.ints.specs.Lists.{sum}
+use Rattle.ints.specs.Lists.{sum, countOf}
 use Rattle.ints.proofs.Lists.{drop-take, map-take, map-drop}
 use Rattle.run.specs.Run.{Box}
 use Rattle.plan.specs.Plan.{PlanData, numbers}
-use Rattle.plan.specs.inner.Graph.{countOf}
 use Rattle.passes.specs.State.{State, positionOf}
 use Rattle.passes.specs.Ready.{preceding}
 use Rattle.passes.specs.Passes.{boxesAt}

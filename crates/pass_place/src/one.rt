@@ -101,74 +101,7 @@ fn place_near(
     );
 }
 
-// The same of boxes with few neighbours in all, as most runs have: less space to clear.
-fn place_few(
-    left: Bound,
-    right: Bound,
-    distances: &[u64],
-    from: usize,
-    end: usize,
-    first: &[u16],
-    ends: &[u32],
-    at: &[i64],
-    answer: &mut [i64],
-)
-    ghost { Request }
-    requires { λ q. ⌜ asked left right (now distances) from end (now first) (now ends) (now at) ≡ q ⌝ }
-    requires { λ q. ⌜ Rowed from end (now first) (now ends) (now at) ⌝ }
-    requires { λ q. ⌜ isTaken q (now answer) ≡ true ⌝ }
-    requires { λ q. ⌜ rowsLong from end (now first) ≤ 64 ⌝ }
-    ensures { λ q _. ⌜ now (answer .exit) ≡ placedOf q ⌝ }
-{
-    let mut near = [0i64; FEW];
-    place_near(
-        left,
-        right,
-        distances,
-        from,
-        end,
-        first,
-        ends,
-        at,
-        &mut near,
-        answer,
-    );
-}
-
-// The same of boxes with any number of neighbours.
-fn place_many(
-    left: Bound,
-    right: Bound,
-    distances: &[u64],
-    from: usize,
-    end: usize,
-    first: &[u16],
-    ends: &[u32],
-    at: &[i64],
-    answer: &mut [i64],
-)
-    ghost { Request }
-    requires { λ q. ⌜ asked left right (now distances) from end (now first) (now ends) (now at) ≡ q ⌝ }
-    requires { λ q. ⌜ Rowed from end (now first) (now ends) (now at) ⌝ }
-    requires { λ q. ⌜ isTaken q (now answer) ≡ true ⌝ }
-    ensures { λ q _. ⌜ now (answer .exit) ≡ placedOf q ⌝ }
-{
-    let mut near = [0i64; MAX_NEIGHBOURS];
-    place_near(
-        left,
-        right,
-        distances,
-        from,
-        end,
-        first,
-        ends,
-        at,
-        &mut near,
-        answer,
-    );
-}
-
-// The same, with as much working space as the neighbours ask for.
+// The same, with as much working space as the neighbours ask for, since most runs have few, and none where there are no boxes.
 fn place_boxes(
     left: Bound,
     right: Bound,
@@ -186,11 +119,38 @@ fn place_boxes(
     requires { λ q. ⌜ isTaken q (now answer) ≡ true ⌝ }
     ensures { λ q _. ⌜ now (answer .exit) ≡ placedOf q ⌝ }
 {
-    if wide(first[end]) - wide(first[from]) <= FEW {
-        place_few(left, right, distances, from, end, first, ends, at, answer);
+    if from == end {
         return;
     }
-    place_many(left, right, distances, from, end, first, ends, at, answer);
+    if wide(first[end]) - wide(first[from]) <= FEW {
+        let mut near = [0i64; FEW];
+        place_near(
+            left,
+            right,
+            distances,
+            from,
+            end,
+            first,
+            ends,
+            at,
+            &mut near,
+            answer,
+        );
+        return;
+    }
+    let mut near = [0i64; MAX_NEIGHBOURS];
+    place_near(
+        left,
+        right,
+        distances,
+        from,
+        end,
+        first,
+        ends,
+        at,
+        &mut near,
+        answer,
+    );
 }
 
 // Whether a via stands on both sides.

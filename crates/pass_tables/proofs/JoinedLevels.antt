@@ -15,7 +15,8 @@ use Rattle.plan.specs.Plan.{PlanData, isVia, levelOf}
 use Rattle.plan.specs.Segments.{Segment, segmentsOf, aboveIn, belowIn, above, below, isInner, innerIn, innerSegments}
 use Rattle.plan.specs.Acceptable.{acceptable}
 use Rattle.plan.specs.inner.Graph.{segment}
-use Rattle.plan.proofs.Sound.{Mem, mem-above, mem-below, Joined as Segmented, sound as sound-plan}
+use Rattle.ints.specs.inner.Members.{Mem}
+use Rattle.plan.proofs.Sound.{mem-above, mem-below, Joined as Segmented, sound as sound-plan}
 use Rattle.ints.proofs.Tests.{_and_}
 use Rattle.passes.specs.Ready.{preceding, firstVia, joinedVia}
 use Rattle.plan.specs.inner.Levels.{firstOn, sizeOn, On, HasLevel}

@@ -13,7 +13,7 @@ use lib.Seq.{getD-take, getD-drop}
 use Rattle.ints.proofs.Laws.{if-ind}
 use Rattle.plan.specs.Plan.{PlanData, isVia}
 use Rattle.plan.specs.Segments.{segmentsFrom, segmentsOf, aboveIn, belowIn, above, below}
-use Rattle.plan.specs.inner.Graph.{countOf}
+use Rattle.ints.specs.Lists.{countOf}
 use Rattle.plan.proofs.CountLaws.{by-same, count-same, count-other, count-none}
 use Rattle.passes.specs.Ready.{preceding, firstVia, joinedVia}
 use Rattle.passes.proofs.Sound.{Sound}

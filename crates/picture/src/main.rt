@@ -2,7 +2,7 @@
 // has the names of boxes.
 use libc::STDIN_FILENO;
 use libc::STDOUT_FILENO;
-use picture_fit::fit::MAX_PICTURE;
+use picture_fit::fit::blank;
 use picture_text::print::print;
 
 // One byte more than names may have, so that a longer file is refused as too long.
@@ -43,7 +43,7 @@ fn read_names(names: &mut [u8]) -> usize {
 // Prints the picture, or what was refused.
 fn draw(names: &[u8]) {
     let mut text = [0u8; 65537];
-    let mut out = [0u8; MAX_PICTURE];
+    let mut out = blank();
     let n = io::read_full(STDIN_FILENO, &mut text);
     let m = print(&text[..n], names, &mut out);
     io::write_all(STDOUT_FILENO, &out[..m]);

@@ -5,9 +5,10 @@ use text_write::number::put_word;
 ghost use Prim.Native.Nat.{_≤_};
 ghost use mathlib.Core.List.{map};
 ghost use lib.ListN.{length};
+ghost use Rattle.plan.specs.inner.Held.{heldPlan};
 ghost use Rattle.ints.specs.Lists.{sum};
 ghost use Rattle.picture_marks.specs.Picture.{pictureOf};
-ghost use Rattle.picture_marks.specs.inner.Asked.{heldPlan, namesIn, PictureAsked};
+ghost use Rattle.picture_marks.specs.inner.Asked.{namesIn, PictureAsked};
 ghost use Rattle.picture_fit.specs.Fitted.{fitted, Leaves};
 
 // No picture is longer.
@@ -23,45 +24,13 @@ fn fit(text: &[u8], out: &mut [u8]) -> PictureAnswer
     PictureAnswer::Written(put_word(out, 0, text))
 }
 
-// The picture of a plan and a drawing that lie in slices: made in a buffer of its own, and copied.
-fn picture_copied(
-    gap: u32,
-    spacing: u32,
-    sizes: &[u16],
-    vias: &[bool],
-    halves: &[u16],
-    uppers: &[u32],
-    lowers: &[u32],
-    finals: &[i64],
-    names: &[u8],
-    starts: &[u32],
-    ends: &[u32],
-    out: &mut [u8],
-) -> PictureAnswer
-    requires { ⌜ PictureAsked (heldPlan gap spacing (now sizes) (now vias) (now halves) (now uppers) (now lowers)) (now finals) (now names) (now starts) (now ends)
-        × (sum (map length (namesIn (now names) (now starts) (now ends) (length (now vias)))) ≤ 65536) ⌝ }
-    ensures { λ r. ⌜ Leaves (fitted (pictureOf (heldPlan gap spacing (now (sizes .entry)) (now (vias .entry)) (now (halves .entry)) (now (uppers .entry)) (now (lowers .entry)))
-        (now (finals .entry)) (namesIn (now (names .entry)) (now (starts .entry)) (now (ends .entry)) (length (now (vias .entry))))) (now (out .entry))) r (now (out .exit)) ⌝ }
-{
-    let mut room = [0u8; MAX_PICTURE];
-    let length = put_picture(
-        gap,
-        spacing,
-        sizes,
-        vias,
-        halves,
-        uppers,
-        lowers,
-        finals,
-        names,
-        starts,
-        ends,
-        &mut room,
-    );
-    fit(&room[..length], out)
+// A buffer that has room for every picture.
+pub fn blank() -> [u8; MAX_PICTURE] {
+    [0u8; MAX_PICTURE]
 }
 
-// The same, made in the lent buffer itself where that has room for every picture.
+// The picture of a plan and a drawing that lie in slices: made in the lent buffer itself where that has room for every picture, else in
+// a buffer of its own, and copied.
 pub fn fit_picture(
     gap: u32,
     spacing: u32,
@@ -82,7 +51,8 @@ pub fn fit_picture(
         (now (finals .entry)) (namesIn (now (names .entry)) (now (starts .entry)) (now (ends .entry)) (length (now (vias .entry))))) (now (out .entry))) r (now (out .exit)) ⌝ }
 {
     if out.len() < MAX_PICTURE {
-        return picture_copied(
+        let mut room = blank();
+        let length = put_picture(
             gap,
             spacing,
             sizes,
@@ -94,8 +64,9 @@ pub fn fit_picture(
             names,
             starts,
             ends,
-            out,
+            &mut room,
         );
+        return fit(&room[..length], out);
     }
     PictureAnswer::Written(put_picture(
         gap,

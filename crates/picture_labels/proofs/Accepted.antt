@@ -5,11 +5,12 @@ use mathlib.Core.List.{List, [], _∷_, map}
 use Prim.Native.Nat.{ℕ, _≤_, _<_, min, max}
 use native.Mathlib.Omega.{arith}
 use borrow.Author.Tests.{le-leb, lt-leb, ne-eqb}
+use Rattle.ints.specs.Lists.{greatest}
 use Rattle.ints.proofs.Laws.{cases}
 use Rattle.script_words.specs.Parts.{parts, onto}
 use Rattle.picture_names.specs.Chars.{begun, seenMore, seenAfter, isWhole, isName}
 use Rattle.picture_names.specs.declared.types.Seen.the-variants.{Bad}
-use Rattle.picture_rows.specs.Rows.{columnsOf, columns, greatest, widest}
+use Rattle.picture_rows.specs.Rows.{columnsOf, columns, widest}
 use Rattle.picture_rows.proofs.ColumnLaws.{col-ascii, col-two, col-more, columns-append, columns-one}
 
 bad-stays : (s : List ℕ) → seenAfter Bad s ≡ Bad

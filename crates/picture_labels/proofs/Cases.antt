@@ -2,13 +2,13 @@
 use mathlib.Core.Path.{_≡_, refl}
 use mathlib.Core.List.{[], _++_}
 use lib.IntN.{pos, negsuc}
-use Rattle.ints.specs.Lists.{sum}
+use Rattle.ints.specs.Lists.{sum, greatest}
 use Rattle.text.specs.Bytes.{bytes}
 use Rattle.text.specs.Decimal.{decimal, digits}
 use Rattle.script_words.specs.Parts.{parts}
 use Rattle.picture_numbers.specs.Thousandths.{places, fraction, amount, thousandths, across, down}
 use Rattle.picture_rows.specs.Escape.{escapedByte, escaped}
-use Rattle.picture_rows.specs.Rows.{columnsOf, columns, greatest, widest, lastOf, longest, cutEnd, rows}
+use Rattle.picture_rows.specs.Rows.{columnsOf, columns, widest, lastOf, longest, cutEnd, rows}
 use Rattle.picture_labels.specs.Label.{offset, startOf, elementOf, sign, elements, numberSize, nameSize, rowsOf, labelOf}
 
 -- all that a label rests on

@@ -4,9 +4,10 @@ use picture_view::bounds::measure;
 use plan::data::Plan;
 use plan_checks::levels::heights;
 ghost use lib.ListN.{length};
+ghost use Rattle.plan.specs.inner.Held.{heldPlan};
 ghost use Rattle.text_write.specs.inner.Written.{Room, Wrote};
 ghost use Rattle.picture_marks.specs.Picture.{pictureOf};
-ghost use Rattle.picture_marks.specs.inner.Asked.{heldPlan, namesIn, PictureAsked};
+ghost use Rattle.picture_marks.specs.inner.Asked.{namesIn, PictureAsked};
 
 // Writes the whole document at the front of a lent buffer, and answers its length. The name of vertex v is the part of `names` from
 // `starts[v]` to `ends[v]`.

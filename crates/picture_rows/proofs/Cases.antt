@@ -2,11 +2,11 @@
 use mathlib.Core.Path.{_≡_, refl}
 use mathlib.Core.Bool.{true, false}
 use mathlib.Core.List.{[], _∷_}
-use Rattle.ints.specs.Lists.{sum}
+use Rattle.ints.specs.Lists.{sum, greatest}
 use Rattle.text.specs.Bytes.{bytes}
 use Rattle.script_words.specs.Parts.{parts}
 use Rattle.picture_rows.specs.Escape.{escapedByte, escaped}
-use Rattle.picture_rows.specs.Rows.{columnsOf, columns, greatest, widest, lastOf, longest, cutEnd, row, rows}
+use Rattle.picture_rows.specs.Rows.{columnsOf, columns, widest, lastOf, longest, cutEnd, row, rows}
 
 pub named : (
     rows 3 3 (bytes "Tea")

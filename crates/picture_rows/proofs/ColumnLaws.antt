@@ -9,10 +9,10 @@ use borrow.Author.Tests.{lt-ltb, le-ltb, eq-eqb, ne-eqb, eqb-true, eqb-false}
 use lib.Dec.{eqb}
 use lib.ListN.{length, getD, take, drop, drop-of-length-le}
 use lib.Seq.{drop-cons, take-suc}
-use Rattle.ints.specs.Lists.{sum}
+use Rattle.ints.specs.Lists.{sum, greatest}
 use Rattle.ints.proofs.Tests.{test}
 use Rattle.script_words.specs.Parts.{parts, onto}
-use Rattle.picture_rows.specs.Rows.{columnsOf, columns, greatest, widest}
+use Rattle.picture_rows.specs.Rows.{columnsOf, columns, widest}
 
 module _ (b : ℕ) where
   pub col-ascii : b < 0x80 → columnsOf b ≡ 1

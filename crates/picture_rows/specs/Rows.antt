@@ -1,10 +1,10 @@
 -- A name in rows of whole words, filled one after another.
 use mathlib.Core.Bool.{Bool, true, false, cond, _&&_}
 use mathlib.Core.List.{List, [], _∷_, map}
-use Prim.Native.Nat.{ℕ, zero, suc, _-_, max}
+use Prim.Native.Nat.{ℕ, zero, suc, _-_}
 use lib.Dec.{ltb, leb, eqb}
 use lib.ListN.{length, getD, take, drop}
-use Rattle.ints.specs.Lists.{sum}
+use Rattle.ints.specs.Lists.{sum, greatest}
 use Rattle.script_words.specs.Parts.{words, wordAt}
 
 -- Columns of a byte: 0 for a byte that continues a character, 2 for the first byte of a character from U+0800 on.
@@ -13,10 +13,6 @@ columnsOf b = cond (ltb b 0x80) 1 (cond (ltb b 0xC0) 0 (cond (ltb b 0xE0) 1 2))
 
 unfoldable pub columns : List ℕ → ℕ
 columns s = sum (map columnsOf s)
-
-unfoldable pub greatest : List ℕ → ℕ
-greatest [] = 0
-greatest (n ∷ ns) = max n (greatest ns)
 
 -- The columns of the widest word.
 unfoldable pub widest : List ℕ → ℕ

@@ -10,6 +10,7 @@ use lib.ListN.{length, getD, drop, drop-of-length-le}
 use lib.Seq.{drop-cons}
 use lib.IntN.{ℤ, pos}
 use lib.Signed.{ltZ}
+use Rattle.ints.specs.Lists.{greatest}
 use Rattle.ints.specs.Ints.{size, _⊑_, minZ, maxZ}
 use Rattle.ints.specs.Reach.{reach, allWithin}
 use mir.Syntax.{w64}
@@ -18,7 +19,7 @@ use Rattle.ints.proofs.Laws.{back, fit-make, sum, dif, least, most}
 use Rattle.ints.proofs.Reach.{within-at}
 use Rattle.plan.specs.Plan.{numbers}
 use Rattle.passes.specs.State.{positionOf}
-use Rattle.picture_view.specs.Measure.{greatest, leftEdge, rightEdge, leastOf, mostOf, leftmost, rightmost}
+use Rattle.picture_view.specs.Measure.{leftEdge, rightEdge, leastOf, mostOf, leftmost, rightmost}
 
 -- ---- the greatest half-width
 module _ (ns : List ℕ) (i : ℕ) where

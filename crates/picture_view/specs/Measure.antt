@@ -1,16 +1,12 @@
 -- The measure of a drawing, by which its parts are sized, and how far it reaches to the left and to the right.
 use mathlib.Core.List.{List, [], _∷_, map}
-use Prim.Native.Nat.{ℕ, _+_, _*_, min, max}
+use Prim.Native.Nat.{ℕ, _+_, _*_, min}
 use lib.ListN.{length, getD}
 use lib.IntN.{ℤ, pos, _+ℤ_, _-ℤ_}
+use Rattle.ints.specs.Lists.{greatest}
 use Rattle.ints.specs.Ints.{minZ, maxZ}
 use Rattle.plan.specs.Plan.{PlanData, numbers}
 use Rattle.passes.specs.State.{positionOf}
-
--- The greatest number of a list; 0 if there is none.
-unfoldable pub greatest : List ℕ → ℕ
-greatest [] = 0
-greatest (n ∷ ns) = max n (greatest ns)
 
 -- "u = the lesser of S and G + 2 W, in steps; W the greatest half-width".
 unfoldable pub measure : PlanData → ℕ

@@ -6,9 +6,10 @@ use ints::plus;
 ghost use mathlib.Core.Path.{_≡_};
 ghost use Prim.Native.Nat.{_+_, _*_, _≤_, min, max};
 ghost use lib.IntN.{pos, _+ℤ_, _-ℤ_};
+ghost use Rattle.ints.specs.Lists.{greatest};
 ghost use Rattle.ints.specs.Ints.{size};
 ghost use Rattle.ints.specs.Reach.{reach};
-ghost use Rattle.picture_view.specs.Measure.{greatest, leftmost, rightmost};
+ghost use Rattle.picture_view.specs.Measure.{leftmost, rightmost};
 ghost use Rattle.picture_view.specs.inner.Edges.{Edged};
 
 fn wider(a: u16, b: u16) -> u16

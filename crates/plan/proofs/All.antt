@@ -7,7 +7,7 @@ use Prim.Native.Nat.{ℕ, zero, suc, _<_}
 use native.Mathlib.Omega.{arith}
 use lib.ListN.{length, getD, take, drop}
 use Rattle.plan.specs.Checks.{every}
-use Rattle.plan.proofs.Sound.{Mem}
+use Rattle.ints.specs.inner.Members.{Mem}
 
 pub no-true : {G : Type 0} → false ≡ true → G
 no-true e = absurd (subst (λ (t : Bool). cond t ⊥ (Unit {0})) e tt)

@@ -9,10 +9,11 @@ use borrow.Author.Tests.{eqb-true, eqb-false, eq-eqb, ne-eqb}
 use lib.Dec.{eqb}
 use lib.ListN.{length, getD, drop, set, replicate, length-set, length-replicate, getD-replicate, drop-of-length-le}
 use lib.Seq.{drop-cons, getD-set-same, getD-set-other}
+use Rattle.ints.specs.Lists.{countIf, countOf}
 use Rattle.plan.specs.Plan.{numbers}
 use Rattle.plan.specs.Segments.{segmentsFrom, segmentsOf, aboveIn, belowIn}
 use Rattle.plan.specs.Checks.{every, isThrough, check5}
-use Rattle.plan.specs.inner.Graph.{graphOf, countOf, Counted, through}
+use Rattle.plan.specs.inner.Graph.{graphOf, Counted, through}
 
 -- whether two numbers are the same
 pub by-same : (a b : ℕ) {G : Type 0} → (a ≡ b → G) → ((a ≡ b → ⊥) → G) → G
@@ -25,15 +26,15 @@ by-same a b {G} f g = go (eqb a b) refl
 -- ---- countOf
 module _ (v x : ℕ) (xs : List ℕ) where
   pub count-same : x ≡ v → countOf v (x ∷ xs) ≡ suc (countOf v xs)
-  unfolding countOf
+  unfolding countOf countIf
   count-same h = rw (eq-eqb x v h)
 
   pub count-other : (x ≡ v → ⊥) → countOf v (x ∷ xs) ≡ countOf v xs
-  unfolding countOf
+  unfolding countOf countIf
   count-other h = rw (ne-eqb x v h)
 
 pub count-none : (v : ℕ) → countOf v [] ≡ 0
-unfolding countOf
+unfolding countOf countIf
 count-none v = refl
 
 pub count-le : (v : ℕ) (xs : List ℕ) → countOf v xs ≤ length xs

@@ -4,7 +4,7 @@ use mathlib.Core.Bool.{Bool, true, false, false≢true, true≢false}
 use mathlib.Core.List.{List, [], _∷_}
 use Prim.Native.Nat.{ℕ, zero, suc, _≤_, _<_}
 use native.Mathlib.Omega.{arith}
-use borrow.Author.Tests.{leb-true, eqb-true}
+use borrow.Author.Tests.{leb-true, le-leb, eqb-true, eq-eqb}
 use lib.Dec.{leb, eqb}
 use lib.ListN.{length, getD, List·getD-eq-default}
 use Rattle.ints.proofs.Laws.{cases}
@@ -14,7 +14,7 @@ use Rattle.plan.specs.Limits.{within, maxLevels, maxGap, maxSpacing, max
 use Rattle.plan.specs.Checks.{every}
 use Rattle.plan.specs.inner.Graph.{InLimits}
 use Rattle.plan.specs.Acceptable.{halfHolds, halvesHold, limitsHold}
-use Rattle.ints.proofs.Tests.{and-left, and-right, cond-left, cond-right, conj-at}
+use Rattle.ints.proofs.Tests.{and-left, and-right, cond-left, cond-right, conj-at, _and_}
 
 -- ---- test by test
 pub record LimitTests (p : PlanData) : Type 0 where
@@ -53,6 +53,14 @@ limit-tests p h =
       ends = eqb-true (length (p .lowers)) (length (p .uppers)) (test 8);
       segments = leb-true (length (p .uppers)) maxSegments (test 9);
     }
+
+pub limits-hold : (p : PlanData) → LimitTests p → limitsHold p ≡ true
+unfolding limitsHold
+limits-hold p h =
+    h .levels and h .gap and h .spacing
+    and eq-eqb (length (p .sizes)) (p .levels) (h .counted) and h .sizes and eq-eqb (sum (p .sizes)) (vertexCount p) (h .summed)
+    and le-leb (vertexCount p) maxVertices (h .vertices) and h .halves
+    and eq-eqb (length (p .lowers)) (length (p .uppers)) (h .ends) and le-leb (length (p .uppers)) maxSegments (h .segments)
 
 -- ---- as plain facts
 pub within-least : (lo hi n : ℕ) → within lo hi n ≡ true → lo ≤ n

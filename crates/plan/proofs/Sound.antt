@@ -9,6 +9,7 @@ use lib.Dec.{ltb, eqb}
 use lib.ListN.{length}
 use borrow.Author.Tests.{ltb-true, eqb-true, lt-ltb, eq-eqb, not-true}
 use Rattle.ints.specs.Refusals.{noneRefuses}
+use Rattle.ints.specs.inner.Members.{Mem}
 use Rattle.ints.proofs.Laws.{if-ind, cases}
 use Rattle.plan.specs.Plan.{PlanData, vertexCount, isVia, distance, numbers, levelOf}
 use Rattle.plan.specs.Segments.{Segment, segmentsOf, aboveIn, belowIn, isInner, innerIn, innerSegments}
@@ -19,11 +20,7 @@ use Rattle.ints.proofs.Tests.{and-left, and-right, cond-left, cond-right}
 use Rattle.plan.proofs.LimitLaws.{Limits, limits}
 use Rattle.plan.proofs.GraphLaws.{within-of, checked, same-3}
 
--- ---- members of a list
-abbrev pub Mem : {A : Type 0} → A → List A → Type 0
-Mem x [] = ⊥
-Mem x (y ∷ ys) = (x ≡ y) ⊎ Mem x ys
-
+-- ---- tests of members
 or-left : (a b : Bool) → cond a true b ≡ false → a ≡ false
 or-left true b e = e
 or-left false b e = refl
@@ -92,7 +89,7 @@ module _ (p : PlanData) where
     pub lower-in : s .lower < vertexCount p
     pub one-down : levelOf p (s .lower) ≡ levelOf p (s .upper) + 1
 
-  inner-in : (ss : List Segment) (s : Segment) → Mem s (innerIn p ss) → Mem s ss × (isInner p s ≡ true)
+  pub inner-in : (ss : List Segment) (s : Segment) → Mem s (innerIn p ss) → Mem s ss × (isInner p s ≡ true)
   unfolding innerIn
   inner-in [] s m = absurd m
   inner-in (t ∷ ss) s m = if-ind (isInner p t) (t ∷ innerIn p ss) (innerIn p ss) (λ l. Mem s l → Mem s (t ∷ ss) × (isInner p s ≡ true))
@@ -154,7 +151,7 @@ pub record Sound (p : PlanData) : Type 0 where
   -- and do not cross
   pub uncrossed : (s t : Segment) → Mem s (innerSegments p) → Mem t (innerSegments p) → levelOf p (s .upper) ≡ levelOf p (t .upper) → s .upper < t .upper → s .lower ≤ t .lower
 
-goes : (p : PlanData) → check3 p ≡ true → (s : Segment) → Mem s (segmentsOf p) → Down p s
+pub goes : (p : PlanData) → check3 p ≡ true → (s : Segment) → Mem s (segmentsOf p) → Down p s
 unfolding check3
 goes p c s m =
     let e = every-in (goesOneDown p) (segmentsOf p) s c m in
@@ -166,7 +163,7 @@ goes p c s m =
       one-down = eqb-true (levelOf p (s .lower)) (levelOf p (s .upper) + 1) (and-right (up && low) one e);
     }
 
-one-each : (p : PlanData) → check5 p ≡ true → (v : ℕ) → v < vertexCount p → isVia p v ≡ true → (length (aboveIn (segmentsOf p) v) ≡ 1) × (length (belowIn (segmentsOf p) v) ≡ 1)
+pub one-each : (p : PlanData) → check5 p ≡ true → (v : ℕ) → v < vertexCount p → isVia p v ≡ true → (length (aboveIn (segmentsOf p) v) ≡ 1) × (length (belowIn (segmentsOf p) v) ≡ 1)
 unfolding check5 isThrough
 one-each p c v h i =
     let a = length (aboveIn (segmentsOf p) v) in let b = length (belowIn (segmentsOf p) v) in

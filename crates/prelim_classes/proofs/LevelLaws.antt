@@ -3,14 +3,17 @@
 use Prim.Native.Nat.{ℕ, suc, _+_, _-_, _<_, _≤_}
 use mathlib.Core.Path.{_≡_, refl, sym, _∙_, ap}
 use mathlib.Core.Bool.{Bool, true, false}
-use mathlib.Core.List.{List, [], _∷_, _++_, map, reverse, append-assoc, append-nil}
+use mathlib.Core.Logic.{inl, inr}
+use mathlib.Core.List.{List, [], _∷_, _++_, map, reverse, reverse-cons, append-assoc, append-nil}
 use native.Mathlib.Omega.{arith}
 use native.Mathlib.Numerals.{add-one}
 use borrow.Author.Tests.{lt-ltb, le-ltb}
 use lib.ListN.{length, getD, take, drop, length-append, drop-of-length-le, List·getD-append}
 use lib.Seq.{drop-cons, sets, sets-eq, length-sets, length-take-le, take-at, drop-at, take-all, getD-append-add}
+use Rattle.ints.specs.inner.Members.{Mem}
 use Rattle.ints.proofs.Laws.{cases}
 use Rattle.plan.specs.Plan.{numbers, levelsFrom, Siblings, pairsOn, siblingsOf}
+use Rattle.plan.proofs.Sound.{mem-left, mem-right, mem-numbers}
 use Rattle.ints.specs.Lists.{sum}
 use Rattle.prelim_classes.specs.inner.Walks.{cut}
 use Rattle.prelim_classes.specs.inner.Links.{pairsBy}
@@ -136,6 +139,35 @@ joined-below reversed v (n ∷ ns) m h i k =
     (λ o. let z : i ≡ length lev + (i - n) = omega (arith, long) in
     rw (z, getD-append-add lev rest (i - n) 0) (joined-below reversed (v + n) ns m (omega arith) (i - n) (omega arith)))
     (λ o. rw (List·getD-append lev rest 0 i (omega (arith, long))) (level-below reversed v n m (omega arith) i o))
+
+-- every vertex has a place
+mem-reverse : (xs : List ℕ) (v : ℕ) → Mem v xs → Mem v (reverse xs)
+mem-reverse [] v m = absurd m
+mem-reverse (x ∷ xs) v (inl e) = rw (reverse-cons x xs) (mem-right (reverse xs) (x ∷ []) v (inl e))
+mem-reverse (x ∷ xs) v (inr m) = rw (reverse-cons x xs) (mem-left (reverse xs) (x ∷ []) v (mem-reverse xs v m))
+
+level-mem : (reversed : Bool) (v n w : ℕ) → v ≤ w → w < v + n → Mem w (levelBy reversed v n)
+level-mem true v n w h k = mem-reverse (numbers v n) w (mem-numbers v n w h k)
+level-mem false v n w h k = mem-numbers v n w h k
+
+pub joined-mem : (reversed : Bool) (v : ℕ) (sizes : List ℕ) (w : ℕ) → v ≤ w → w < v + sum sizes → Mem w (joined (levelsBy reversed v sizes))
+unfolding levelsBy joined sum
+joined-mem reversed v [] w h k = absurd (omega arith)
+joined-mem reversed v (n ∷ ns) w h k =
+    let lev = levelBy reversed v n in
+    let rest = joined (levelsBy reversed (v + n) ns) in
+    cases (v + n) w
+    (λ o. mem-right lev rest w (joined-mem reversed (v + n) ns w o (omega arith)))
+    (λ o. mem-left lev rest w (level-mem reversed v n w h o))
+
+mem-below : (m : ℕ) (vs : List ℕ) → ((i : ℕ) → i < length vs → getD vs i 0 < m) → (w : ℕ) → Mem w vs → w < m
+mem-below m [] h w k = absurd k
+mem-below m (v ∷ vs) h w (inl e) = rw e (h 0 (omega arith))
+mem-below m (v ∷ vs) h w (inr k) = mem-below m vs (λ i o. h (suc i) (omega arith)) w k
+
+pub joined-in : (reversed : Bool) (v : ℕ) (sizes : List ℕ) (w : ℕ) → Mem w (joined (levelsBy reversed v sizes)) → w < v + sum sizes
+joined-in reversed v sizes w m =
+    mem-below (v + sum sizes) (joined (levelsBy reversed v sizes)) (λ i h. joined-below reversed v sizes (v + sum sizes) (omega arith) i (omega (arith, joined-long reversed v sizes))) w m
 
 -- ---- the levels of a plan
 pub levels-plain : (v : ℕ) (sizes : List ℕ) → levelsBy false v sizes ≡ levelsFrom v sizes

@@ -7,16 +7,17 @@ use mathlib.Core.List.{List, [], _∷_}
 use mathlib.Core.Option.{none, some}
 use native.Mathlib.Omega.{arith}
 use borrow.Author.Tests.{lt-ltb, le-ltb}
-use lib.ListN.{length, getD, set, replicate, length-set}
-use lib.Seq.{getD-set-same, getD-set-other, set-out}
+use native.Mathlib.Numerals.{add-one}
+use lib.ListN.{length, getD, set, drop, replicate, length-set, drop-of-length-le}
+use lib.Seq.{drop-cons, getD-set-same, getD-set-other, set-out}
 use Rattle.ints.proofs.Laws.{cases}
-use Rattle.plan.specs.Plan.{PlanData, Siblings, numbers, vertexCount}
+use Rattle.plan.specs.Plan.{PlanData, Siblings}
 use Rattle.plan.proofs.CountLaws.{by-same}
 use Rattle.prelim_classes.specs.inner.Links.{along, chain, Rising, among}
 use Rattle.preliminary.specs.Classes.{give}
-use Rattle.preliminary.specs.Place.{Placing, Asked, markAll, stand, askedBy, placeStrand, placeSiblings, placeEach, placedStrands}
+use Rattle.preliminary.specs.Place.{Placing, Asked, markAll, stand, askedBy, placeStrand, placeSiblings, placeEach}
 use Rattle.prelim_classes.specs.inner.Strands.{Strung}
-use Rattle.prelim_classes.specs.inner.Walks.{placing, unbegun, Uniform, Low, distanceBy, Placeable, Asks, StrandKept, StrandPlaced, SiblingsKept, SiblingsPlaced}
+use Rattle.prelim_classes.specs.inner.Walks.{placing, placedBy, unbegun, Uniform, Low, distanceBy, Placeable, Asks, StrandKept, StrandPlaced, SiblingsKept, SiblingsPlaced}
 use Rattle.prelim_classes.proofs.ChainLaws.{along-end, along-on, chain-on, by-test, never, among-here, among-more, among-none, among-later, along-inside}
 
 -- ---- marks
@@ -255,41 +256,37 @@ module _ (gap : ℕ) (halves next top sibling at : List ℕ) (begun : List Bool)
 
 -- ---- all strands
 module _ (gap : ℕ) (halves next top sibling : List ℕ) (q : PlanData) (strand : ℕ → List ℕ) (siblings : List Siblings) (classes : List ℕ) (f : ℕ) where
-  pub each-on : (v n m : ℕ) (s : Placing) → n ≡ m + 1
-      → placeEach q strand siblings classes f (numbers v n) s ≡ placeEach q strand siblings classes f (numbers (v + 1) m) (placeStrand q strand siblings classes f v s)
-  unfolding placeEach numbers
-  each-on v zero m s e = absurd (omega arith)
-  each-on v (suc n) m s e = let i : n ≡ m = omega arith in rw i
+  pub each-on : (order : List ℕ) (i : ℕ) (s : Placing) → i < length order
+      → placeEach q strand siblings classes f (drop i order) s ≡ placeEach q strand siblings classes f (drop (i + 1) order) (placeStrand q strand siblings classes f (getD order i 0) s)
+  unfolding placeEach
+  each-on order i s h = rw (add-one, drop-cons order i 0 h)
 
-  pub each-end : (v n : ℕ) (s : Placing) → n ≡ 0 → placeEach q strand siblings classes f (numbers v n) s ≡ s
-  unfolding placeEach numbers
-  each-end v n s e = rw e
+  pub each-end : (order : List ℕ) (i : ℕ) (s : Placing) → length order ≤ i → placeEach q strand siblings classes f (drop i order) s ≡ s
+  unfolding placeEach
+  each-end order i s h = rw (drop-of-length-le order h)
 
--- the strands of the vertices from v on are still to be placed
-pub record ToPlace (gap : ℕ) (halves next top sibling : List ℕ) (v : ℕ) (s t : Placing) : Type 0 where
+-- the strands of the vertices from place i of the order on are still to be placed
+pub record ToPlace (gap : ℕ) (halves next top sibling order : List ℕ) (i : ℕ) (s t : Placing) : Type 0 where
   pub each : (q : PlanData) (strand : ℕ → List ℕ) (siblings : List Siblings) (classes : List ℕ) → Asks q strand siblings classes gap halves next top sibling
-      → (f : ℕ) → 2 * length next ≤ f → placeEach q strand siblings classes f (numbers v (length next - v)) t ≡ placeEach q strand siblings classes f (numbers 0 (length next)) s
+      → (f : ℕ) → 2 * length next ≤ f → placeEach q strand siblings classes f (drop i order) t ≡ placeEach q strand siblings classes f order s
 
-pub to-place-start : (gap : ℕ) (halves next top sibling : List ℕ) (s : Placing) → ToPlace gap halves next top sibling 0 s s
-to-place-start gap halves next top sibling s = record {
-  each = λ q strand siblings classes k f m.
-      let z : length next - 0 ≡ length next = omega arith in ap (λ (n : ℕ). placeEach q strand siblings classes f (numbers 0 n) s) z;
-}
+pub to-place-start : (gap : ℕ) (halves next top sibling order : List ℕ) (s : Placing) → ToPlace gap halves next top sibling order 0 s s
+to-place-start gap halves next top sibling order s = record { each = λ q strand siblings classes k f m. refl }
 
-module _ (gap : ℕ) (halves next top sibling : List ℕ) (v : ℕ) (s t : Placing) (w : ToPlace gap halves next top sibling v s t) where
-  pub to-place-on : (r : Placing) → v < length next → length (t .begun) ≡ length next → StrandPlaced gap halves next top sibling v t r → ToPlace gap halves next top sibling (v + 1) s r
-  to-place-on r h l g = record {
+module _ (gap : ℕ) (halves next top sibling order : List ℕ) (i : ℕ) (s t : Placing) (w : ToPlace gap halves next top sibling order i s t) where
+  pub to-place-on : (v : ℕ) (r : Placing) → i < length order → v ≡ getD order i 0 → length (t .begun) ≡ length next → StrandPlaced gap halves next top sibling v t r
+      → ToPlace gap halves next top sibling order (i + 1) s r
+  to-place-on v r h o l g = record {
     each = λ q strand siblings classes k f m.
         let placed = g .each q strand siblings classes k f (omega (arith, unbegun-le (t .begun))) in
-        ap (placeEach q strand siblings classes f (numbers (v + 1) (length next - (v + 1)))) placed
-        ∙ sym (each-on gap halves next top sibling q strand siblings classes f v (length next - v) (length next - (v + 1)) t (omega arith)) ∙ w .each q strand siblings classes k f m;
+        ap (placeEach q strand siblings classes f (drop (i + 1) order)) (placed ∙ ap (λ (x : ℕ). placeStrand q strand siblings classes f x t) o)
+        ∙ sym (each-on gap halves next top sibling q strand siblings classes f order i t h) ∙ w .each q strand siblings classes k f m;
   }
 
-  pub to-place-end : length next ≤ v → (q : PlanData) (strand : ℕ → List ℕ) (siblings : List Siblings) (classes : List ℕ) → Asks q strand siblings classes gap halves next top sibling
-      → vertexCount q ≡ length next → s .at ≡ replicate (length next) 0 → s .begun ≡ replicate (length next) false → t .at ≡ placedStrands q strand siblings classes
-  unfolding placedStrands
-  to-place-end h q strand siblings classes k e a b =
+  pub to-place-end : length order ≤ i → (q : PlanData) (strand : ℕ → List ℕ) (siblings : List Siblings) (classes : List ℕ) → Asks q strand siblings classes gap halves next top sibling
+      → s .at ≡ replicate (length next) 0 → s .begun ≡ replicate (length next) false → t .at ≡ placedBy q strand siblings classes (length next) order
+  to-place-end h q strand siblings classes k a b =
       let same : s ≡ placing (replicate (length next) 0) (replicate (length next) false) = ap (λ (x : List ℕ). placing x (s .begun)) a ∙ ap (placing (replicate (length next) 0)) b in
-      rw (placedStrands, e) (ap (λ (x : Placing). x .at)
-      (sym (each-end gap halves next top sibling q strand siblings classes (3 * length next) v (length next - v) t (omega arith)) ∙ w .each q strand siblings classes k (3 * length next) (omega arith)
-      ∙ ap (placeEach q strand siblings classes (3 * length next) (numbers 0 (length next))) same))
+      ap (λ (x : Placing). x .at)
+      (sym (each-end gap halves next top sibling q strand siblings classes (3 * length next) order i t h) ∙ w .each q strand siblings classes k (3 * length next) (omega arith)
+      ∙ ap (placeEach q strand siblings classes (3 * length next) order) same)

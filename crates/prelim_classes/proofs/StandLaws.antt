@@ -43,14 +43,14 @@ module _ (gap : ℕ) (halves next top order right classes : List ℕ) (r : Class
         low = record { each = λ v. rw (e, f, zero-at n v, unbegun-all n) (omega (arith, r .few)) };
       }
 
-  pub stand-is : (sibling sibling′ at : List ℕ) (xs : List ℤ) → SiblingsOf order right classes sibling → sibling′ ≡ sibling → AllPlaced gap halves next top sibling′ at → xs ≡ map pos at
+  pub stand-is : (sibling sibling′ at : List ℕ) (xs : List ℤ) → SiblingsOf order right classes sibling → sibling′ ≡ sibling → AllPlaced gap halves next top sibling′ order at → xs ≡ map pos at
       → Stand gap halves next top order right classes xs
   stand-is sibling sibling′ at xs s q a e =
       let here : (v : ℕ) → getD xs v (pos 0) ≡ pos (getD at v 0) = λ v. ap (λ (l : List ℤ). getD l v (pos 0)) e ∙ List·getD-map pos at v 0 in
       record {
         least = λ v. rw (here v) refl;
         most = λ v. rw (here v) (a .low v);
-        each = λ p strand g h n t. e ∙ ap (map pos) (a .each p strand (pairsBy (length next) order right) classes (asks p strand g h t) n);
+        each = λ p strand g h t. e ∙ ap (map pos) (a .each p strand (pairsBy (length next) order right) classes (asks p strand g h t));
       }
     where
       asked-is : (v : ℕ) → v < length next → askedBy (pairsBy (length next) order right) classes v ≡ orNone (length next) (getD sibling′ v 0)

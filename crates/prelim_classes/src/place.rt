@@ -6,6 +6,7 @@ ghost use mathlib.Core.Path.{_≡_};
 ghost use mathlib.Core.Bool.{false};
 ghost use Prim.Native.Nat.{_<_, max};
 ghost use lib.ListN.{length, replicate};
+ghost use Rattle.plan.specs.inner.Graph.{Below};
 ghost use Rattle.prelim_classes.specs.inner.Walks.{Narrow, distanceBy, Placeable, placing, StrandKept, StrandPlaced, SiblingsKept, SiblingsPlaced, AllPlaced};
 
 // The distance of siblings u and v.
@@ -78,23 +79,25 @@ fn place_siblings(
     place_siblings(below, asked, gap, halves, next, top, sibling, at, begun)
 }
 
-// Places every strand, one after another.
+// Places the strands of these vertices, one after another.
 pub fn place(
     gap: u32,
     halves: &[u16],
     next: &[u16],
     top: &[u16],
     sibling: &[u16],
+    order: &[u16],
     at: &mut [u32],
     begun: &mut [bool],
 )
     requires { ⌜ Placeable gap (now halves) (now next) (now top) (now sibling) (now at) (now begun) ⌝ }
+    requires { ⌜ Below (length (now next)) (now order) ⌝ }
     requires { ⌜ (now at ≡ replicate (length (now next)) 0) × (now begun ≡ replicate (length (now next)) false) ⌝ }
-    ensures { λ _. ⌜ AllPlaced gap (now (halves .entry)) (now (next .entry)) (now (top .entry)) (now (sibling .entry)) (now (at .exit)) ⌝ }
+    ensures { λ _. ⌜ AllPlaced gap (now (halves .entry)) (now (next .entry)) (now (top .entry)) (now (sibling .entry)) (now (order .entry)) (now (at .exit)) ⌝ }
 {
-    let mut v: usize = 0;
-    while v < next.len() {
-        place_strand(v, gap, halves, next, top, sibling, at, begun);
-        v += 1;
+    let mut i: usize = 0;
+    while i < order.len() {
+        place_strand(wide(order[i]), gap, halves, next, top, sibling, at, begun);
+        i += 1;
     }
 }

@@ -53,6 +53,7 @@ pub fn stand(
         next,
         top,
         &sibling[..n],
+        order,
         &mut at[..n],
         &mut begun[..n],
     );

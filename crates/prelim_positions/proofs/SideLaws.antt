@@ -1,28 +1,32 @@
 -- One side: what each step needs of the steps before it, and that together they give the definition's positions. Assumes nothing.
 use Prim.Native.Nat.{ℕ, suc, _+_, _<_, _≤_}
 use mathlib.Core.Path.{_≡_, refl, sym, _∙_, ap}
-use mathlib.Core.Bool.{Bool}
-use mathlib.Core.List.{List, [], _∷_, map}
+use mathlib.Core.Bool.{Bool, true, false}
+use mathlib.Core.List.{List, [], _∷_, map, reverse}
 use native.Mathlib.Omega.{arith}
 use lib.Dec.{eqb}
 use lib.ListN.{length, getD, set, replicate, length-replicate, getD-replicate, List·getD-eq-default}
 use lib.Seq.{getD-set-same, getD-set-other, set-out}
 use lib.IntN.{ℤ, pos}
+use Rattle.ints.specs.Lists.{sum}
 use Rattle.ints.proofs.Laws.{cases, if-ind}
-use Rattle.plan.specs.Plan.{PlanData, Siblings, vertexCount, siblingsOf, numbers}
+use Rattle.ints.specs.inner.Members.{Mem}
+use Rattle.plan.specs.Plan.{PlanData, Siblings, vertexCount, siblingsOf, numbers, levelsFrom, levelsOf}
 use Rattle.plan.specs.Segments.{innerSegments, segmentsOf, segmentsFrom}
 use Rattle.plan.specs.Strands.{strandIn}
+use Rattle.plan.specs.Acceptable.{acceptable}
 use Rattle.plan.proofs.CountLaws.{by-same}
 use Rattle.preliminary.specs.Classes.{give, classesOn, classesFrom, classesOf}
 use Rattle.preliminary.specs.Place.{placedStrands}
 use Rattle.preliminary.specs.Shift.{shiftEach}
 use Rattle.preliminary.specs.Positions.{positionsOn}
+use Rattle.preliminary.proofs.Positions.{left-any-order, right-any-order}
 use Rattle.prelim_classes.specs.inner.Links.{chain, pairsBy}
 use Rattle.prelim_classes.specs.inner.Strands.{StrandsBy, StrungPlan}
 use Rattle.prelim_classes.proofs.StrungLaws.{Ready, plan-strands, plan-count}
-use Rattle.prelim_classes.specs.inner.Walks.{cut, Classed, Stand}
+use Rattle.prelim_classes.specs.inner.Walks.{cut, placedBy, Classed, Stand}
 use Rattle.prelim_classes.specs.inner.Arranged.{joined, followers, levelsBy}
-use Rattle.prelim_classes.proofs.LevelLaws.{cut-joined, joined-below, pairs-joined}
+use Rattle.prelim_classes.proofs.LevelLaws.{cut-joined, joined-below, joined-mem, joined-in, levels-plain, levels-reversed, pairs-joined}
 use Rattle.prelim_shifts.specs.inner.Shifts.{AtMost, Shiftable, ShiftsBy, Shifted, Spread}
 use Rattle.prelim_positions.specs.inner.Sides.{SideIs}
 
@@ -58,6 +62,34 @@ zeros-most : (m n : ℕ) → AtMost m (replicate n 0)
 zeros-most m n v = cases n v
     (λ h. omega (arith, List·getD-eq-default {A = ℕ} (replicate n 0) 0 {n = v} (omega (arith, length-replicate {A = ℕ} n 0))))
     (λ h. omega (arith, getD-replicate {A = ℕ} n v 0 0 h))
+
+-- ---- strands placed in the order in hand stand as if placed by their numbers
+in-hand : (reversed : Bool) (p : PlanData) → acceptable p ≡ true → (sizes cs : List ℕ) → p .sizes ≡ sizes → sum sizes ≡ vertexCount p
+    → placedBy p (strandIn (innerSegments p) (p .levels)) (siblingsOf (levelsBy reversed 0 sizes)) cs (vertexCount p) (joined (levelsBy reversed 0 sizes))
+    ≡ placedStrands p (strandIn (innerSegments p) (p .levels)) (siblingsOf (levelsBy reversed 0 sizes)) cs
+unfolding levelsOf
+in-hand reversed p ok sizes cs q t = by reversed
+  where
+    strand : ℕ → List ℕ
+    strand = strandIn (innerSegments p) (p .levels)
+
+    inside : (reversed : Bool) (v : ℕ) → Mem v (joined (levelsBy reversed 0 sizes)) → v < vertexCount p
+    inside reversed v m = omega (arith, joined-in reversed 0 sizes v m)
+
+    all : (reversed : Bool) (v : ℕ) → v < vertexCount p → Mem v (joined (levelsBy reversed 0 sizes))
+    all reversed v h = joined-mem reversed 0 sizes v (omega arith) (omega arith)
+
+    by : (reversed : Bool) → placedBy p strand (siblingsOf (levelsBy reversed 0 sizes)) cs (vertexCount p) (joined (levelsBy reversed 0 sizes)) ≡ placedStrands p strand (siblingsOf (levelsBy reversed 0 sizes)) cs
+    by false =
+        let l = levels-plain 0 sizes ∙ ap (λ (s : List ℕ). levelsFrom 0 s) (sym q) in
+        let o = joined (levelsBy false 0 sizes) in
+        ap (λ (ls : List (List ℕ)). placedBy p strand (siblingsOf ls) cs (vertexCount p) o) l
+        ∙ left-any-order p ok cs o (inside false) (all false) ∙ sym (ap (λ (ls : List (List ℕ)). placedStrands p strand (siblingsOf ls) cs) l)
+    by true =
+        let l = levels-reversed 0 sizes ∙ ap (λ (s : List ℕ). map reverse (levelsFrom 0 s)) (sym q) in
+        let o = joined (levelsBy true 0 sizes) in
+        ap (λ (ls : List (List ℕ)). placedBy p strand (siblingsOf ls) cs (vertexCount p) o) l
+        ∙ right-any-order p ok cs o (inside true) (all true) ∙ sym (ap (λ (ls : List (List ℕ)). placedStrands p strand (siblingsOf ls) cs) l)
 
 -- ---- the steps
 module _ (gap : ℕ) (sizes halves next top uppers lowers : List ℕ) (r : Ready gap sizes halves next top uppers lowers) where
@@ -126,7 +158,11 @@ module _ (gap : ℕ) (sizes halves next top uppers lowers : List ℕ) (r : Ready
               let by : StrandsBy strand next top = plan-strands p gap sizes halves next top uppers lowers b in
               let pairs : pairsBy n order right ≡ ss = ap (λ (x : List ℕ). pairsBy n x right) o ∙ ap (pairsBy n (joined levels)) ri ∙ pairs-joined reversed n 0 sizes (r .few) (omega (arith, r .vertices)) in
               let class-is : classes ≡ classesOf strand (vertexCount p) levels = classes-are strand by ∙ class-all strand p count in
-              let placed-is : placed ≡ map pos (placedStrands p strand ss classes) = stands .each p strand (b .held .gapIs) (b .held .halvesAre) count by ∙ ap (λ (x : List Siblings). map pos (placedStrands p strand x classes)) pairs in
+              let placed-is : placed ≡ map pos (placedStrands p strand ss classes) = stands .each p strand (b .held .gapIs) (b .held .halvesAre) by
+              ∙ ap (λ (x : List Siblings). map pos (placedBy p strand x classes n order)) pairs
+              ∙ ap (λ (x : List ℕ). map pos (placedBy p strand ss classes n x)) o
+              ∙ ap (λ (x : ℕ). map pos (placedBy p strand ss classes x (joined levels))) (sym count)
+              ∙ ap (map pos) (in-hand reversed p (b .held .ok) sizes classes (b .held .sizesAre) (omega (arith, r .vertices))) in
               let s : ShiftsBy p ss gap halves order right uppers lowers classes = record {
                 gaps = b .held .gapIs;
                 widths = b .held .halvesAre;

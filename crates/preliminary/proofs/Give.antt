@@ -10,7 +10,8 @@ use lib.ListN.{length, getD, set, length-set, replicate}
 use lib.Seq.{getD-set-same, getD-set-other}
 use borrow.Author.Tests.{eqb-true, eqb-false}
 use Rattle.plan.specs.Plan.{PlanData, vertexCount, levelOf}
-use Rattle.plan.proofs.Sound.{Mem, Sound}
+use Rattle.ints.specs.inner.Members.{Mem}
+use Rattle.plan.proofs.Sound.{Sound}
 use Rattle.preliminary.specs.Classes.{give}
 use Rattle.preliminary.specs.Place.{markAll}
 use Rattle.preliminary.proofs.Strands.{topOf, strandAt, in-strand, strand-in, Descends, no-more, then}

@@ -9,9 +9,11 @@ use mathlib.Core.Option.{Option, none, some}
 use Prim.Native.Nat.{ℕ, zero, suc, _+_, _*_, _≤_, _<_, max}
 use native.Mathlib.Omega.{arith}
 use lib.ListN.{length, getD, replicate, length-replicate, getD-replicate}
+use lib.Seq.{ext-getD}
 use Rattle.ints.proofs.Laws.{if-ind, cases}
 use Rattle.plan.specs.Plan.{PlanData, vertexCount, distance, Siblings, numbers}
-use Rattle.plan.proofs.Sound.{Mem, Sound, distance-high, mem-numbers, numbers-mem}
+use Rattle.ints.specs.inner.Members.{Mem}
+use Rattle.plan.proofs.Sound.{Sound, distance-high, mem-numbers, numbers-mem}
 use Rattle.preliminary.specs.Place.{Placing, Asked, begin, stand, askedBy, withSibling, placeStrand, placeSiblings, placeEach, placedStrands}
 use Rattle.preliminary.proofs.Strands.{topOf, strandAt, in-strand, strand-in, strand-descends, strand-same}
 use Rattle.preliminary.proofs.Rows.{Adjacent, none-some, asked-left, left-in-list}
@@ -62,6 +64,10 @@ module _ (p : PlanData) (ss : List Siblings) (cs : List ℕ) where
       here : (o : Option ℕ) → askedBy ss cs v ≡ o → askedAt p ys v o ≡ askedAt p xs v o
       here none e = refl
       here (some u) e = omega (arith, f v u (inl refl) e)
+
+-- where strands stand that are placed in the order of these vertices
+abbrev pub placedBy : PlanData → List Siblings → List ℕ → List ℕ → List ℕ
+placedBy p ss cs vs = placeEach p (strandAt p) ss cs (3 * vertexCount p) vs (record { at = replicate (vertexCount p) 0; begun = replicate (vertexCount p) false }) .at
 
 -- what holds in the end
 pub record Stood (p : PlanData) (ss : List Siblings) (cs xs : List ℕ) : Type 0 where
@@ -340,17 +346,35 @@ module _ (p : PlanData) (key : ℕ → ℕ) (R : Rank p key) (ss : List Siblings
       size = λ w h. omega (arith, getD-replicate {A = ℕ} (vertexCount p) w 0 0 h, waiting-none (vertexCount p));
     }
 
-    pub stood : Stood p ss cs (placedStrands p (strandAt p) ss cs)
-    unfolding placedStrands
-    stood =
+    -- in whatever order, if every vertex has its turn
+    pub stood-by : (vs : List ℕ) → ((v : ℕ) → Mem v vs → v < vertexCount p) → ((v : ℕ) → v < vertexCount p → Mem v vs) → Stood p ss cs (placedBy p ss cs vs)
+    stood-by vs inside all =
         let n = vertexCount p in
-        let X = each (3 * n) (numbers 0 n) (record { at = replicate n 0; begun = replicate n false }) nothing (λ v m. omega (arith, numbers-mem 0 n v m)) (λ v h. omega (arith, waiting-none n)) in
-        let greatest : (v : ℕ) → v < n → getD (placedStrands p (strandAt p) ss cs) v 0 ≡ greatestAsked p ss cs (placedStrands p (strandAt p) ss cs) (strandAt p v) =
-        λ v k. X .0 .stands (suc (rankOf v)) .greatest v k (X .1 v (mem-numbers 0 n v (omega arith) (omega arith))) (omega arith) in
+        let X = each (3 * n) vs (record { at = replicate n 0; begun = replicate n false }) nothing inside (λ v h. omega (arith, waiting-none n)) in
+        let greatest : (v : ℕ) → v < n → getD (placedBy p ss cs vs) v 0 ≡ greatestAsked p ss cs (placedBy p ss cs vs) (strandAt p v) =
+        λ v k. X .0 .stands (suc (rankOf v)) .greatest v k (X .1 v (all v k)) (omega arith) in
         record {
           long = X .0 .stands 0 .at-long;
           strands = X .0 .stands 0 .at-strands;
           greatest = greatest;
-          spaced = λ u v k j. omega (arith, greatest v k, greatest-above p ss cs (placedStrands p (strandAt p) ss cs) (strandAt p v) u v (in-strand p S v v k refl) j);
+          spaced = λ u v k j. omega (arith, greatest v k, greatest-above p ss cs (placedBy p ss cs vs) (strandAt p v) u v (in-strand p S v v k refl) j);
           size = λ v k. omega (arith, X .0 .stands 0 .size v k, S .limits .vertices);
         }
+
+    pub stood : Stood p ss cs (placedStrands p (strandAt p) ss cs)
+    unfolding placedStrands
+    stood = let n = vertexCount p in stood-by (numbers 0 n) (λ v m. omega (arith, numbers-mem 0 n v m)) (λ v h. mem-numbers 0 n v (omega arith) (omega arith))
+
+    -- the order changes nothing: whoever is asked has lower rank, so there is one way to stand
+    alike-below : (xs ys : List ℕ) → Stood p ss cs xs → Stood p ss cs ys → (r v : ℕ) → v < vertexCount p → rankOf v < r → getD ys v 0 ≡ getD xs v 0
+    alike-below xs ys X Y zero v h k = absurd (omega arith)
+    alike-below xs ys X Y (suc r) v h k =
+        Y .greatest v h
+        ∙ greatest-same p ss cs xs ys (strandAt p v) (λ w u m e. alike-below xs ys X Y r u (asked u w e .left-in) (omega (arith, asked-lower u w e, ap (R .rank) (strand-in p S v w h m .1))))
+        ∙ sym (X .greatest v h)
+
+    pub any-order : (vs : List ℕ) → ((v : ℕ) → Mem v vs → v < vertexCount p) → ((v : ℕ) → v < vertexCount p → Mem v vs) → placedBy p ss cs vs ≡ placedStrands p (strandAt p) ss cs
+    any-order vs inside all =
+        let Y = stood-by vs inside all in
+        ext-getD 0 (placedBy p ss cs vs) (placedStrands p (strandAt p) ss cs) (Y .long ∙ sym (stood .long))
+        (λ i h. alike-below (placedStrands p (strandAt p) ss cs) (placedBy p ss cs vs) stood Y (suc (rankOf i)) i (omega (arith, Y .long)) (omega arith))

@@ -14,7 +14,8 @@ use Rattle.plan.specs.Plan.{PlanData, vertexCount, distance, Siblings, numbers,
 use Rattle.plan.specs.Segments.{Segment, innerSegments}
 use Rattle.plan.specs.Checks.{every}
 use Rattle.plan.specs.Acceptable.{acceptable}
-use Rattle.plan.proofs.Sound.{Mem, Sound, sound, every-make}
+use Rattle.ints.specs.inner.Members.{Mem}
+use Rattle.plan.proofs.Sound.{Sound, sound, every-make}
 use Rattle.preliminary.specs.Classes.{classesOf}
 use Rattle.preliminary.specs.Place.{placedStrands}
 use Rattle.preliminary.specs.Shift.{classAt, placeAt, shiftEach}
@@ -23,7 +24,7 @@ use Rattle.preliminary.proofs.Strands.{topOf, strandAt, low, link, link
 use Rattle.preliminary.proofs.Rows.{Order, Rows, Adjacent, pair, sibling-adjacent, adjacent-sibling, left-is, left-asked, levels-plain, levels-mirrored, order-plain, order-mirrored, adjacent-mirrored, mirror}
 use Rattle.preliminary.proofs.Classes.{Classes, classes-hold}
 use Rattle.preliminary.proofs.Rank.{ranks}
-use Rattle.preliminary.proofs.Placed.{greatestAsked, Stood, stood}
+use Rattle.preliminary.proofs.Placed.{greatestAsked, placedBy, Stood, stood, any-order}
 use Rattle.preliminary.proofs.Shifted.{Clear, Spaced, spaced-all}
 use Rattle.preliminary.proofs.Sizes.{Bounded, bounded-all}
 
@@ -149,6 +150,17 @@ module _ (p : PlanData) (ok : acceptable p ≡ true) where
 
   pub right-greatest : AtGreatest p (map reverse (levelsOf p))
   right-greatest = stood-in p S (mirror p) (order-mirrored p S) (map reverse (levelsOf p)) (levels-mirrored p S) .greatest
+
+  -- and in whatever order they are placed, if every vertex has its turn
+  module _ (cs vs : List ℕ) (inside : (v : ℕ) → Mem v vs → v < vertexCount p) (all : (v : ℕ) → v < vertexCount p → Mem v vs) where
+    any-on : (key : ℕ → ℕ) → Order p key → (levels : List (List ℕ)) → Rows p key 1 levels → placedBy p (siblingsOf levels) cs vs ≡ placedStrands p (strandAt p) (siblingsOf levels) cs
+    any-on key O levels rows = any-order p key (ranks p S key O levels rows) (siblingsOf levels) cs S (λ s m. sibling-adjacent p key s rows m) vs inside all
+
+    pub left-any-order : placedBy p (siblingsOf (levelsOf p)) cs vs ≡ placedStrands p (strandAt p) (siblingsOf (levelsOf p)) cs
+    left-any-order = any-on (λ v. v) (order-plain p S) (levelsOf p) (levels-plain p S)
+
+    pub right-any-order : placedBy p (siblingsOf (map reverse (levelsOf p))) cs vs ≡ placedStrands p (strandAt p) (siblingsOf (map reverse (levelsOf p))) cs
+    right-any-order = any-on (mirror p) (order-mirrored p S) (map reverse (levelsOf p)) (levels-mirrored p S)
 
   left-side : Side p (λ v. v) (leftPositions p)
   unfolding leftPositions

@@ -12,7 +12,8 @@ use borrow.Author.Tests.{eqb-true, eq-eqb, lt-ltb, le-ltb}
 use Rattle.ints.proofs.Laws.{if-ind, cases}
 use Rattle.plan.specs.Plan.{PlanData, vertexCount, levelOf, levelIn, numbers, levelsFrom, levelsOf, Siblings, pairsOn, siblingsOf, leftSibling}
 use Rattle.ints.specs.Lists.{sum}
-use Rattle.plan.proofs.Sound.{Mem, Sound, mem-left, mem-right, mem-append}
+use Rattle.ints.specs.inner.Members.{Mem}
+use Rattle.plan.proofs.Sound.{Sound, mem-left, mem-right, mem-append}
 use Rattle.plan.proofs.LevelLaws.{level-low}
 use Rattle.preliminary.specs.Place.{ofClass, askedBy}
 use Rattle.preliminary.specs.Shift.{classAt}

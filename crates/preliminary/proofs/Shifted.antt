@@ -15,7 +15,7 @@ use Rattle.ints.specs.Ints.{P, N, _⊑_, minZ}
 use Rattle.ints.proofs.Laws.{sum, dif, if-ind, cases, lt-true, lt-false}
 use Rattle.plan.specs.Plan.{PlanData, vertexCount, distance, Siblings, numbers}
 use Rattle.plan.specs.Segments.{segmentsOf}
-use Rattle.plan.proofs.Sound.{Mem}
+use Rattle.ints.specs.inner.Members.{Mem}
 use Rattle.preliminary.specs.Shift.{classAt, placeAt, gapsIn, offsetsIn, middle, leastOf, leastOr, shiftOf, moved, shiftEach}
 use Rattle.preliminary.proofs.Strands.{topOf}
 use Rattle.preliminary.proofs.Give.{alike}

@@ -15,7 +15,8 @@ use Rattle.ints.specs.Ints.{P, N, minZ}
 use Rattle.ints.proofs.Laws.{sum, dif, if-ind}
 use Rattle.plan.specs.Plan.{PlanData, vertexCount, distance, Siblings, numbers}
 use Rattle.plan.specs.Segments.{Segment, segmentsOf}
-use Rattle.plan.proofs.Sound.{Mem, Sound, distance-high}
+use Rattle.ints.specs.inner.Members.{Mem}
+use Rattle.plan.proofs.Sound.{Sound, distance-high}
 use Rattle.ints.proofs.Tests.{and-left}
 use Rattle.preliminary.specs.Shift.{classAt, placeAt, gapsIn, offsetsIn, insert, sort, middle, leastOf, leastOr, shiftOf, moved, shiftEach}
 use Rattle.preliminary.proofs.Give.{alike}

@@ -10,7 +10,8 @@ use Rattle.ints.proofs.Laws.{cases}
 use Rattle.plan.specs.Plan.{PlanData, vertexCount, isVia, levelOf}
 use Rattle.plan.specs.Segments.{Segment, aboveIn, belowIn, innerSegments}
 use Rattle.plan.specs.Strands.{topFrom, chainFrom, strandIn, follow}
-use Rattle.plan.proofs.Sound.{Mem, Sound, Joined, mem-above, mem-below, above-mem, below-mem}
+use Rattle.ints.specs.inner.Members.{Mem}
+use Rattle.plan.proofs.Sound.{Sound, Joined, mem-above, mem-below, above-mem, below-mem}
 use Rattle.plan.proofs.LevelLaws.{level-low, level-high}
 
 -- the topmost vertex of v's strand, and the strand

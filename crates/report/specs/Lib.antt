@@ -1,4 +1,5 @@
 pub mod Lines
+pub mod Numbers
 pub mod Printed
 pub mod Arrays
 pub mod Cases

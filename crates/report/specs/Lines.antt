@@ -9,14 +9,6 @@ use Rattle.text.specs.Decimal.{decimal, signed}
 use Rattle.passes.specs.State.{positionOf}
 use Rattle.passes.specs.Drawing.{BoxAt, Placing, Drawing}
 
--- The number by which a report line names vertex v.
-abbrev pub printedNumber : ℕ → ℕ
-printedNumber v = v
-
--- The vertex of the n-th at-line.
-abbrev pub vertexOfLine : ℕ → ℕ
-vertexOfLine n = n
-
 -- "(drawing V P)": vertices and placings.
 unfoldable pub drawingLine : ℕ → ℕ → List ℕ
 drawingLine v p = bytes "(drawing " ++ decimal v ++ bytes " " ++ decimal p ++ bytes ")\n"
@@ -27,12 +19,12 @@ atLine n p x y =
     bytes "(at " ++ decimal n ++ bytes " " ++ signed p ++ bytes " " ++ signed x ++ bytes " " ++ decimal y ++ bytes ")\n"
 
 unfoldable pub atLineOf : PlanData → Drawing → ℕ → List ℕ
-atLineOf p d v = atLine (printedNumber v) (positionOf (d .preliminary) v) (positionOf (d .final) v) (heightOf p (levelOf p v))
+atLineOf p d v = atLine v (positionOf (d .preliminary) v) (positionOf (d .final) v) (heightOf p (levelOf p v))
 
 -- "(place q l (n x) ..)": "pass, level, each box with its position after".
 unfoldable pub boxWords : List BoxAt → List ℕ
 boxWords [] = []
-boxWords (b ∷ bs) = bytes " (" ++ decimal (printedNumber (b .vertex)) ++ bytes " " ++ signed (b .position) ++ bytes ")" ++ boxWords bs
+boxWords (b ∷ bs) = bytes " (" ++ decimal (b .vertex) ++ bytes " " ++ signed (b .position) ++ bytes ")" ++ boxWords bs
 
 unfoldable pub placeLine : Placing → List ℕ
 placeLine q = bytes "(place " ++ decimal (q .pass) ++ bytes " " ++ decimal (q .level) ++ boxWords (q .boxes) ++ bytes ")\n"
@@ -45,4 +37,4 @@ endLine = bytes "(end)\n"
 unfoldable pub reportLines : PlanData → Drawing → List (List ℕ)
 reportLines p d =
     drawingLine (vertexCount p) (length (d .placings))
-    ∷ map (λ n. atLineOf p d (vertexOfLine n)) (numbers 0 (vertexCount p)) ++ map placeLine (d .placings) ++ (endLine ∷ [])
+    ∷ map (atLineOf p d) (numbers 0 (vertexCount p)) ++ map placeLine (d .placings) ++ (endLine ∷ [])

@@ -1,5 +1,5 @@
 -- The lines of a report one after another: the next line and those after it, and the whole from its parts.
-use mathlib.Core.Path.{_≡_, refl, sym, _∙_}
+use mathlib.Core.Path.{_≡_, refl, sym}
 use mathlib.Core.Bool.{false}
 use mathlib.Core.List.{List, [], _∷_, _++_, append-nil}
 use Prim.Native.Nat.{ℕ, zero, suc, _+_, _-_, _≤_, _<_}
@@ -14,24 +14,17 @@ use Rattle.text_write.specs.inner.Written.{Room, Wrote, Fronts}
 use Rattle.text_write.proofs.Written.{front-of}
 use Rattle.ints.proofs.Lists.{concat-append, concat-one, sum-on}
 use Rattle.passes.specs.Stored.{placingsFrom}
-use Rattle.report.specs.Lines.{vertexOfLine, drawingLine, atLineOf, placeLine, endLine}
+use Rattle.report.specs.Lines.{drawingLine, atLineOf, placeLine, endLine}
 use Rattle.report_lines.specs.inner.Stored.{planPart, heightIn, vertexLine, vertexLines, allVertexLines, VertexRoom, VerticesRoom, AtLinesRoom, placingOf, PlacingRoom, placeLines, PlacingsRoom, drawingFrom, reportOf, ReportRoom}
 use Rattle.report_lines.proofs.Partly.{Partly, nothing-yet, next-room, next-written, all-written}
 use Rattle.report_lines.proofs.Listed.{placings-count, placings-next, part-within, listed-within}
 use Rattle.report_lines.proofs.ByNumber.{atLines, placeLines as placeLinesOf, lines-from, positions-of}
 
 -- ---- vertices
--- an at-line is that of a vertex
-in-order : {n v : ℕ} → n < v → vertexOfLine n < v
-in-order h = h
-
-pub is-vertex : {n v : ℕ} (w : ℕ) → w ≡ vertexOfLine n → n < v → w < v
-is-vertex w e h = rw e (in-order h)
-
 module _ (preliminary finals : List ℤ) where
   module _ (height : ℕ → ℕ) (n : ℕ) where
     pub next-vertex : n < length preliminary → vertexLines preliminary finals height n (length preliminary - n)
-        ≡ vertexLine preliminary finals (vertexOfLine n) (height (vertexOfLine n)) ++ vertexLines preliminary finals height (n + 1) (length preliminary - (n + 1))
+        ≡ vertexLine preliminary finals n (height n) ++ vertexLines preliminary finals height (n + 1) (length preliminary - (n + 1))
     unfolding numbers concat
     next-vertex h = let e : length preliminary - n ≡ suc (length preliminary - (n + 1)) = omega arith in rw e
 
@@ -47,8 +40,7 @@ module _ (preliminary finals : List ℤ) where
   unfolding numbers concat
   same-heights f g all n zero h e = refl
   same-heights f g all n (suc count) h e =
-      let here : n < all = omega arith in
-      rw (e (vertexOfLine n) (in-order here), same-heights f g all (n + 1) count (omega arith) e)
+      rw (e n (omega arith), same-heights f g all (n + 1) count (omega arith) e)
 
 -- ---- placings
 module _ (passes levels counts vertices : List ℕ) (positions : List ℤ) where
@@ -90,25 +82,24 @@ module _ (spacing : ℕ) (sizes : List ℕ) (preliminary finals : List ℤ) (pas
 
 -- ---- as the code meets them
 module _ {heights : List ℕ} {preliminary finals : List ℤ} {o out : List ℕ} {from at : ℕ} (r : VerticesRoom heights preliminary finals o from) (n : ℕ) (l : n < length preliminary)
-    (v : ℕ) (e : v ≡ vertexOfLine n)
     (h : Partly (allVertexLines preliminary finals (heightIn heights)) (vertexLines preliminary finals (heightIn heights) n (length preliminary - n)) o from at out) where
   abbrev more : List ℕ
   more = vertexLines preliminary finals (heightIn heights) (n + 1) (length preliminary - (n + 1))
 
-  is-next : vertexLines preliminary finals (heightIn heights) n (length preliminary - n) ≡ vertexLine preliminary finals v (heightIn heights v) ++ more
-  is-next = next-vertex preliminary finals (heightIn heights) n l ∙ rw e
+  is-next : vertexLines preliminary finals (heightIn heights) n (length preliminary - n) ≡ vertexLine preliminary finals n (heightIn heights n) ++ more
+  is-next = next-vertex preliminary finals (heightIn heights) n l
 
-  pub vertex-room : VertexRoom heights preliminary finals v out at
+  pub vertex-room : VertexRoom heights preliminary finals n out at
   vertex-room = record {
-    vertex = is-vertex v e l;
+    vertex = l;
     table = r .table;
     positions = r .positions;
-    room = next-room (vertexLine preliminary finals v (heightIn heights v)) more is-next h (r .room);
+    room = next-room (vertexLine preliminary finals n (heightIn heights n)) more is-next h (r .room);
   }
 
-  pub vertex-written : {to : ℕ} {next : List ℕ} → Wrote (vertexLine preliminary finals v (heightIn heights v)) out at to next
+  pub vertex-written : {to : ℕ} {next : List ℕ} → Wrote (vertexLine preliminary finals n (heightIn heights n)) out at to next
       → Partly (allVertexLines preliminary finals (heightIn heights)) more o from to next
-  vertex-written w = next-written (vertexLine preliminary finals v (heightIn heights v)) more is-next h w
+  vertex-written w = next-written (vertexLine preliminary finals n (heightIn heights n)) more is-next h w
 
 module _ {spacing : ℕ} {sizes : List ℕ} {preliminary finals : List ℤ} {o : List ℕ} {at : ℕ} (r : AtLinesRoom spacing sizes preliminary finals o at) (heights : List ℕ)
     (e : length heights ≡ length preliminary) (t : HeightsOf spacing sizes heights) where

@@ -15,7 +15,7 @@ use Rattle.passes.specs.Drawing.{BoxAt, boxesWith}
 use Rattle.ints.specs.Reach.{reach}
 use Rattle.text.specs.Bytes.{bytes}
 use Rattle.text.specs.Decimal.{decimal, signed}
-use Rattle.report.specs.Lines.{printedNumber, boxWords}
+use Rattle.report.specs.Lines.{boxWords}
 use Rattle.report_lines.specs.inner.Forms.{boxAt}
 
 -- ---- within reach
@@ -25,7 +25,7 @@ read-back z h = back (fit-make z (omega arith))
 
 -- ---- the words of boxes
 abbrev boxWord : BoxAt → List ℕ
-boxWord b = bytes " (" ++ decimal (printedNumber (b .vertex)) ++ bytes " " ++ signed (b .position) ++ bytes ")"
+boxWord b = bytes " (" ++ decimal (b .vertex) ++ bytes " " ++ signed (b .position) ++ bytes ")"
 
 words-append : (a b : List BoxAt) → boxWords (a ++ b) ≡ boxWords a ++ boxWords b
 unfolding boxWords

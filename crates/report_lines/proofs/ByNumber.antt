@@ -12,7 +12,7 @@ use Rattle.ints.proofs.Lists.{map-getD}
 use Rattle.plan.specs.Plan.{PlanData, vertexCount, numbers, levelOf, heightOf}
 use Rattle.plan_checks.specs.inner.Heights.{heightAt, HeightsOf}
 use Rattle.passes.specs.Drawing.{Drawing}
-use Rattle.report.specs.Lines.{vertexOfLine, drawingLine, atLineOf, placeLine, endLine, reportLines}
+use Rattle.report.specs.Lines.{drawingLine, atLineOf, placeLine, endLine, reportLines}
 use Rattle.plan.proofs.Levels.{length-numbers, get-numbers}
 use Rattle.text_write.specs.inner.Written.{Wrote, Fronts}
 use Rattle.text_write.proofs.Written.{front-of}
@@ -33,7 +33,7 @@ same-lines {v} h d = rw (h .ofSpacing, h .ofSizes, h .ofVertices, length-replica
 
 module _ (p : PlanData) (d : Drawing) where
   abbrev pub atLines : List (List ℕ)
-  atLines = map (λ n. atLineOf p d (vertexOfLine n)) (numbers 0 (vertexCount p))
+  atLines = map (atLineOf p d) (numbers 0 (vertexCount p))
 
   abbrev pub placeLines : List (List ℕ)
   placeLines = map placeLine (d .placings)
@@ -43,7 +43,7 @@ module _ (p : PlanData) (d : Drawing) where
   lines-from = ap (λ (l : List (List ℕ)). drawingLine (vertexCount p) (length (d .placings)) ∷ l) (append-assoc atLines placeLines (endLine ∷ []))
 
   pub at-lines : length atLines ≡ vertexCount p
-  at-lines = length-map (numbers 0 (vertexCount p)) (λ n. atLineOf p d (vertexOfLine n)) ∙ length-numbers 0 (vertexCount p)
+  at-lines = length-map (numbers 0 (vertexCount p)) (atLineOf p d) ∙ length-numbers 0 (vertexCount p)
 
   pub lines-count : length (reportLines p d) ≡ vertexCount p + length (d .placings) + 2
   lines-count = rw lines-from (omega (arith, length-append atLines (placeLines ++ endLine ∷ []), length-append placeLines (endLine ∷ []), at-lines, length-map (d .placings) placeLine))
@@ -51,11 +51,11 @@ module _ (p : PlanData) (d : Drawing) where
   line-drawing : lineOf p d 0 ≡ drawingLine (vertexCount p) (length (d .placings))
   line-drawing = ap (λ (ls : List (List ℕ)). getD ls 0 []) lines-from
 
-  line-vertex : (n : ℕ) → n < vertexCount p → lineOf p d (suc n) ≡ atLineOf p d (vertexOfLine n)
+  line-vertex : (n : ℕ) → n < vertexCount p → lineOf p d (suc n) ≡ atLineOf p d n
   line-vertex n h =
       ap (λ (ls : List (List ℕ)). getD ls (suc n) []) lines-from ∙ List·getD-append atLines (placeLines ++ endLine ∷ []) [] n (omega (arith, at-lines))
-      ∙ map-getD (λ n. atLineOf p d (vertexOfLine n)) (numbers 0 (vertexCount p)) n 0 [] (omega (arith, length-numbers 0 (vertexCount p)))
-      ∙ ap (λ (v : ℕ). atLineOf p d (vertexOfLine v)) (get-numbers 0 (vertexCount p) n 0 h ∙ omega arith)
+      ∙ map-getD (atLineOf p d) (numbers 0 (vertexCount p)) n 0 [] (omega (arith, length-numbers 0 (vertexCount p)))
+      ∙ ap (atLineOf p d) (get-numbers 0 (vertexCount p) n 0 h ∙ omega arith)
 
   after-vertices : (k : ℕ) → lineOf p d (suc (vertexCount p + k)) ≡ getD (placeLines ++ endLine ∷ []) k []
   after-vertices k = rw (← at-lines) (ap (λ (ls : List (List ℕ)). getD ls (suc (length atLines + k)) []) lines-from ∙ getD-append-add atLines (placeLines ++ endLine ∷ []) k [])
@@ -105,16 +105,16 @@ module _ {spacing : ℕ} {sizes : List ℕ} {preliminary finals : List ℤ} {pas
   first-line e = ap (lineOf part drawing) e ∙ line-drawing part drawing ∙ rw (vertices-are, placings-are)
 
   -- a vertex
-  module _ (e : n ≡ 0 → ⊥) (l : n ≤ length preliminary) (v : ℕ) (f : v ≡ vertexOfLine (n - 1)) where
-    pub vertex-line : theLine ≡ vertexLine preliminary finals v (heightAt spacing sizes v)
+  module _ (e : n ≡ 0 → ⊥) (l : n ≤ length preliminary) where
+    pub vertex-line : theLine ≡ vertexLine preliminary finals (n - 1) (heightAt spacing sizes (n - 1))
     unfolding atLineOf levelOf heightOf
     vertex-line =
         let k : n ≡ suc (n - 1) = omega arith in
-        ap (lineOf part drawing) k ∙ line-vertex part drawing (n - 1) (omega (arith, vertices-are)) ∙ rw (← f)
+        ap (lineOf part drawing) k ∙ line-vertex part drawing (n - 1) (omega (arith, vertices-are))
 
-    pub vertex-room : AtLineRoom spacing sizes preliminary finals v o 0
+    pub vertex-room : AtLineRoom spacing sizes preliminary finals (n - 1) o 0
     vertex-room = record {
-      vertex = rw f (omega arith);
+      vertex = omega arith;
       lists = record { positions = positions-of (h .stored); few = h .few; inLimit = h .inLimit };
       room = rw vertex-line at (h .room);
     }

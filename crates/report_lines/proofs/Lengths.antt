@@ -11,7 +11,7 @@ use Rattle.ints.specs.Ints.{size}
 use Rattle.ints.specs.Lists.{concat}
 use Rattle.ints.proofs.Laws.{cases}
 use Rattle.ints.proofs.Reach.{within-size, within-get, within-at}
-use Rattle.plan.specs.Limits.{maxLevels, maxSpacing, maxOnLevel, maxVertices}
+use Rattle.plan.specs.Limits.{maxVertices}
 use Rattle.plan.specs.Plan.{PlanData, vertexCount, numbers, levelIn, levelOf, heightOf}
 use Rattle.plan.proofs.LevelLaws.{level-most}
 use Rattle.text.specs.Decimal.{signed}
@@ -20,27 +20,14 @@ use Rattle.ints.proofs.Lists.{concat-append}
 use Rattle.passes.specs.State.{positionOf}
 use Rattle.passes.specs.Drawing.{BoxAt, Placing, Drawing}
 use Rattle.ints.specs.Reach.{reach, isWithin}
-use Rattle.passes.specs.Words.{boxesListed, maxListed, drawingWithin}
-use Rattle.report.specs.Lines.{printedNumber, vertexOfLine, drawingLine, atLine, atLineOf, boxWords, placeLine, endLine, reportLines}
+use Rattle.passes.specs.Words.{boxesListed, maxListed}
+use Rattle.report.specs.Lines.{drawingLine, atLine, atLineOf, boxWords, placeLine, endLine, reportLines}
 use Rattle.plan.proofs.All.{All, all-nil, all-cons, all-map, all-append, all-left, all-right, all-get, all-of-get}
 use Rattle.plan.proofs.Levels.{all-numbers}
 use Rattle.report_lines.specs.inner.Stored.{lineOf, placeLines, maxLine, maxReport}
 use Rattle.report_lines.proofs.Listed.{preliminary-within, final-within, boxes-within, few-placings, few-boxes}
+use Rattle.report_lines.proofs.Printable.{PrintablePlacing, Printable, all-mapped}
 use Rattle.report_lines.proofs.ByNumber.{atLines, at-lines, lines-from}
-
--- A plan and a drawing that are within the limits, as far as lengths ask.
-pub record SmallPlacing (q : Placing) : Type 0 where
-  pub pass : q .pass ≤ 3
-  pub level : q .level ≤ maxLevels
-  pub boxes : length (q .boxes) ≤ maxOnLevel
-  pub vertices : All (λ (b : BoxAt). b .vertex < maxVertices) (q .boxes)
-
-pub record Small (p : PlanData) (d : Drawing) : Type 0 where
-  pub vertices : vertexCount p ≤ maxVertices
-  pub spacing : p .spacing ≤ maxSpacing
-  pub levels : length (p .sizes) ≤ maxLevels
-  pub within : drawingWithin d ≡ true
-  pub placings : All SmallPlacing (d .placings)
 
 -- ---- numbers
 signed-short : (z : ℤ) → size z ≤ reach → length (signed z) ≤ 14
@@ -68,63 +55,58 @@ at-short n p x y a b c d =
 abbrev Within : List BoxAt → Type 0
 Within bs = All (λ (z : ℤ). isWithin z ≡ true) (map (λ (b : BoxAt). b .position) bs)
 
-boxes-short : (bs : List BoxAt) → All (λ (b : BoxAt). b .vertex < maxVertices) bs → Within bs → length (boxWords bs) ≤ 22 * length bs
+boxes-short : {n : ℕ} → n ≤ maxVertices → (bs : List BoxAt) → All (λ (b : BoxAt). b .vertex < n) bs → Within bs → length (boxWords bs) ≤ 22 * length bs
 unfolding boxWords
-boxes-short [] all-nil w = omega arith
-boxes-short (b ∷ bs) (all-cons h hs) (all-cons k ks) =
+boxes-short m [] all-nil w = omega arith
+boxes-short m (b ∷ bs) (all-cons h hs) (all-cons k ks) =
     let ln = decimal-length 3 (b .vertex) (omega arith) in
     let lx = signed-short (b .position) (within-size (b .position) k) in
-    simp length-append (omega (arith, boxes-short bs hs ks))
+    simp length-append (omega (arith, boxes-short m bs hs ks))
 
-place-short : (q : Placing) → SmallPlacing q → Within (q .boxes) → length (placeLine q) ≤ 13 + 22 * length (q .boxes)
+place-short : {n : ℕ} → n ≤ maxVertices → (q : Placing) → PrintablePlacing n q → Within (q .boxes) → length (placeLine q) ≤ 13 + 22 * length (q .boxes)
 unfolding placeLine
-place-short q s w =
+place-short m q s w =
     let lq = decimal-length 0 (q .pass) (omega (arith, s .pass)) in
     let ll = decimal-length 1 (q .level) (omega (arith, s .level)) in
-    simp length-append (omega (arith, boxes-short (q .boxes) (s .vertices) w))
+    simp length-append (omega (arith, boxes-short m (q .boxes) (s .vertices) w))
 
 -- ---- the parts of a report
-mapped : {A B : Type 0} {Q : B → Type 0} (f : A → B) {xs : List A} → All (λ x. Q (f x)) xs → All Q (map f xs)
-mapped f all-nil = all-nil
-mapped f (all-cons q qs) = all-cons q (mapped f qs)
-
 concat-short : (ws : List (List ℕ)) → All (λ (w : List ℕ). length w ≤ 47) ws → length (concat ws) ≤ 47 * length ws
 unfolding concat
 concat-short [] all-nil = omega arith
 concat-short (w ∷ ws) (all-cons h hs) = simp length-append (omega (arith, concat-short ws hs))
 
 -- each placing's line, and all of them
-each-place : (qs : List Placing) → All SmallPlacing qs → Within (boxesListed qs) → All (λ (w : List ℕ). length w ≤ maxLine) (map placeLine qs)
+each-place : {n : ℕ} → n ≤ maxVertices → (qs : List Placing) → All (PrintablePlacing n) qs → Within (boxesListed qs) → All (λ (w : List ℕ). length w ≤ maxLine) (map placeLine qs)
 unfolding boxesListed
-each-place [] all-nil w = all-nil
-each-place (q ∷ qs) (all-cons s ss) w =
+each-place m [] all-nil w = all-nil
+each-place m (q ∷ qs) (all-cons s ss) w =
     let both = rw (map-append (λ (b : BoxAt). b .position) (q .boxes) (boxesListed qs)) at w in
     let ps = map (λ (b : BoxAt). b .position) (q .boxes) in
     let more = map (λ (b : BoxAt). b .position) (boxesListed qs) in
-    let one : length (placeLine q) ≤ maxLine = omega (arith, place-short q s (all-left ps more both), s .boxes) in
-    all-cons one (each-place qs ss (all-right ps more both))
+    let one : length (placeLine q) ≤ maxLine = omega (arith, place-short m q s (all-left ps more both), s .boxes) in
+    all-cons one (each-place m qs ss (all-right ps more both))
 
-places-short : (qs : List Placing) → All SmallPlacing qs → Within (boxesListed qs) → length (placeLines qs) ≤ 13 * length qs + 22 * length (boxesListed qs)
+places-short : {n : ℕ} → n ≤ maxVertices → (qs : List Placing) → All (PrintablePlacing n) qs → Within (boxesListed qs) → length (placeLines qs) ≤ 13 * length qs + 22 * length (boxesListed qs)
 unfolding boxesListed concat
-places-short [] all-nil w = omega arith
-places-short (q ∷ qs) (all-cons s ss) w =
+places-short m [] all-nil w = omega arith
+places-short m (q ∷ qs) (all-cons s ss) w =
     let both = rw (map-append (λ (b : BoxAt). b .position) (q .boxes) (boxesListed qs)) at w in
     let ps = map (λ (b : BoxAt). b .position) (q .boxes) in
     let more = map (λ (b : BoxAt). b .position) (boxesListed qs) in
-    simp length-append (omega (arith, place-short q s (all-left ps more both), places-short qs ss (all-right ps more both)))
+    simp length-append (omega (arith, place-short m q s (all-left ps more both), places-short m qs ss (all-right ps more both)))
 
-module _ {p : PlanData} {d : Drawing} (s : Small p d) where
+module _ {p : PlanData} {d : Drawing} (s : Printable p d) where
   height-small : (v : ℕ) → heightOf p (levelOf p v) ≤ 640000
   unfolding levelOf heightOf
   height-small v =
       let few : levelIn (p .sizes) v - 1 ≤ 64 = omega (arith, level-most (p .sizes) v, s .levels) in
       omega (arith, mul-le-mul-left (p .spacing) few, mul-le-mul-right 64 (s .spacing))
 
-  each-at : All (λ (w : List ℕ). length w ≤ 47) (map (λ i. atLineOf p d (vertexOfLine i)) (numbers 0 (vertexCount p)))
+  each-at : All (λ (w : List ℕ). length w ≤ 47) (map (atLineOf p d) (numbers 0 (vertexCount p)))
   unfolding atLineOf
-  each-at = mapped (λ i. atLineOf p d (vertexOfLine i)) (all-numbers 0 (vertexCount p) (λ i l h.
-      let v = vertexOfLine i in
-      at-short (printedNumber v) (positionOf (d .preliminary) v) (positionOf (d .final) v) (heightOf p (levelOf p v)) (omega (arith, s .vertices))
+  each-at = all-mapped (atLineOf p d) (all-numbers 0 (vertexCount p) (λ v l h.
+      at-short v (positionOf (d .preliminary) v) (positionOf (d .final) v) (heightOf p (levelOf p v)) (omega (arith, s .vertices))
       (within-at (d .preliminary) v (preliminary-within d (s .within))) (within-at (d .final) v (final-within d (s .within))) (height-small v)))
 
   boxes-in : Within (boxesListed (d .placings))
@@ -138,7 +120,7 @@ module _ {p : PlanData} {d : Drawing} (s : Small p d) where
       let first : length (drawingLine (vertexCount p) (length (d .placings))) ≤ maxLine =
       omega (arith, drawing-short (vertexCount p) (length (d .placings)) (s .vertices) (few-placings d (s .within))) in
       let last : length endLine ≤ maxLine = omega arith in
-      all-append (all-append (all-cons first (all-map (λ w h. omega arith) each-at)) (each-place (d .placings) (s .placings) boxes-in)) (all-cons last all-nil)
+      all-append (all-append (all-cons first (all-map (λ w h. omega arith) each-at)) (each-place (s .vertices) (d .placings) (s .placings) boxes-in)) (all-cons last all-nil)
 
   pub line-short : (n : ℕ) → length (lineOf p d n) ≤ maxLine
   line-short n = cases (length (reportLines p d)) n
@@ -150,6 +132,6 @@ module _ {p : PlanData} {d : Drawing} (s : Small p d) where
   report-short =
       let first = drawing-short (vertexCount p) (length (d .placings)) (s .vertices) (few-placings d (s .within)) in
       let ats = concat-short (atLines p d) each-at in
-      let places = places-short (d .placings) (s .placings) boxes-in in
+      let places = places-short (s .vertices) (d .placings) (s .placings) boxes-in in
       rw (lines-from p d, concat-append (atLines p d) (map placeLine (d .placings) ++ endLine ∷ []), concat-append (map placeLine (d .placings)) (endLine ∷ []))
       (simp length-append (omega (arith, first, ats, places, at-lines p d, few-placings d (s .within), few-boxes d (s .within), s .vertices)))

@@ -1,7 +1,7 @@
--- Laws of a list of placings in arrays: how many it has, its k-th, one more, and the positions of all its boxes.
-use mathlib.Core.Path.{_≡_, refl, sym, ap}
+-- Laws of a list of placings in arrays: how many it has, its k-th, one more, and all its boxes.
+use mathlib.Core.Path.{_≡_, refl, sym, _∙_, ap}
 use mathlib.Core.Bool.{true}
-use mathlib.Core.List.{List, [], _∷_, map, map-append}
+use mathlib.Core.List.{List, [], _∷_, _++_, map}
 use Prim.Native.Nat.{ℕ, zero, suc, _+_, _≤_, _<_}
 use native.Mathlib.Omega.{arith}
 use native.Mathlib.Numerals.{add-one}
@@ -51,27 +51,51 @@ placings-next qs ls cs vs ys k e f h =
     let j : k < length cs = omega arith in
     rw (add-one k, drop-cons qs k 0 h, drop-cons ls k 0 i, drop-cons cs k 0 j)
 
--- ---- positions
-positions-with : (vs : List ℕ) (ys : List ℤ) → length ys ≡ length vs → map (λ (b : BoxAt). b .position) (boxesWith vs ys) ≡ ys
+-- ---- the boxes of all placings
+with-append : (vs ws : List ℕ) (ys zs : List ℤ) → length ys ≡ length vs → boxesWith (vs ++ ws) (ys ++ zs) ≡ boxesWith vs ys ++ boxesWith ws zs
+unfolding boxesWith
+with-append [] ws [] zs e = refl
+with-append [] ws (y ∷ ys) zs e = absurd (omega arith)
+with-append (v ∷ vs) ws [] zs e = absurd (omega arith)
+with-append (v ∷ vs) ws (y ∷ ys) zs e = rw (with-append vs ws ys zs (omega arith))
+
+pub positions-with : (vs : List ℕ) (ys : List ℤ) → length ys ≡ length vs → map (λ (b : BoxAt). b .position) (boxesWith vs ys) ≡ ys
 unfolding boxesWith
 positions-with [] [] e = refl
 positions-with [] (y ∷ ys) e = absurd (omega arith)
 positions-with (v ∷ vs) [] e = absurd (omega arith)
 positions-with (v ∷ vs) (y ∷ ys) e = ap (λ (l : List ℤ). y ∷ l) (positions-with vs ys (omega arith))
 
-positions-listed : (qs ls cs vs : List ℕ) (ys : List ℤ) → length ls ≡ length qs → length cs ≡ length qs → sum cs ≤ length vs → sum cs ≤ length ys
-    → map (λ (b : BoxAt). b .position) (boxesListed (placingsFrom qs ls cs vs ys)) ≡ take (sum cs) ys
-unfolding placingsFrom boxesListed sum
-positions-listed [] ls [] vs ys e f g h = refl
-positions-listed [] ls (c ∷ cs) vs ys e f g h = absurd (omega arith)
-positions-listed (q ∷ qs) [] cs vs ys e f g h = absurd (omega arith)
-positions-listed (q ∷ qs) (l ∷ ls) [] vs ys e f g h = absurd (omega arith)
-positions-listed (q ∷ qs) (l ∷ ls) (c ∷ cs) vs ys e f g h =
+pub vertices-with : (vs : List ℕ) (ys : List ℤ) → length ys ≡ length vs → map (λ (b : BoxAt). b .vertex) (boxesWith vs ys) ≡ vs
+unfolding boxesWith
+vertices-with [] ys e = refl
+vertices-with (v ∷ vs) [] e = absurd (omega arith)
+vertices-with (v ∷ vs) (y ∷ ys) e = ap (λ (l : List ℕ). v ∷ l) (vertices-with vs ys (omega arith))
+
+-- what lies past them in their arrays is no box
+pub boxes-listed : (qs ls cs vs : List ℕ) (ys : List ℤ) → length ls ≡ length qs → length cs ≡ length qs → sum cs ≤ length vs → sum cs ≤ length ys
+    → boxesListed (placingsFrom qs ls cs vs ys) ≡ boxesWith (take (sum cs) vs) (take (sum cs) ys)
+unfolding placingsFrom boxesListed sum boxesWith
+boxes-listed [] ls [] vs ys e f g h = refl
+boxes-listed [] ls (c ∷ cs) vs ys e f g h = absurd (omega arith)
+boxes-listed (q ∷ qs) [] cs vs ys e f g h = absurd (omega arith)
+boxes-listed (q ∷ qs) (l ∷ ls) [] vs ys e f g h = absurd (omega arith)
+boxes-listed (q ∷ qs) (l ∷ ls) (c ∷ cs) vs ys e f g h =
     let one : length (take c ys) ≡ length (take c vs) = simp length-take (omega arith) in
     let a : sum cs ≤ length (drop c vs) = simp length-drop (omega arith) in
     let b : sum cs ≤ length (drop c ys) = simp length-drop (omega arith) in
-    let more = positions-listed qs ls cs (drop c vs) (drop c ys) (omega arith) (omega arith) a b in
-    rw (map-append, positions-with (take c vs) (take c ys) one, more) (sym (take-add c (sum cs) ys))
+    rw (boxes-listed qs ls cs (drop c vs) (drop c ys) (omega arith) (omega arith) a b, take-add c (sum cs) vs, take-add c (sum cs) ys)
+    (sym (with-append (take c vs) (take (sum cs) (drop c vs)) (take c ys) (take (sum cs) (drop c ys)) one))
+
+module _ (qs ls cs vs : List ℕ) (ys : List ℤ) (e : length ls ≡ length qs) (f : length cs ≡ length qs) (g : sum cs ≤ length vs) (h : sum cs ≤ length ys) where
+  as-many : length (take (sum cs) ys) ≡ length (take (sum cs) vs)
+  as-many = simp length-take (omega arith)
+
+  positions-listed : map (λ (b : BoxAt). b .position) (boxesListed (placingsFrom qs ls cs vs ys)) ≡ take (sum cs) ys
+  positions-listed = ap (map (λ (b : BoxAt). b .position)) (boxes-listed qs ls cs vs ys e f g h) ∙ positions-with (take (sum cs) vs) (take (sum cs) ys) as-many
+
+  pub vertices-listed : map (λ (b : BoxAt). b .vertex) (boxesListed (placingsFrom qs ls cs vs ys)) ≡ take (sum cs) vs
+  vertices-listed = ap (map (λ (b : BoxAt). b .vertex)) (boxes-listed qs ls cs vs ys e f g h) ∙ vertices-with (take (sum cs) vs) (take (sum cs) ys) as-many
 
 -- a part of what is within reach
 pub part-within : (n s c : ℕ) (ys : List ℤ) → s + c ≤ n → allWithin (take n ys) ≡ true → allWithin (take c (drop s ys)) ≡ true

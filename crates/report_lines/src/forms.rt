@@ -1,5 +1,4 @@
 // The lines of a report by their forms, written from a position of a lent buffer on. Each answers the position past what it wrote.
-use ints::wide;
 use text_write::number::put_decimal;
 use text_write::number::put_signed;
 use text_write::number::put_then;
@@ -14,15 +13,8 @@ ghost use Rattle.text.specs.Decimal.{signed};
 ghost use Rattle.text_write.specs.inner.Written.{Room, Wrote};
 ghost use Rattle.passes.specs.Drawing.{boxesWith};
 ghost use Rattle.ints.specs.Reach.{reach, allWithin};
-ghost use Rattle.report.specs.Lines.{printedNumber, drawingLine, atLine, boxWords, placeLine};
+ghost use Rattle.report.specs.Lines.{drawingLine, atLine, boxWords, placeLine};
 ghost use Rattle.report_lines.specs.inner.Forms.{boxAt, placing, placeHead};
-
-// The number by which a line names vertex v.
-pub fn printed_number(v: usize) -> u64
-    ensures { λ r. ⌜ r ≡ printedNumber v ⌝ }
-{
-    v as u64
-}
 
 // A position, and a word after it.
 fn put_position(out: &mut [u8], at: usize, z: i64, word: &[u8]) -> usize
@@ -61,7 +53,7 @@ fn put_box(out: &mut [u8], at: usize, vertex: u16, position: i64) -> usize
     ensures { λ r. ⌜ Wrote (boxWords (boxAt vertex position ∷ [])) (now (out .entry)) at r (now (out .exit)) ⌝ }
 {
     let n = put_word(out, at, b" (");
-    let x = put_then(out, n, printed_number(wide(vertex)), b" ");
+    let x = put_then(out, n, vertex as u64, b" ");
     put_position(out, x, position, b")")
 }
 

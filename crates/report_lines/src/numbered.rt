@@ -1,5 +1,4 @@
 // One line of a report, by its number.
-use crate::forms::printed_number;
 use crate::forms::put_at;
 use crate::forms::put_drawing;
 use crate::forms::put_placing;
@@ -8,18 +7,10 @@ use ints::wide;
 use plan::data::Plan;
 use plan_checks::levels::heights;
 use text_write::number::put_word;
-ghost use mathlib.Core.Path.{_≡_};
 ghost use Rattle.plan_checks.specs.inner.Heights.{heightAt};
 ghost use Rattle.text_write.specs.inner.Written.{Wrote, Fronts};
-ghost use Rattle.report.specs.Lines.{vertexOfLine, placeLine};
+ghost use Rattle.report.specs.Lines.{placeLine};
 ghost use Rattle.report_lines.specs.inner.Stored.{heightIn, placingOf, vertexLine, VertexRoom, AtLineRoom, PlacingRoom, reportLineOf, LineRoom};
-
-// The vertex of the n-th at-line.
-pub fn vertex_of_line(n: usize) -> usize
-    ensures { λ r. ⌜ r ≡ vertexOfLine n ⌝ }
-{
-    n
-}
 
 // The line of vertex v, where the height of each vertex is known.
 pub fn put_vertex(
@@ -33,14 +24,7 @@ pub fn put_vertex(
     requires { ⌜ VertexRoom (now heights) (now preliminary) (now finals) v (now out) at ⌝ }
     ensures { λ r. ⌜ Wrote (vertexLine (now (preliminary .entry)) (now (finals .entry)) v (heightIn (now (heights .entry)) v)) (now (out .entry)) at r (now (out .exit)) ⌝ }
 {
-    put_at(
-        out,
-        at,
-        printed_number(v),
-        preliminary[v],
-        finals[v],
-        heights[v],
-    )
+    put_at(out, at, v as u64, preliminary[v], finals[v], heights[v])
 }
 
 // The line of vertex v, by the sizes of the levels.
@@ -112,8 +96,7 @@ pub fn put_report_line(
         return put_drawing(out, 0, preliminary.len(), passes.len());
     }
     if n <= preliminary.len() {
-        let v = vertex_of_line(n - 1);
-        return put_at_line(out, 0, spacing, sizes, preliminary, finals, v);
+        return put_at_line(out, 0, spacing, sizes, preliminary, finals, n - 1);
     }
     let k = n - 1 - preliminary.len();
     if k < passes.len() {

@@ -3,7 +3,6 @@
 use crate::forms::put_drawing;
 use crate::numbered::put_listed;
 use crate::numbered::put_vertex;
-use crate::numbered::vertex_of_line;
 use ints::wide;
 use plan::data::Plan;
 use plan_checks::levels::heights;
@@ -28,7 +27,7 @@ fn put_vertices(
     let mut at = from;
     let mut n: usize = 0;
     while n < preliminary.len() {
-        at = put_vertex(out, at, heights, preliminary, finals, vertex_of_line(n));
+        at = put_vertex(out, at, heights, preliminary, finals, n);
         n += 1;
     }
     at

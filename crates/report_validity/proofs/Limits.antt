@@ -18,9 +18,8 @@ use Rattle.plan.specs.Acceptable.{halvesHold, limitsHold, acceptable}
 use Rattle.plan.specs.declared.data.Plan.{Plan}
 use Rattle.plan.proofs.GraphLaws.{graph, same-checks}
 use Rattle.ints.proofs.Tests.{conj-at, test}
-use Rattle.plan.proofs.LimitLaws.{LimitTests, limit-tests, within-most}
+use Rattle.plan.proofs.LimitLaws.{LimitTests, limit-tests, limits-hold, within-most}
 use Rattle.report.specs.Refusal13.{isPlanOfText, isStoredPlan}
-use Rattle.text.proofs.PlanLimits.{limits-hold}
 use Rattle.report.proofs.PlanOfText.{plan-of-text}
 
 abbrev pub numbersHold : ℕ → ℕ → ℕ → Bool

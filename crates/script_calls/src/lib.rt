@@ -1,4 +1,3 @@
-// Calls of a script made, and their answers written.
-pub mod call;
+// Answers of calls and of place-run written.
 pub mod reply;
 pub mod run_call;

@@ -11,7 +11,7 @@ use lib.ListN.{length, take, length-take}
 use lib.Seq.{take-all}
 use Rattle.ints.specs.Refusals.{firstRefusal}
 use Rattle.text.specs.Form.{Lines, formOf}
-use Rattle.text.specs.Reading.{maxBytes, testsOf, refused, readAs, reading}
+use Rattle.text.specs.Reading.{maxBytes, testsBy, testsOf, refused, readAs, reading}
 use Rattle.run.specs.Call.{Request}
 use Rattle.script_runs.specs.inner.Filled.{shortened as shortenedRun}
 use Rattle.script_commands.specs.declared.types.Command.{Command as Found}
@@ -20,7 +20,7 @@ use Rattle.script_commands.specs.inner.Held.{Lent, commandIn, shortened,
 
 -- ---- a text
 read-long : (s : List ℕ) (l : Option Lines) → maxBytes < length s → readAs (firstRefusal (testsOf s l)) l ≡ refused 1
-unfolding testsOf firstRefusal
+unfolding testsBy firstRefusal
 read-long s none h = refl
 read-long s (some l) h = rw (lt-leb (length s) maxBytes h)
 

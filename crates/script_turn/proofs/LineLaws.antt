@@ -17,7 +17,7 @@ use Rattle.report.specs.Refusal13.{isDrawing, isDrawingIn}
 use Rattle.report_validity.proofs.Stored.{stored-of}
 use Rattle.report_lines.specs.inner.Stored.{maxLine}
 use Rattle.report_lines.proofs.Lengths.{line-short}
-use Rattle.report_lines.proofs.Rooms.{small}
+use Rattle.report_lines.proofs.Printable.{printable}
 use Rattle.marks.specs.Marks.{WholeMark, wholeMarkOf}
 use Rattle.sheet.specs.declared.types.Sheet.{Sheet}
 use Rattle.sheet.specs.Sheet.{verticesIn, segmentsIn, placingsIn, planIn, drawingIn}
@@ -60,7 +60,7 @@ module _ (s : Sheet) (n : ℕ) where
   short h k =
       let v = verticesIn (s .header .stage) in let e = segmentsIn (s .header .stage) in let q = placingsIn (s .header .stage) in
       let t = conj-at (leb q maxListed) (leb (sum (take q (s .drawing .counts))) maxListed ∷ isDrawing (planIn s) (drawingIn s) ∷ []) k in
-      line-short (small (planIn s) (drawingIn s) (stored-of (s .plan) v e h .plan) (t 2)) n
+      line-short (printable (planIn s) (drawingIn s) (stored-of (s .plan) v e h .plan) (t 2)) n
 
   module _ (b c : List ℕ) (l : maxLine ≤ length b) (m : maxLine ≤ length c) where
     same-refusal : firstRefusal (lineTests s n b) ≡ firstRefusal (lineTests s n c)

@@ -1,8 +1,8 @@
 // Commands that are calls: an answer at the front of a lent buffer.
+use crate::made::Answered;
+use crate::made::answer_call;
 use crate::types::OneAnswer;
 use calls::types::Call;
-use script_calls::call::Answered;
-use script_calls::call::answer_call;
 use sheet::types::Sheet;
 ghost use mathlib.Core.Path.{_≡_};
 ghost use mathlib.Core.Bool.{false, cond};

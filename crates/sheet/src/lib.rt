@@ -1,6 +1,7 @@
-// The sheet, load and clear, and what draw asks and leaves.
+// The sheet, load and clear, what draw asks and leaves, and what is printed of an answer.
 pub mod changed;
 pub mod clear;
 pub mod load;
+pub mod printed;
 pub mod refusals;
 pub mod types;

@@ -1,4 +1,5 @@
 pub mod Cuts
 pub mod ValidLaws
 pub mod Rooms
+pub mod Remembered
 pub mod ReadBack

@@ -23,6 +23,7 @@ use Rattle.report.specs.Refusal13.{isDrawing, isDrawingIn}
 use Rattle.report_lines.specs.inner.Stored.{planPart, lineOf, Stored, LineRoom, ReportRoom, maxLine, maxReport}
 use Rattle.report_lines.proofs.ByNumber.{HasPart, same-lines}
 use Rattle.report_lines.proofs.Listed.{final-within}
+use Rattle.report_lines.proofs.Printable.{Printable, printable}
 use Rattle.report_lines.proofs.Rooms.{line-room, report-room, drawing-within}
 use Rattle.marks.specs.Marks.{wholeMarkOf, markCount}
 use Rattle.marks.specs.Exact.{ExactMark, ExactFive}
@@ -51,7 +52,7 @@ module _ (p : Plan) (c : Counts) (h : isPlanWith p c ≡ true) (a : PlanArrays p
   numbers-long d = omega (arith, all-long (planWith p c) (drawingWith d c .final), vias-long, uppers-long)
 
 module _ (p : Plan) (d : Arrays) (c : Counts) (h : Holds p d c) where
-  plan-ok : acceptable (planWith p c) ≡ true
+  pub plan-ok : acceptable (planWith p c) ≡ true
   plan-ok = stored-of p (c .vertices) (c .segments) (h .plan) .plan
 
   record Parts : Type 0 where
@@ -68,6 +69,9 @@ module _ (p : Plan) (d : Arrays) (c : Counts) (h : Holds p d c) where
         boxes = leb-true (sum (take (c .placings) (d .counts))) maxListed (t 1);
         drawing = t 2;
       }
+
+  pub prints : Printable (planWith p c) (drawingWith d c)
+  prints = printable (planWith p c) (drawingWith d c) plan-ok (parts .drawing)
 
   -- what the marks are made of is small enough for f64
   finals-near : allWithin (drawingWith d c .final) ≡ true
@@ -100,16 +104,16 @@ module _ (p : Plan) (d : Arrays) (c : Counts) (h : Holds p d c) where
     pub in-drawing : DrawingCut d c
     in-drawing = drawing-cut b c (in-plan .few) (parts .placings)
 
-    preliminary-long : length (take (c .vertices) (d .preliminary)) ≡ c .vertices
+    pub preliminary-long : length (take (c .vertices) (d .preliminary)) ≡ c .vertices
     preliminary-long = length-take-le (c .vertices) (d .preliminary) (in-drawing .preliminary)
 
-    passes-long : length (take (c .placings) (d .passes)) ≡ c .placings
+    pub passes-long : length (take (c .placings) (d .passes)) ≡ c .placings
     passes-long = length-take-le (c .placings) (d .passes) (in-drawing .passes)
 
-    has-part : HasPart (planWith p c) (p .spacing) (take (p .levels) (p .sizes)) (length (take (c .vertices) (d .preliminary)))
+    pub has-part : HasPart (planWith p c) (p .spacing) (take (p .levels) (p .sizes)) (length (take (c .vertices) (d .preliminary)))
     has-part = record { ofSpacing = refl; ofSizes = refl; ofVertices = length-take-le (c .vertices) (p .vias) (in-plan .vias) ∙ sym preliminary-long }
 
-    stored : Stored (take (c .vertices) (d .preliminary)) (take (c .vertices) (d .finals)) (take (c .placings) (d .passes)) (take (c .placings) (d .levels)) (take (c .placings) (d .counts)) (d .vertices) (d .positions)
+    pub stored : Stored (take (c .vertices) (d .preliminary)) (take (c .vertices) (d .finals)) (take (c .placings) (d .passes)) (take (c .placings) (d .levels)) (take (c .placings) (d .counts)) (d .vertices) (d .positions)
     stored = record {
       ofFinals = length-take-le (c .vertices) (d .finals) (in-drawing .finals) ∙ sym preliminary-long;
       ofLevels = length-take-le (c .placings) (d .levels) (in-drawing .levels) ∙ sym passes-long;
@@ -123,7 +127,7 @@ module _ (p : Plan) (d : Arrays) (c : Counts) (h : Holds p d c) where
     -- ---- lines
     pub line-asked : {o : List ℕ} (n : ℕ) → n < linesOf c → maxLine ≤ length o
         → LineRoom (p .spacing) (take (p .levels) (p .sizes)) (take (c .vertices) (d .preliminary)) (take (c .vertices) (d .finals)) (take (c .placings) (d .passes)) (take (c .placings) (d .levels)) (take (c .placings) (d .counts)) (d .vertices) (d .positions) n o
-    line-asked n l m = line-room plan-ok has-part stored (parts .drawing) n (omega (arith, preliminary-long, passes-long)) m
+    line-asked n l m = line-room has-part stored prints n (omega (arith, preliminary-long, passes-long)) m
 
     pub line-fronts : {o out : List ℕ} {r : ℕ} (n : ℕ) → Fronts (lineOf (planPart (p .spacing) (take (p .levels) (p .sizes)) (length (take (c .vertices) (d .preliminary)))) (drawingWith d c) n) o r out
         → Fronts (lineWith p d c n) o r out
@@ -131,7 +135,7 @@ module _ (p : Plan) (d : Arrays) (c : Counts) (h : Holds p d c) where
 
     pub report-asked : {o : List ℕ} → maxReport ≤ length o
         → ReportRoom (p .spacing) (take (p .levels) (p .sizes)) (take (c .vertices) (d .preliminary)) (take (c .vertices) (d .finals)) (take (c .placings) (d .passes)) (take (c .placings) (d .levels)) (take (c .placings) (d .counts)) (d .vertices) (d .positions) o
-    report-asked m = report-room plan-ok has-part stored (parts .drawing) m
+    report-asked m = report-room has-part stored prints m
 
     pub report-same : reportWith p d c ≡ concat (reportLines (planPart (p .spacing) (take (p .levels) (p .sizes)) (length (take (c .vertices) (d .preliminary)))) (drawingWith d c))
     report-same = ap concat (same-lines has-part (drawingWith d c))

@@ -6,7 +6,7 @@ use mathlib.Core.List.{List, [], _∷_, _++_}
 use Prim.Native.Nat.{ℕ, _≤_, _<_}
 use native.Mathlib.Omega.{arith}
 use borrow.Author.Tests.{lt-ltb, le-ltb, ne-eqb, not-false}
-use lib.ListN.{length, take, drop, replicate, length-append, length-replicate}
+use lib.ListN.{length, take, drop, length-append}
 use lib.Seq.{take-at}
 use lib.Ieee.{Float}
 use Rattle.ints.specs.Lists.{over}
@@ -126,7 +126,3 @@ module _ {w o out : List ℕ} {n : ℕ} (f : Fronts w o n out) where
 -- what was made at the front of a buffer with room for it fits that
 pub wrote-all : {w o out : List ℕ} {n : ℕ} → Fronts w o n out → length out ≡ length o → Writes (fittedText w o) (Written n) out
 wrote-all {w} {o} f e = writes (fitted-long (length w) w o (omega (arith, f .count, front-long f))) (wrote f)
-
--- a buffer of zeros
-pub zeros-long : (n : ℕ) → n ≤ length {A = ℕ} (replicate n 0)
-zeros-long n = omega (arith, length-replicate {A = ℕ} n 0)

@@ -13,6 +13,11 @@ ghost use Rattle.sheet_show.specs.inner.Fit.{reportIn, FitsRoom};
 // No report is longer.
 pub const MAX_REPORT: usize = 119834;
 
+// A buffer that has room for every report.
+pub fn blank() -> [u8; MAX_REPORT] {
+    [0u8; MAX_REPORT]
+}
+
 // A text at the front of a lent buffer.
 pub fn fit(text: &[u8], out: &mut [u8]) -> LineAnswer
     ensures { λ r. ⌜ Writes (fittedText (now (text .entry)) (now (out .entry))) r (now (out .exit)) ⌝ }
@@ -23,41 +28,8 @@ pub fn fit(text: &[u8], out: &mut [u8]) -> LineAnswer
     LineAnswer::Written(put_word(out, 0, text))
 }
 
-// All lines of a drawing that lies in slices: made in a buffer of its own, and copied.
-fn report_copied(
-    spacing: u32,
-    sizes: &[u16],
-    preliminary: &[i64],
-    finals: &[i64],
-    passes: &[u16],
-    levels: &[u16],
-    boxes: &[u16],
-    vertices: &[u16],
-    positions: &[i64],
-    out: &mut [u8],
-) -> LineAnswer
-    requires { ⌜ FitsRoom spacing (now sizes) (now preliminary) (now finals) (now passes) (now levels) (now boxes) (now vertices) (now positions) ⌝ }
-    ensures { λ r. ⌜ Writes (fittedText (reportIn spacing (now (sizes .entry)) (now (preliminary .entry)) (now (finals .entry))
-        (now (passes .entry)) (now (levels .entry)) (now (boxes .entry)) (now (vertices .entry)) (now (positions .entry)))
-        (now (out .entry))) r (now (out .exit)) ⌝ }
-{
-    let mut room = [0u8; MAX_REPORT];
-    let length = put_report(
-        spacing,
-        sizes,
-        preliminary,
-        finals,
-        passes,
-        levels,
-        boxes,
-        vertices,
-        positions,
-        &mut room,
-    );
-    fit(&room[..length], out)
-}
-
-// The same, made in the lent buffer itself where that has room for every report.
+// All lines of a drawing that lies in slices: made in the lent buffer itself where that has room for every report, else in a buffer of its
+// own, and copied.
 pub fn fit_report(
     spacing: u32,
     sizes: &[u16],
@@ -76,7 +48,8 @@ pub fn fit_report(
         (now (out .entry))) r (now (out .exit)) ⌝ }
 {
     if out.len() < MAX_REPORT {
-        return report_copied(
+        let mut room = blank();
+        let length = put_report(
             spacing,
             sizes,
             preliminary,
@@ -86,8 +59,9 @@ pub fn fit_report(
             boxes,
             vertices,
             positions,
-            out,
+            &mut room,
         );
+        return fit(&room[..length], out);
     }
     LineAnswer::Written(put_report(
         spacing,

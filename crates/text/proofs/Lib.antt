@@ -12,4 +12,5 @@ pub mod PlanLines
 pub mod PlanLimits
 pub mod TextLength
 pub mod WhenRefused
+pub mod BothWays
 pub mod RoundTrip

@@ -14,25 +14,16 @@ use Rattle.plan.specs.Plan.{PlanData, vertexCount, levelOf}
 use Rattle.plan.specs.Segments.{Segment, segmentsFrom, segmentsOf}
 use Rattle.plan.specs.Limits.{within, maxLevels, maxGap, maxSpacing, maxOnLevel, maxVertices, maxSegments}
 use Rattle.plan.specs.Checks.{every, goesOneDown, check3}
-use Rattle.plan.specs.Acceptable.{limitsHold}
 use Rattle.ints.proofs.Tests.{and-left, and-right, conj-at, _and_}
 use Rattle.plan.proofs.LimitLaws.{LimitTests, within-most}
+use Rattle.plan.proofs.SegmentLaws.{uppers-again}
 use Rattle.text.specs.Form.{Vertex, Lines}
 use Rattle.text.specs.Reading.{halfInLimit, rowInLimit, check2, stored}
 use Rattle.text.proofs.TestLaws.{every-so, every-and}
 use Rattle.text.proofs.DecimalLaws.{fits}
 use Rattle.text.proofs.WrittenLines.{vertexOk, segmentOk}
 use Rattle.text.proofs.WrittenForm.{LinesOk}
-use Rattle.text.proofs.PlanLines.{verticesFrom, vertices-of, halves-hold, rowsFrom, rows-of, sizes-hold, order-holds, uppers-again, linesFrom, lines-stored}
-
--- ---- the limits of data
-pub limits-hold : (p : PlanData) → LimitTests p → limitsHold p ≡ true
-unfolding limitsHold
-limits-hold p h =
-    h .levels and h .gap and h .spacing
-    and eq-eqb (length (p .sizes)) (p .levels) (h .counted) and h .sizes and eq-eqb (sum (p .sizes)) (vertexCount p) (h .summed)
-    and le-leb (vertexCount p) maxVertices (h .vertices) and h .halves
-    and eq-eqb (length (p .lowers)) (length (p .uppers)) (h .ends) and le-leb (length (p .uppers)) maxSegments (h .segments)
+use Rattle.text.proofs.PlanLines.{verticesFrom, vertices-of, halves-hold, rowsFrom, rows-of, sizes-hold, order-holds, linesFrom, lines-stored}
 
 -- ---- the limits of lines
 pub record LineLimits (l : Lines) : Type 0 where

@@ -11,10 +11,11 @@ use lib.ListN.{length, take, drop, length-drop, take-append-drop}
 use lib.Seq.{length-take-le}
 use Rattle.ints.specs.Lists.{sum, concat}
 use Rattle.plan.specs.Plan.{PlanData}
-use Rattle.plan.specs.Segments.{segmentsFrom, segmentsOf}
+use Rattle.plan.specs.Segments.{segmentsOf}
 use Rattle.plan.specs.Limits.{maxHalfWidth}
 use Rattle.plan.specs.Checks.{every}
 use Rattle.plan.specs.Acceptable.{halfHolds, halvesHold}
+use Rattle.plan.proofs.SegmentLaws.{uppers-again, lowers-again}
 use Rattle.ints.proofs.Tests.{and-left, and-right, test, _and_}
 use Rattle.text.specs.Form.{Vertex, Lines}
 use Rattle.text.specs.Reading.{halfInLimit, stored}
@@ -118,20 +119,6 @@ module _ (c : ℕ → Bool) (t : Vertex → Bool) where
   order-holds (row ∷ rows) e =
       let a = every-one (rowHolds c t) row rows e in
       every-append t row (concat rows) (and-right (c (length row)) (every t row) (a .0)) (order-holds rows (a .1))
-
--- ---- segments
-pub uppers-again : («as» bs : List ℕ) → length bs ≡ length «as» → map (λ s. s .upper) (segmentsFrom «as» bs) ≡ «as»
-unfolding segmentsFrom
-uppers-again [] bs e = refl
-uppers-again (a ∷ «as») [] e = absurd (omega arith)
-uppers-again (a ∷ «as») (b ∷ bs) e = rw (uppers-again «as» bs (omega arith))
-
-pub lowers-again : («as» bs : List ℕ) → length bs ≡ length «as» → map (λ s. s .lower) (segmentsFrom «as» bs) ≡ bs
-unfolding segmentsFrom
-lowers-again [] [] e = refl
-lowers-again [] (b ∷ bs) e = absurd (omega arith)
-lowers-again (a ∷ «as») [] e = absurd (omega arith)
-lowers-again (a ∷ «as») (b ∷ bs) e = rw (lowers-again «as» bs (omega arith))
 
 -- ---- all lines
 unfoldable pub linesFrom : PlanData → Lines

@@ -11,21 +11,21 @@ use lib.Dec.{leb}
 use lib.ListN.{length}
 use Rattle.plan.specs.Plan.{PlanData}
 use Rattle.plan.specs.Segments.{segmentsOf}
-use Rattle.plan.specs.Checks.{every, checksOf}
+use Rattle.plan.specs.Checks.{every, check3, check4, check5, checksOf, tangledChecksOf}
 use Rattle.plan.specs.Acceptable.{limitsHold, acceptable}
-use Rattle.ints.specs.Refusals.{check, noneRefuses}
+use Rattle.ints.specs.Refusals.{Test, check, noneRefuses}
 use Rattle.ints.proofs.Refusals.{none-at, none-append}
 use Rattle.ints.proofs.Tests.{and-left, and-right, _and_}
 use Rattle.plan.proofs.GraphLaws.{Checked, checked, checks-pass}
-use Rattle.plan.proofs.LimitLaws.{LimitTests, limit-tests}
+use Rattle.plan.proofs.LimitLaws.{LimitTests, limit-tests, limits-hold}
 use Rattle.text.specs.Form.{Lines, formOf}
-use Rattle.text.specs.Reading.{maxBytes, check2, stored, testsOf, textTests, accepted, reading}
+use Rattle.text.specs.Reading.{maxBytes, check2, stored, testsBy, textTests, accepted, reading, tangledReading}
 use Rattle.text.specs.Writing.{textOf}
 use Rattle.text.proofs.WrittenForm.{formText, form-reads, form-writes}
 use Rattle.text.proofs.StoredText.{stored-text}
 use Rattle.text.proofs.PlanLines.{linesFrom}
-use Rattle.text.proofs.PlanLimits.{limits-hold, check2-of, check2-holds, stored-limits, lines-stored-again, lines-ok, lines-limits, endsBelow, ends-below, ends-ok}
-use Rattle.text.proofs.WhenRefused.{read-passed}
+use Rattle.text.proofs.PlanLimits.{check2-of, check2-holds, stored-limits, lines-stored-again, lines-ok, lines-limits, endsBelow, ends-below, ends-ok}
+use Rattle.text.proofs.WhenRefused.{Reads, read-passed, tangled-passed}
 use Rattle.text.proofs.TextLength.{form-short}
 
 -- ---- from data to a text and back
@@ -58,7 +58,7 @@ text-short p h = let a = acceptable-of p h in rw (text-form p (a .limits)) (form
 
 -- The text of an acceptable plan reads as the plan.
 pub read-written : (p : PlanData) → acceptable p ≡ true → reading (textOf p) ≡ accepted p
-unfolding testsOf noneRefuses
+unfolding testsBy noneRefuses
 read-written p h =
     let a = acceptable-of p h in
     let ok = lines-ok p (a .limits) (ends-ok (segmentsOf p) (ends p a)) in
@@ -70,42 +70,64 @@ read-written p h =
     read-passed (textOf p) p .1 (record { lines = linesFrom p; form = form; stores = same; passed = passed })
 
 -- ---- from a text to data and back
--- what a text passes that was read as p
-pub record Accepted (s : List ℕ) (p : PlanData) : Type 0 where
+-- what a text passes that was read as p, by whatever checks of a plan
+pub record Formed (s : List ℕ) (p : PlanData) : Type 0 where
   pub short : length s ≤ maxBytes
   pub lines : Lines
   pub form : formOf s ≡ some lines
   pub two : check2 lines ≡ true
   pub stores : stored lines ≡ p
-  pub checks : Checked p
 
-pub accepted-of : (s : List ℕ) (p : PlanData) → reading s ≡ accepted p → Accepted s p
-unfolding testsOf
-accepted-of s p e =
-    let r = read-passed s p .0 e in
-    let passed : noneRefuses (testsOf s (some (r .lines))) ≡ true = rw (r .form) at (r .passed) in
+pub formed-of : (checks : PlanData → List Test) (s : List ℕ) (p : PlanData) → Reads checks s (formOf s) p → Formed s p × (noneRefuses (checks p) ≡ true)
+unfolding testsBy
+formed-of checks s p r =
+    let passed : noneRefuses (testsBy checks s (some (r .lines))) ≡ true = rw (r .form) at (r .passed) in
     let first = check 1 (leb (length s) maxBytes) ∷ check 2 (check2 (r .lines)) ∷ [] in
-    let later = checksOf (stored (r .lines)) in
+    let later = checks (stored (r .lines)) in
     let rest : noneRefuses later ≡ true = and-right (noneRefuses first) (noneRefuses later) (sym (none-append first later) ∙ passed) in
-    let pass = none-at (testsOf s (some (r .lines))) passed in
-    record {
+    let pass = none-at (testsBy checks s (some (r .lines))) passed in
+    let formed : Formed s p = record {
       short = leb-true (length s) maxBytes (not-false (leb (length s) maxBytes) (pass 0));
       lines = r .lines;
       form = r .form;
       two = not-false (check2 (r .lines)) (pass 1);
       stores = r .stores;
-      checks = rw (r .stores) at (checked (stored (r .lines)) rest);
-    }
+    } in
+    (formed, rw (r .stores) at rest)
+
+-- its text is the text that was read, and its data are within the limits
+formed-text : {s : List ℕ} {p : PlanData} → Formed s p → textOf p ≡ s
+formed-text {s} {p} f = ap textOf (sym (f .stores)) ∙ stored-text (f .lines) ∙ sym (form-writes s (f .lines) (f .form) .0)
+
+formed-limits : {s : List ℕ} {p : PlanData} → Formed s p → LimitTests p
+formed-limits {s} {p} f =
+    rw (f .stores) at (stored-limits (f .lines) (form-writes s (f .lines) (f .form) .1) (check2-of (f .lines) (f .two)))
 
 -- What is written of a plan that was read is the text that was read, byte for byte.
 pub written-read : (s : List ℕ) (p : PlanData) → reading s ≡ accepted p → textOf p ≡ s
-written-read s p e =
-    let a = accepted-of s p e in
-    ap textOf (sym (a .stores)) ∙ stored-text (a .lines) ∙ sym (form-writes s (a .lines) (a .form) .0)
+written-read s p e = formed-text (formed-of checksOf s p (read-passed s p .0 e) .0)
 
 -- A plan that was read is acceptable.
 pub read-acceptable : (s : List ℕ) (p : PlanData) → reading s ≡ accepted p → acceptable p ≡ true
 read-acceptable s p e =
-    let a = accepted-of s p e in
-    let within = stored-limits (a .lines) (form-writes s (a .lines) (a .form) .1) (check2-of (a .lines) (a .two)) in
-    acceptable-holds p (record { limits = rw (a .stores) at within; checks = a .checks })
+    let f = formed-of checksOf s p (read-passed s p .0 e) in
+    acceptable-holds p (record { limits = formed-limits (f .0); checks = checked p (f .1) })
+
+-- ---- the same of the second way
+pub written-tangled : (s : List ℕ) (p : PlanData) → tangledReading s ≡ accepted p → textOf p ≡ s
+written-tangled s p e = formed-text (formed-of tangledChecksOf s p (tangled-passed s p .0 e) .0)
+
+pub tangled-limits : (s : List ℕ) (p : PlanData) → tangledReading s ≡ accepted p → limitsHold p ≡ true
+tangled-limits s p e = limits-hold p (formed-limits (formed-of tangledChecksOf s p (tangled-passed s p .0 e) .0))
+
+-- what it passes of checks 3 to 5
+pub record Through (p : PlanData) : Type 0 where
+  pub three : check3 p ≡ true
+  pub four : check4 p ≡ true
+  pub five : check5 p ≡ true
+
+pub tangled-through : (s : List ℕ) (p : PlanData) → tangledReading s ≡ accepted p → Through p
+unfolding tangledChecksOf
+tangled-through s p e =
+    let pass = none-at (tangledChecksOf p) (formed-of tangledChecksOf s p (tangled-passed s p .0 e) .1) in
+    record { three = not-false (check3 p) (pass 0); four = not-false (check4 p) (pass 1); five = not-false (check5 p) (pass 2) }

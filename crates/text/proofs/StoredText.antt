@@ -10,7 +10,8 @@ use lib.Seq.{getD-drop, drop-drop, drop-append-seam}
 use Rattle.ints.specs.Lists.{concat}
 use Rattle.ints.proofs.Lists.{concat-append}
 use Rattle.plan.specs.Plan.{PlanData, numbers, levelsFrom, levelsOf}
-use Rattle.plan.specs.Segments.{Segment, segmentsFrom, segmentsOf}
+use Rattle.plan.specs.Segments.{segmentsOf}
+use Rattle.plan.proofs.SegmentLaws.{segments-again}
 use Rattle.text.specs.Form.{Vertex, Lines}
 use Rattle.text.specs.Reading.{stored}
 use Rattle.text.specs.Writing.{planLine, vertexWords, levelLineOf, segmentLineOf, lastLine, linesOf, textOf}
@@ -52,12 +53,6 @@ module _ (p : PlanData) (all : List Vertex) (words : (i : ℕ) → vertexWords p
       let rest = concat rows in
       let next : drop (v + length row) all ≡ rest = sym (drop-drop (length row) v all) ∙ ap (drop (length row)) e ∙ drop-append-seam row rest in
       rw (row-words v row rest e, rows-text (v + length row) rows next)
-
--- ---- the segments, by their ends
-pub segments-again : (ss : List Segment) → segmentsFrom (map (λ s. s .upper) ss) (map (λ s. s .lower) ss) ≡ ss
-unfolding segmentsFrom
-segments-again [] = refl
-segments-again (s ∷ ss) = rw (segments-again ss)
 
 -- ---- the whole text
 module _ (l : Lines) where

@@ -9,7 +9,7 @@ use Rattle.ints.specs.Lists.{sum, concat}
 use Rattle.ints.specs.Refusals.{Test, check, firstRefusal}
 use Rattle.plan.specs.Plan.{PlanData, dataOf}
 use Rattle.plan.specs.Limits.{within, maxLevels, maxGap, maxSpacing, maxHalfWidth, maxOnLevel, maxVertices, maxSegments}
-use Rattle.plan.specs.Checks.{every, checksOf}
+use Rattle.plan.specs.Checks.{every, checksOf, tangledChecksOf}
 use Rattle.text.specs.Form.{Vertex, Lines, formOf}
 
 -- 1: "Not in the text's form, or over 65,536 bytes."
@@ -37,10 +37,13 @@ stored l =
     (map length (l .rows)) (map (λ v. v .via) (concat (l .rows))) (map (λ v. v .half) (concat (l .rows)))
     (map (λ s. s .upper) (l .segments)) (map (λ s. s .lower) (l .segments))
 
--- The checks of a text in their order; 2 to 6 are asked of what its lines say.
-unfoldable pub testsOf : List ℕ → Option Lines → List Test
-testsOf s none = check 1 false ∷ []
-testsOf s (some l) = check 1 (leb (length s) maxBytes) ∷ check 2 (check2 l) ∷ checksOf (stored l)
+-- The checks of a text in their order; from 2 on they are asked of what its lines say, from 3 on by the checks of a plan.
+unfoldable pub testsBy : (PlanData → List Test) → List ℕ → Option Lines → List Test
+testsBy checks s none = check 1 false ∷ []
+testsBy checks s (some l) = check 1 (leb (length s) maxBytes) ∷ check 2 (check2 l) ∷ checks (stored l)
+
+abbrev pub testsOf : List ℕ → Option Lines → List Test
+testsOf = testsBy checksOf
 
 abbrev pub textTests : List ℕ → List Test
 textTests s = testsOf s (formOf s)
@@ -55,7 +58,14 @@ abbrev pub readAs : ℕ → Option Lines → Reading
 readAs n none = refused n
 readAs n (some l) = cond (eqb n 0) (accepted (stored l)) (refused n)
 
-unfoldable pub reading : List ℕ → Reading
-reading s =
+abbrev pub readingBy : (PlanData → List Test) → List ℕ → Reading
+readingBy checks s =
     let lines = formOf s in
-    readAs (firstRefusal (testsOf s lines)) lines
+    readAs (firstRefusal (testsBy checks s lines)) lines
+
+unfoldable pub reading : List ℕ → Reading
+reading s = readingBy checksOf s
+
+-- The second way: the plan as the text has it, its inner segments crossed or not.
+unfoldable pub tangledReading : List ℕ → Reading
+tangledReading s = readingBy tangledChecksOf s

@@ -19,7 +19,7 @@ use Rattle.plan.specs.inner.Graph.{graphOf}
 use Rattle.plan.proofs.GraphLaws.{same-checks}
 use Rattle.plan.proofs.Sound.{sound}
 use Rattle.text.specs.Form.{Lines, formOf}
-use Rattle.text.specs.Reading.{maxBytes, check2, stored, testsOf, accepted, refused, readAs, reading}
+use Rattle.text.specs.Reading.{maxBytes, check2, stored, testsBy, testsOf, accepted, refused, readAs, reading}
 use Rattle.text_read.specs.inner.Filled.{isSome, Kept, Scans}
 use Rattle.text_read.specs.declared.form.Scanned.{Scanned}
 use Rattle.text.proofs.Words.{never}
@@ -44,7 +44,7 @@ agree {xs} {ys} a b c d e f g = rw (e, ← f) (by c g)
 -- ---- a text by its form and its checks
 module _ (s : List ℕ) where
   long-reads : maxBytes < length s → (o : Option Lines) → readAs (firstRefusal (testsOf s o)) o ≡ refused 1
-  unfolding testsOf firstRefusal
+  unfolding testsBy firstRefusal
   long-reads h none = refl
   long-reads h (some l) = rw (lt-leb (length s) maxBytes h)
 
@@ -53,7 +53,7 @@ module _ (s : List ℕ) where
   reads-long h = long-reads h (formOf s)
 
   none-reads : (o : Option Lines) → isSome o ≡ false → readAs (firstRefusal (testsOf s o)) o ≡ refused 1
-  unfolding testsOf firstRefusal
+  unfolding testsBy firstRefusal
   none-reads none e = refl
   none-reads (some l) e = never (sym e)
 
@@ -172,7 +172,7 @@ module _ (s : List ℕ) (r : Scanned) (sizes : List ℕ) (vias : List Bool) (hal
 
     -- what the program found is what the definition finds
     same-first : firstRefusal (checksIn r sizes′ vias′ uppers′ lowers′) ≡ firstRefusal (testsOf s (some the-lines))
-    unfolding testsOf
+    unfolding testsBy
     same-first = agree (r .form) (leb (length s) maxBytes) (r .limits) (check2 the-lines) (f ∙ sym (le-leb (length s) maxBytes short))
         (S .limits the-lines the-form)
         (λ g. kept-checks (stored the-lines) r sizes vias halves uppers lowers sizes′ vias′ halves′ uppers′ lowers′ (the-kept g))

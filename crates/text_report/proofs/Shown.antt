@@ -11,7 +11,7 @@ use Rattle.ints.specs.Lists.{sum, concat}
 use Rattle.plan.specs.Limits.{maxVertices}
 use Rattle.plan.specs.Plan.{PlanData, vertexCount, dataOf}
 use Rattle.plan.specs.Acceptable.{acceptable}
-use Rattle.plan.specs.inner.Held.{HoldsPlan}
+use Rattle.plan.specs.inner.Held.{heldPlan, HoldsPlan}
 use Rattle.plan.proofs.Sound.{sound}
 use Rattle.passes.specs.Drawing.{BoxAt, Placing, drawingOf}
 use Rattle.passes.specs.Words.{boxesListed, maxListed}
@@ -22,6 +22,7 @@ use Rattle.report_validity.proofs.Drawn.{drawn-valid}
 use Rattle.report_lines.specs.inner.Stored.{planPart, drawingFrom, Stored, ReportRoom, maxReport}
 use Rattle.report_lines.proofs.Listed.{few-placings, few-boxes, final-within}
 use Rattle.report_lines.proofs.ByNumber.{HasPart, same-lines}
+use Rattle.report_lines.proofs.Printable.{printable}
 use Rattle.report_lines.proofs.Rooms.{report-room}
 use Rattle.marks.specs.inner.Asked.{AskedAll}
 use Rattle.marks.proofs.Acceptable.{asked-all}
@@ -29,7 +30,6 @@ use Rattle.pass_list.proofs.Decoded.{decoded}
 use Rattle.pass_draw.specs.inner.Made.{Made}
 use Rattle.sheet_data.proofs.ReadBack.{boxes-sum, preliminary-long, final-long}
 use Rattle.text_report.specs.Positions.{bothOf}
-use Rattle.text_report.specs.inner.Drawn.{heldPlan}
 
 -- ---- a plan by its lists
 module _ {p : PlanData} {gap : ℕ} {sizes : List ℕ} {vias : List Bool} {halves uppers lowers : List ℕ} where
@@ -112,7 +112,7 @@ module _ (p : PlanData) (ok : acceptable p ≡ true) where
         }
 
     pub report-asked : {o : List ℕ} → maxReport ≤ length o → ReportRoom (p .spacing) (p .sizes) preliminary finals (take n passes) (take n levels) (take n counts) vertices positions o
-    report-asked h = report-room ok has-part in-lists (rw drawing-is (drawn-valid p ok)) h
+    report-asked h = report-room has-part in-lists (rw drawing-is (printable p (drawingOf p) ok (drawn-valid p ok))) h
 
     pub report-is : concat (reportLines p (drawingOf p))
         ≡ concat (reportLines (planPart (p .spacing) (p .sizes) (length preliminary)) (drawingFrom preliminary finals (take n passes) (take n levels) (take n counts) vertices positions))

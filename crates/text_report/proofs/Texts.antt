@@ -24,12 +24,14 @@ use Rattle.report.specs.Printed.{printedOf, printed}
 use Rattle.report_validity.proofs.Drawn.{drawn-valid}
 use Rattle.report_lines.specs.inner.Stored.{maxReport}
 use Rattle.report_lines.proofs.Lengths.{report-short}
-use Rattle.report_lines.proofs.Rooms.{small}
+use Rattle.report_lines.proofs.Printable.{printable}
 use Rattle.marks.specs.Marks.{markCount, allNumbers}
+use Rattle.sheet.specs.declared.types.LineAnswer.{LineAnswer}
 use Rattle.sheet.specs.declared.types.LineAnswer.the-variants.{Written, Refused}
 use Rattle.sheet.specs.Results.{gives, refuses, resultAfter}
 use Rattle.sheet.specs.Tests.{test14}
 use Rattle.sheet.specs.Calls.{TextOut, Writes}
+use Rattle.sheet.specs.inner.Printed.{Prints}
 use Rattle.sheet_show.specs.inner.Shown.{fitted, fittedText}
 use Rattle.sheet_show.proofs.ShowLaws.{fitted-long}
 use Rattle.text_report.specs.Texts.{reportOf}
@@ -73,7 +75,7 @@ given k n c = by (eqb k 0)
 
 module _ (text : List ℕ) where
   short : (p : PlanData) → reading text ≡ accepted p → length (concat (reportLines p (drawingOf p))) ≤ maxReport
-  short p e = let a = read-acceptable text p e in report-short (small p (drawingOf p) a (drawn-valid p a))
+  short p e = let a = read-acceptable text p e in report-short (printable p (drawingOf p) a (drawn-valid p a))
 
   pub report-few : (b : List ℕ) (n : ℕ) → reportOf (reading text) b .result ≡ gives n → n ≤ maxReport
   unfolding reportOf
@@ -106,15 +108,15 @@ module _ (text : List ℕ) where
       go (refused k) e h = never (cc)
 
 -- ---- what is printed, by what the report answers in a buffer that has room for every report
-module _ (text b out : List ℕ) (n : ℕ) (m : maxReport ≤ length b) where
+module _ (text b out : List ℕ) (m : maxReport ≤ length b) where
   fits : (p : PlanData) → reading text ≡ accepted p
       → reportOf (accepted p) b ≡ record { result = gives (length (concat (reportLines p (drawingOf p)))); buffer = over (concat (reportLines p (drawingOf p))) b }
   unfolding reportOf
   fits p e = let w = concat (reportLines p (drawingOf p)) in fitted-long (length w) w b (omega (arith, short text p e))
 
-  pub prints-report : Writes (reportOf (reading text) b) (Written n) out → Fronts (printed text) b n out
+  prints-report : (n : ℕ) → Writes (reportOf (reading text) b) (Written n) out → Fronts (printed text) b n out
   unfolding printed printedOf reportOf
-  prints-report = go (reading text) refl
+  prints-report n = go (reading text) refl
     where
       go : (g : Reading) → reading text ≡ g → Writes (reportOf g b) (Written n) out → Fronts (printedOf g) b n out
       go (accepted p) e w =
@@ -123,9 +125,9 @@ module _ (text b out : List ℕ) (n : ℕ) (m : maxReport ≤ length b) where
       go (refused k) e w = let told : gives n ≡ refuses k = w .answered in never (cc)
 
   -- the line that says so is written after the report was refused
-  pub prints-refused : {r : ℕ} {after : List ℕ} → Writes (reportOf (reading text) b) (Refused n) out → Fronts (refusedLine n) out r after → Fronts (printed text) b r after
+  prints-refused : (n : ℕ) {r : ℕ} {after : List ℕ} → Writes (reportOf (reading text) b) (Refused n) out → Fronts (refusedLine n) out r after → Fronts (printed text) b r after
   unfolding printed printedOf reportOf refusedLine report.refusedLine
-  prints-refused {r} {after} w f = go (reading text) refl w
+  prints-refused n {r} {after} w f = go (reading text) refl w
     where
       go : (g : Reading) → reading text ≡ g → Writes (reportOf g b) (Refused n) out → Fronts (printedOf g) b r after
       go (accepted p) e w =
@@ -135,3 +137,7 @@ module _ (text b out : List ℕ) (n : ℕ) (m : maxReport ≤ length b) where
           let told : refuses n ≡ refuses k = w .answered in
           let same : n ≡ k = cc told in
           rw (same, w .left) at f
+
+  pub prints : (a : LineAnswer) {r : ℕ} {after : List ℕ} → Writes (reportOf (reading text) b) a out → Prints a out r after → Fronts (printed text) b r after
+  prints (Written n) w h = rw (h .0, h .1) (prints-report n w)
+  prints (Refused n) w h = prints-refused n w h

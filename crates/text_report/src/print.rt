@@ -1,7 +1,6 @@
 // What the counter prints.
 use crate::whole::report_text;
-use sheet::types::LineAnswer;
-use text_write::again::refuse;
+use sheet::printed::print_answer;
 ghost use Prim.Native.Nat.{_≤_};
 ghost use lib.ListN.{length};
 ghost use Rattle.text_write.specs.inner.Written.{Fronts};
@@ -14,8 +13,5 @@ pub fn print(text: &[u8], out: &mut [u8]) -> usize
     ensures { λ r. ⌜ Fronts (printed (now (text .entry))) (now (out .entry)) r (now (out .exit)) ⌝ }
 {
     let answer = report_text(text, out);
-    match answer {
-        LineAnswer::Written(n) => n,
-        LineAnswer::Refused(n) => refuse(n, out),
-    }
+    print_answer(answer, out)
 }

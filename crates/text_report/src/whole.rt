@@ -9,10 +9,10 @@ use text_read::read_into;
 ghost use mathlib.Core.Path.{_≡_};
 ghost use mathlib.Core.Bool.{true};
 ghost use Rattle.plan.specs.Acceptable.{acceptable};
+ghost use Rattle.plan.specs.inner.Held.{heldPlan};
 ghost use Rattle.text.specs.Reading.{accepted, reading};
 ghost use Rattle.sheet.specs.Calls.{Writes};
 ghost use Rattle.text_report.specs.Texts.{reportOf};
-ghost use Rattle.text_report.specs.inner.Drawn.{heldPlan};
 
 // The report of a plan that was read.
 fn report_plan(

@@ -14,6 +14,7 @@ use Rattle.plan.specs.Segments.{segmentsFrom, segmentsOf}
 use Rattle.plan.specs.inner.Graph.{segment}
 use Rattle.plan.specs.Acceptable.{acceptable}
 use Rattle.plan.proofs.LevelLaws.{numbers-append}
+use Rattle.plan.proofs.SegmentLaws.{segment-at, segments-count}
 use Rattle.text.specs.Writing.{planLine, vertexWords, levelLineOf, segmentLineOf, lastLine, linesOf, textOf}
 use Rattle.text_write.specs.inner.Written.{Room, Wrote, Fronts}
 use Rattle.text_write.specs.inner.Data.{verticesOf, numbersOf, rowWords, wordsOf, lineOf, levelVertices, LineRoom}
@@ -83,19 +84,6 @@ levels-count : (v : ℕ) (ns : List ℕ) → length (levelsFrom v ns) ≡ length
 unfolding levelsFrom
 levels-count v [] = refl
 levels-count v (n ∷ ns) = ap suc (levels-count (v + n) ns)
-
-segment-at : («as» bs : List ℕ) (i : ℕ) → length bs ≡ length «as» → i < length «as» → getD (segmentsFrom «as» bs) i (segment 0 0) ≡ segment (getD «as» i 0) (getD bs i 0)
-unfolding segmentsFrom
-segment-at [] bs i e h = absurd (omega arith)
-segment-at (a ∷ «as») [] i e h = absurd (omega arith)
-segment-at (a ∷ «as») (b ∷ bs) zero e h = refl
-segment-at (a ∷ «as») (b ∷ bs) (suc i) e h = segment-at «as» bs i (omega arith) (omega arith)
-
-segments-count : («as» bs : List ℕ) → length bs ≡ length «as» → length (segmentsFrom «as» bs) ≡ length «as»
-unfolding segmentsFrom
-segments-count [] bs e = refl
-segments-count (a ∷ «as») [] e = absurd (omega arith)
-segments-count (a ∷ «as») (b ∷ bs) e = ap suc (segments-count «as» bs (omega arith))
 
 module _ (p : PlanData) where
   abbrev levelLines : List (List ℕ)

@@ -7,7 +7,7 @@ use lib.Dec.{ltb, eqb}
 use lib.ListN.{length, getD, take, drop}
 use lib.IntN.{ℤ, pos, _-ℤ_}
 use Rattle.ints.specs.Ints.{size}
-use Rattle.plan.specs.inner.Graph.{countOf}
+use Rattle.ints.specs.Lists.{countOf}
 use Rattle.passes.specs.State.{positionOf}
 use Rattle.passes.specs.Ready.{equals}
 

@@ -3,16 +3,8 @@ use mathlib.Core.Path.{sym}
 use lib.Seq.{length-take-le}
 use borrow.Author.Needs.{needs}
 use Rattle.sheet_show.proofs.ShowLaws.{front-long}
-use Rattle.picture_marks.specs.inner.Asked.{maxPicture}
-use Rattle.picture_fit.proofs.FitLaws.{new-long, new-enough}
 use Rattle.picture.proofs.draw.Statement.{statement}
 use Rattle.picture.proofs.draw.Tie as tie
-
-slice-aggregate-print-2 : tie.Need-slice-aggregate-print-2
-slice-aggregate-print-2 c = sym (new-long maxPicture)
-
-print-requires : tie.Need-print-requires
-print-requires c κs = new-enough maxPicture
 
 array-share-prefix-out : tie.Need-array-share-prefix-out
 array-share-prefix-out c = front-long (c .before .print .ensures)
@@ -23,5 +15,5 @@ slice-aggregate-write-all c = sym (length-take-le _ _ (front-long (c .before .be
 pub draw-spec : {M : Type 1} → statement M
 draw-spec =
     tie.close
-    (tie.spec (λ c. search needs) (λ c κs. search needs) (λ c. search needs) (λ c. search needs) slice-aggregate-print-2
-    print-requires array-share-prefix-out slice-aggregate-write-all (λ c κs. search needs) (λ c. search needs))
+    (tie.spec (λ c κs. search needs) (λ c. search needs) (λ c κs. search needs) (λ c. search needs) (λ c. search needs) (λ c. search needs)
+    (λ c κs. search needs) array-share-prefix-out slice-aggregate-write-all (λ c κs. search needs) (λ c. search needs))

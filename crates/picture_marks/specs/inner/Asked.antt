@@ -1,18 +1,14 @@
 -- What the program that writes a whole picture asks of a plan's arrays, a drawing's positions and the places of names in their text.
 use mathlib.Core.Path.{_≡_}
-use mathlib.Core.Bool.{Bool, true}
+use mathlib.Core.Bool.{true}
 use mathlib.Core.List.{List, map}
 use Prim.Native.Nat.{ℕ, _≤_, _<_}
 use lib.ListN.{length, getD}
 use lib.IntN.{ℤ}
 use Rattle.ints.specs.Reach.{allWithin}
-use Rattle.plan.specs.Plan.{PlanData, dataOf, numbers}
+use Rattle.plan.specs.Plan.{PlanData, numbers}
 use Rattle.plan.specs.Acceptable.{acceptable}
 use Rattle.picture_names.specs.inner.Indexed.{nameAt}
-
--- The plan of these lists.
-abbrev pub heldPlan : ℕ → ℕ → List ℕ → List Bool → List ℕ → List ℕ → List ℕ → PlanData
-heldPlan gap spacing sizes vias halves uppers lowers = dataOf (length sizes) gap spacing sizes vias halves uppers lowers
 
 -- The names of n vertices.
 abbrev pub namesIn : List ℕ → List ℕ → List ℕ → ℕ → List (List ℕ)

@@ -5,6 +5,7 @@ use mathlib.Core.Path.{_≡_}
 use Prim.Native.Nat.{ℕ, zero, suc, _+_, _<_, _≤_}
 use lib.Dec.{ltb, eqb}
 use lib.ListN.{length, getD, set}
+use Rattle.ints.specs.Lists.{countOf}
 use Rattle.plan.specs.Limits.{maxLevels, maxVertices, maxSegments}
 use Rattle.plan.specs.Plan.{PlanData, dataOf, levelIn}
 use Rattle.plan.specs.Segments.{Segment}
@@ -30,14 +31,6 @@ pub record Levelled (sizes : List ℕ) (level : List ℕ) : Type 0 where
 abbrev pub oneDown : List ℕ → Segment → Bool
 oneDown level s =
     ltb (s .upper) (length level) && ltb (s .lower) (length level) && eqb (getD level (s .lower) 0) (getD level (s .upper) 0 + 1)
-
--- How often v is in a list.
-unfoldable pub countOf : ℕ → List ℕ → ℕ
-countOf v [] = 0
-countOf v (x ∷ xs) =
-    let more = countOf v xs in
-    let here = suc more in
-    cond (eqb x v) here more
 
 -- A list that has, of each of n numbers, how often it is in xs.
 pub record Counted (n : ℕ) (xs counts : List ℕ) : Type 0 where

@@ -4,8 +4,12 @@ use mathlib.Core.List.{List}
 use mathlib.Core.Path.{_≡_}
 use Prim.Native.Nat.{ℕ}
 use lib.ListN.{length}
-use Rattle.plan.specs.Plan.{PlanData}
+use Rattle.plan.specs.Plan.{PlanData, dataOf}
 use Rattle.plan.specs.Acceptable.{acceptable}
+
+-- The plan that these lists hold.
+abbrev pub heldPlan : ℕ → ℕ → List ℕ → List Bool → List ℕ → List ℕ → List ℕ → PlanData
+heldPlan gap spacing sizes vias halves uppers lowers = dataOf (length sizes) gap spacing sizes vias halves uppers lowers
 
 -- p has these lists, whatever its spacing, and passes the checks.
 pub record HoldsPlan (p : PlanData) (gap : ℕ) (sizes : List ℕ) (vias : List Bool) (halves uppers lowers : List ℕ) : Type 0 where

@@ -4,16 +4,16 @@ use mathlib.Core.List.{List, [], _∷_, map}
 use mathlib.Core.Path.{_≡_}
 use Prim.Native.Nat.{ℕ, suc, _+_, _*_, _<_, _≤_}
 use lib.Dec.{eqb}
-use lib.ListN.{length, getD, take, drop}
+use lib.ListN.{length, getD, take, drop, replicate}
 use lib.IntN.{ℤ, pos}
 use Rattle.ints.specs.Ints.{P, N}
 use Rattle.plan.specs.Limits.{maxGap, maxHalfWidth, maxVertices}
 use Rattle.plan.specs.inner.Graph.{Below}
-use Rattle.plan.specs.Plan.{PlanData, Siblings, vertexCount}
+use Rattle.plan.specs.Plan.{PlanData, Siblings}
 use Rattle.prelim_classes.specs.inner.Links.{Rising, chain, orNone, pairsBy}
 use Rattle.prelim_classes.specs.inner.Strands.{Strung, StrandsBy}
 use Rattle.preliminary.specs.Classes.{give}
-use Rattle.preliminary.specs.Place.{Placing, Asked, askedBy, placeStrand, placeSiblings, placedStrands}
+use Rattle.preliminary.specs.Place.{Placing, Asked, askedBy, placeStrand, placeSiblings, placeEach}
 
 -- A list cut into levels of these sizes.
 unfoldable pub cut : List ℕ → List ℕ → List (List ℕ)
@@ -90,11 +90,15 @@ pub record SiblingsPlaced (gap : ℕ) (halves next top sibling : List ℕ) (w mo
       → (f : ℕ) → 2 * unbegun (s .begun) + length (chain next w) ≤ f
       → _≡_ {A = Asked} (record { most = r; after = t }) (placeSiblings p strand siblings classes f (chain next w) most s)
 
+-- Where n vertices stand whose strands are placed in this order.
+abbrev pub placedBy : PlanData → (ℕ → List ℕ) → List Siblings → List ℕ → ℕ → List ℕ → List ℕ
+placedBy p strand siblings classes n order = placeEach p strand siblings classes (3 * n) order (placing (replicate n 0) (replicate n false)) .at
+
 -- The lists were those of the placing, and this is where it left the vertices.
-pub record AllPlaced (gap : ℕ) (halves next top sibling at : List ℕ) : Type 0 where
+pub record AllPlaced (gap : ℕ) (halves next top sibling order at : List ℕ) : Type 0 where
   pub low : (v : ℕ) → getD at v 0 ≤ 512000
   pub each : (p : PlanData) (strand : ℕ → List ℕ) (siblings : List Siblings) (classes : List ℕ) → Asks p strand siblings classes gap halves next top sibling
-      → vertexCount p ≡ length next → at ≡ placedStrands p strand siblings classes
+      → at ≡ placedBy p strand siblings classes (length next) order
 
 -- ---- classes
 -- Lists to class strands by: `order` has the vertices level by level.
@@ -135,5 +139,5 @@ pub record Classed (gap : ℕ) (halves next top order right classes : List ℕ) 
 pub record Stand (gap : ℕ) (halves next top order right classes : List ℕ) (xs : List ℤ) : Type 0 where
   pub least : (v : ℕ) → N (getD xs v (pos 0)) ≡ 0
   pub most : (v : ℕ) → P (getD xs v (pos 0)) ≤ 512000
-  pub each : (p : PlanData) (strand : ℕ → List ℕ) → p .gap ≡ gap → p .halves ≡ halves → vertexCount p ≡ length next → StrandsBy strand next top
-      → xs ≡ map pos (placedStrands p strand (pairsBy (length next) order right) classes)
+  pub each : (p : PlanData) (strand : ℕ → List ℕ) → p .gap ≡ gap → p .halves ≡ halves → StrandsBy strand next top
+      → xs ≡ map pos (placedBy p strand (pairsBy (length next) order right) classes (length next) order)

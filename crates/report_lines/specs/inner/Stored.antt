@@ -16,7 +16,7 @@ use Rattle.passes.specs.Stored.{placingsFrom}
 use Rattle.ints.specs.Reach.{allWithin}
 use Rattle.passes.specs.Words.{maxListed, drawingWithin}
 use Rattle.report_lines.specs.inner.Forms.{placing}
-use Rattle.report.specs.Lines.{printedNumber, vertexOfLine, atLine, placeLine, reportLines}
+use Rattle.report.specs.Lines.{atLine, placeLine, reportLines}
 
 -- The data of which these are part, as far as the report asks for them: the level spacing, the levels' sizes and the number of
 -- vertices.
@@ -29,7 +29,7 @@ heightIn heights v = getD heights v 0
 
 -- The line of vertex v, which stands at height y.
 abbrev pub vertexLine : List ℤ → List ℤ → ℕ → ℕ → List ℕ
-vertexLine preliminary finals v y = atLine (printedNumber v) (positionOf preliminary v) (positionOf finals v) y
+vertexLine preliminary finals v y = atLine v (positionOf preliminary v) (positionOf finals v) y
 
 -- The positions are those of the same vertices, and within reach.
 pub record Positions (preliminary finals : List ℤ) : Type 0 where
@@ -58,7 +58,7 @@ pub record AtLineRoom (spacing : ℕ) (sizes : List ℕ) (preliminary finals : L
 -- The lines of the vertices from the n-th at-line on, `count` of them, one after another; `height` has the height of each vertex.
 abbrev pub vertexLines : List ℤ → List ℤ → (ℕ → ℕ) → ℕ → ℕ → List ℕ
 vertexLines preliminary finals height n count =
-    concat (map (λ i. vertexLine preliminary finals (vertexOfLine i) (height (vertexOfLine i))) (numbers n count))
+    concat (map (λ i. vertexLine preliminary finals i (height i)) (numbers n count))
 
 abbrev pub allVertexLines : List ℤ → List ℤ → (ℕ → ℕ) → List ℕ
 allVertexLines preliminary finals height = vertexLines preliminary finals height 0 (length preliminary)

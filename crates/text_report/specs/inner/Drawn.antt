@@ -5,13 +5,9 @@ use mathlib.Core.List.{List}
 use Prim.Native.Nat.{ℕ}
 use lib.ListN.{length}
 use lib.IntN.{ℤ}
-use Rattle.plan.specs.Plan.{PlanData, dataOf}
+use Rattle.plan.specs.Plan.{PlanData}
 use Rattle.plan.specs.inner.Held.{SomePlan}
 use Rattle.passes.specs.Drawing.{drawingOf}
-
--- The plan that these lists hold.
-abbrev pub heldPlan : ℕ → ℕ → List ℕ → List Bool → List ℕ → List ℕ → List ℕ → PlanData
-heldPlan gap spacing sizes vias halves uppers lowers = dataOf (length sizes) gap spacing sizes vias halves uppers lowers
 
 -- The lists of a plan that passes the checks, and room for its positions.
 pub record PositionsRoom (gap : ℕ) (sizes : List ℕ) (vias : List Bool) (halves uppers lowers : List ℕ) (preliminary finals : List ℤ) : Type 0 where

@@ -133,26 +133,6 @@ put-word-requires-3 c κs =
     (boxOf (a .measure) (a .name .now) (a .n) (box (a .x) (a .y) (a .half)))
     w6 (s .pre .1) (simp length-append (omega arith))
 
-same-length : tie.Need-same-length
-same-length c =
-    let c1 = c .before .before in
-    let c2 = c1 .before .before .before .before .before in
-    let c3 = c2 .before .before .before .before in
-    let c4 = c3 .before .before .before .before in
-    let c5 = c4 .before .before .before .before .before in
-    let c6 = c5 .before .before .before .before in
-    let c7 = c6 .before .before .before .before .before in
-    let s = c7 .before .before .before .before .before in
-    let a = s .args in
-    let w1 = (c7 .put-word .ensures) in
-    let w2 = and-both (decimal (a .n)) (bytes "\"><title>") w1 (c6 .put-then .ensures) in
-    let w3 = and-then w2 (c5 .put-title .ensures) in
-    let w4 = and-then w3 (c4 .put-word2 .ensures) in
-    let w5 = and-then w4 (rw (b-x s) at (c3 .put-rect .ensures)) in
-    let w6 = and-then w5 (rw (b-x s) at (c2 .put-label .ensures)) in
-    let w7 = and-then w6 (c1 .put-word3 .ensures) in
-    wrote-long w7
-
 returns : tie.Need-returns
 unfolding boxOf
 returns c =
@@ -173,6 +153,9 @@ returns c =
     let w6 = and-then w5 (rw (b-x s) at (c2 .put-label .ensures)) in
     let w7 = and-then w6 (c1 .put-word3 .ensures) in
     w7
+
+same-length : tie.Need-same-length
+same-length c = wrote-long (returns c)
 
 pub put-box-spec : {M : Type 1} → statement M
 put-box-spec =

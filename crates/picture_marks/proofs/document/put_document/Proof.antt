@@ -150,28 +150,6 @@ put-word-requires-3 c κs =
     (documentIn (a .measure) (a .height) (a .heights .now) (a .vias .now) (a .halves .now) (a .uppers .now) (a .lowers .now) (a .finals .now) (nameAt (a .names .now) (a .starts .now) (a .ends .now)))
     w7 (s .pre .1) (simp length-append (omega arith))
 
-same-length : tie.Need-same-length
-same-length c =
-    let c1 = c .before .before in
-    let c2 = c1 .before .before .before .before .before in
-    let c3 = c2 .before .before .before .before in
-    let c4 = c3 .before .before .before .before .before in
-    let c5 = c4 .before .before .before .before .before in
-    let c6 = c5 .before .before .before .before in
-    let c7 = c6 .before .before .before .before .before in
-    let c8 = c7 .before .before .before .before in
-    let s = c8 .before .before .before .before .before .before .before .before .before .before .before in
-    let a = s .args in
-    let w1 = (c8 .put-opening .ensures) in
-    let w2 = and-then w1 (c7 .put-lines .ensures) in
-    let w3 = and-then w2 (c6 .put-word .ensures) in
-    let w4 = and-then w3 (c5 .put-bends .ensures) in
-    let w5 = and-both (bytes "</g>\n<g class=\"boxes\" stroke-width=\"") (amount (20 * a .measure)) w4 (c4 .put-measured .ensures) in
-    let w6 = and-then w5 (c3 .put-word2 .ensures) in
-    let w7 = and-then w6 (c2 .put-boxes .ensures) in
-    let w8 = and-then w7 (c1 .put-word3 .ensures) in
-    wrote-long w8
-
 returns : tie.Need-returns
 returns c =
     let c1 = c .before .before in
@@ -193,6 +171,9 @@ returns c =
     let w7 = and-then w6 (c2 .put-boxes .ensures) in
     let w8 = and-then w7 (c1 .put-word3 .ensures) in
     w8
+
+same-length : tie.Need-same-length
+same-length c = wrote-long (returns c)
 
 pub put-document-spec : {M : Type 1} → statement M
 put-document-spec =

@@ -10,12 +10,13 @@ use borrow.Author.Needs.{needs}
 use Rattle.plan.specs.Plan.{PlanData, heightOf, levelOf}
 use Rattle.plan.proofs.LimitLaws.{Limits}
 use Rattle.plan.proofs.Sound.{sound}
+use Rattle.plan.specs.inner.Held.{heldPlan}
 use Rattle.marks.specs.Marks.{depthOf}
 use Rattle.picture_names.specs.inner.Indexed.{nameAt}
 use Rattle.picture_view.specs.Measure.{measure}
 use Rattle.picture_view.specs.View.{viewHeight}
 use Rattle.picture_marks.specs.Picture.{pictureOf}
-use Rattle.picture_marks.specs.inner.Asked.{heldPlan, namesIn}
+use Rattle.picture_marks.specs.inner.Asked.{namesIn}
 use Rattle.picture_marks.specs.inner.Listed.{documentIn}
 use Rattle.picture_marks.proofs.ByLists.{picture-is, document-stands, view-low, given-at}
 use Rattle.picture_marks.proofs.picture.put_picture.Statement.{statement}

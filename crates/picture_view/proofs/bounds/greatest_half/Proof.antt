@@ -4,7 +4,7 @@ use Prim.Native.Nat.{_-_, _≤_, max}
 use native.Mathlib.Omega.{arith}
 use lib.ListN.{length, drop}
 use borrow.Author.Needs.{needs}
-use Rattle.picture_view.specs.Measure.{greatest}
+use Rattle.ints.specs.Lists.{greatest}
 use Rattle.picture_view.proofs.MeasureLaws.{greatest-on, greatest-end}
 use Rattle.picture_view.proofs.bounds.greatest_half.Statement.{statement}
 use Rattle.picture_view.proofs.bounds.greatest_half.Tie as tie

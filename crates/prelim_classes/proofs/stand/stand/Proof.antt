@@ -60,23 +60,23 @@ place-requires c κs =
     let e = take-replicate {A = ℕ} n 1024 0 (p .few) in
     let f = take-replicate n 1024 false (p .few) in (
       to-place (a .gap) (a .halves .now) (a .next .now) (a .top .now) (a .order .now) (a .right .now) (a .classes .now) p _ _ _ (sym (first-count (c .before .before .before .before .siblings .last .1 .1 .1 .0) (drop n (replicate 1024 2048)) n l)) e f,
-      (e, f),
+      (p .vertices, (e, f)),
     )
 
 array-share-prefix-at : tie.Need-array-share-prefix-at
 array-share-prefix-at c =
     let n = length (c .before .before .before .before .before .before .before .before .before .before .before .before .before .before .before .args .next .now) in
-    first-fit (c .before .before .place .last .1 .1 .1 .1 .1 .0) (drop n (replicate 1024 0)) n (c .before .before .place .kept .1 .1 .1 .1 .1 .0 ∙ length-take-le n (replicate 1024 0) (c .before .before .before .before .before .before .before .before .before .before .before .before .before .before .before .pre .0 .few))
+    first-fit (c .before .before .place .last .1 .1 .1 .1 .1 .1 .0) (drop n (replicate 1024 0)) n (c .before .before .place .kept .1 .1 .1 .1 .1 .1 .0 ∙ length-take-le n (replicate 1024 0) (c .before .before .before .before .before .before .before .before .before .before .before .before .before .before .before .pre .0 .few))
 
 slice-aggregate-widen : tie.Need-slice-aggregate-widen
 slice-aggregate-widen c =
     let n = length (c .before .before .before .before .before .before .before .before .before .before .before .before .before .before .before .before .args .next .now) in
-    first-count (c .before .before .before .place .last .1 .1 .1 .1 .1 .0) (drop n (replicate 1024 0)) n (c .before .before .before .place .kept .1 .1 .1 .1 .1 .0 ∙ length-take-le n (replicate 1024 0) (c .before .before .before .before .before .before .before .before .before .before .before .before .before .before .before .before .pre .0 .few))
+    first-count (c .before .before .before .place .last .1 .1 .1 .1 .1 .1 .0) (drop n (replicate 1024 0)) n (c .before .before .before .place .kept .1 .1 .1 .1 .1 .1 .0 ∙ length-take-le n (replicate 1024 0) (c .before .before .before .before .before .before .before .before .before .before .before .before .before .before .before .before .pre .0 .few))
 
 widen-requires : tie.Need-widen-requires
 widen-requires c κs =
     let n = length (c .before .before .before .before .before .before .before .before .before .before .before .before .before .before .before .before .before .args .next .now) in
-    c .before .before .before .before .before .before .before .before .before .before .before .before .before .before .before .before .before .pre .1 ∙ first-count (c .before .before .before .before .place .last .1 .1 .1 .1 .1 .0) (drop n (replicate 1024 0)) n (c .before .before .before .before .place .kept .1 .1 .1 .1 .1 .0 ∙ length-take-le n (replicate 1024 0) (c .before .before .before .before .before .before .before .before .before .before .before .before .before .before .before .before .before .pre .0 .few))
+    c .before .before .before .before .before .before .before .before .before .before .before .before .before .before .before .before .before .pre .1 ∙ first-count (c .before .before .before .before .place .last .1 .1 .1 .1 .1 .1 .0) (drop n (replicate 1024 0)) n (c .before .before .before .before .place .kept .1 .1 .1 .1 .1 .1 .0 ∙ length-take-le n (replicate 1024 0) (c .before .before .before .before .before .before .before .before .before .before .before .before .before .before .before .before .before .pre .0 .few))
 
 same-length : tie.Need-same-length
 same-length c = c .before .widen .kept .1 .0
@@ -87,9 +87,9 @@ returns c =
     let p = c .before .before .before .before .before .before .before .before .before .before .before .before .before .before .before .before .before .before .before .pre .0 in
     let n = length (a .next .now) in
     let sibling = c .before .before .before .before .before .before .before .before .before .before .before .siblings .last .1 .1 .1 .0 in
-    let at = c .before .before .before .before .before .before .place .last .1 .1 .1 .1 .1 .0 in
+    let at = c .before .before .before .before .before .before .place .last .1 .1 .1 .1 .1 .1 .0 in
     let s = first-is sibling (drop n (replicate 1024 2048)) n (c .before .before .before .before .before .before .before .before .before .before .before .siblings .kept .1 .1 .1 .0 ∙ length-take-le n (replicate 1024 2048) (p .few)) in
-    let t = first-is at (drop n (replicate 1024 0)) n (c .before .before .before .before .before .before .place .kept .1 .1 .1 .1 .1 .0 ∙ length-take-le n (replicate 1024 0) (p .few)) in
+    let t = first-is at (drop n (replicate 1024 0)) n (c .before .before .before .before .before .before .place .kept .1 .1 .1 .1 .1 .1 .0 ∙ length-take-le n (replicate 1024 0) (p .few)) in
     stand-is (a .gap) (a .halves .now) (a .next .now) (a .top .now) (a .order .now) (a .right .now) (a .classes .now) p sibling _ at _ (c .before .before .before .before .before .before .before .before .before .before .before .siblings .ensures) s (c .before .before .before .before .before .before .place .ensures) (c .before .widen .ensures ∙ ap (λ (l : List ℕ). map pos l) t)
 
 pub stand-spec : {M : Type 1} → statement M

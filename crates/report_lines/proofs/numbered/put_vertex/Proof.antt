@@ -9,25 +9,25 @@ use Rattle.report_lines.proofs.numbered.put_vertex.Statement.{statement
 use Rattle.report_lines.proofs.numbered.put_vertex.Tie as tie
 
 shared-slice-read-put-at : tie.Need-shared-slice-read-put-at
-shared-slice-read-put-at c = let s = c .before .before .before .before .before .before .before in omega (arith, s .pre .table, s .pre .vertex)
+shared-slice-read-put-at c = let s = c .before .before .before .before .before .before in omega (arith, s .pre .table, s .pre .vertex)
 
 put-at-requires : tie.Need-put-at-requires
 put-at-requires c κs =
-    let s = c .before .before .before .before .before .before .before in
+    let s = c .before .before .before .before .before .before in
     let h = within-at (s .args .preliminary .now) (s .args .v) (s .pre .positions .ofPreliminary) in
     let k = within-at (s .args .finals .now) (s .args .v) (s .pre .positions .ofFinals) in
-    rw (c .before .before .before .printed-number .ensures, read-back (getD (s .args .preliminary .now) (s .args .v) (pos 0)) h, read-back (getD (s .args .finals .now) (s .args .v) (pos 0)) k) (h, k, s .pre .room)
+    rw (read-back (getD (s .args .preliminary .now) (s .args .v) (pos 0)) h, read-back (getD (s .args .finals .now) (s .args .v) (pos 0)) k) (h, k, s .pre .room)
 
 returns : tie.Need-returns
 returns c =
-    let s = c .before .before .before .before .before .before .before .before .before .before in
+    let s = c .before .before .before .before .before .before .before .before .before in
     let h = within-at (s .args .preliminary .now) (s .args .v) (s .pre .positions .ofPreliminary) in
     let k = within-at (s .args .finals .now) (s .args .v) (s .pre .positions .ofFinals) in
-    rw (c .before .before .before .before .before .before .printed-number .ensures, read-back (getD (s .args .preliminary .now) (s .args .v) (pos 0)) h, read-back (getD (s .args .finals .now) (s .args .v) (pos 0)) k)
+    rw (read-back (getD (s .args .preliminary .now) (s .args .v) (pos 0)) h, read-back (getD (s .args .finals .now) (s .args .v) (pos 0)) k)
     at (c .before .before .put-at .ensures)
 
 pub put-vertex-spec : {M : Type 1} → statement M
 put-vertex-spec =
     tie.close
-    (tie.spec (λ c κs. search needs) (λ c. search needs) (λ c. search needs) (λ c. search needs) (λ c. search needs)
+    (tie.spec (λ c. search needs) (λ c. search needs) (λ c. search needs) (λ c. search needs)
     (λ c. search needs) shared-slice-read-put-at put-at-requires (λ c. search needs) returns)

@@ -21,17 +21,14 @@ loop-holds : tie.Need-loop-holds Inv-loop μ-loop
 loop-holds c = let a = c .before .before .args in (omega arith, refl, no-vertex-yet (a .preliminary .now) (a .finals .now) (heightIn (a .heights .now)) (a .out .now) (a .from))
 
 put-vertex-requires : tie.Need-put-vertex-requires Inv-loop μ-loop
-put-vertex-requires c κs =
-    let l = c .before .before .before .loop in
-    vertex-room (c .before .before .before .before .before .before .pre) (l .n) (c .before .before .loop-test .taken) (c .vertex-of-line .result) (c .vertex-of-line .ensures) (l .inv .2)
+put-vertex-requires c κs = let l = c .before .before .loop in vertex-room (c .before .before .before .before .before .pre) (l .n) (c .before .loop-test .taken) (l .inv .2)
 
 loop-again : tie.Need-loop-again Inv-loop μ-loop
 loop-again c =
-    let l = c .before .before .before .before .before .before .loop in
-    let v = c .before .before .before in (
+    let l = c .before .before .before .before .before .loop in (
       omega arith,
       c .before .before .put-vertex .kept .0 ∙ l .inv .1,
-      vertex-written (c .before .before .before .before .before .before .before .before .before .pre) (l .n) (c .before .before .before .before .before .loop-test .taken) (v .vertex-of-line .result) (v .vertex-of-line .ensures) (l .inv .2) (c .before .before .put-vertex .ensures),
+      vertex-written (c .before .before .before .before .before .before .before .before .pre) (l .n) (c .before .before .before .before .loop-test .taken) (l .inv .2) (c .before .before .put-vertex .ensures),
     )
 
 returns : tie.Need-returns Inv-loop μ-loop
@@ -42,5 +39,5 @@ returns c =
 pub put-vertices-spec : {M : Type 1} → statement M
 put-vertices-spec =
     tie.close
-    (tie.spec Inv-loop μ-loop loop-holds (λ c κs. search needs) put-vertex-requires (λ c. search needs) (λ c. search needs)
+    (tie.spec Inv-loop μ-loop loop-holds put-vertex-requires (λ c. search needs) (λ c. search needs)
     loop-again (λ c. search needs) returns)

@@ -8,10 +8,10 @@ use lib.Seq.{length-take-le}
 use lib.IntN.{ℤ, pos}
 use Rattle.ints.proofs.FrontLaws.{first-fit, first-is, first-count}
 use Rattle.plan.specs.Plan.{PlanData}
+use Rattle.plan.specs.inner.Held.{heldPlan}
 use Rattle.pass_draw.specs.inner.Made.{Made}
 use Rattle.sheet_show.specs.inner.Shown.{fittedText}
 use Rattle.sheet_show.proofs.ShowLaws.{writes}
-use Rattle.text_report.specs.inner.Drawn.{heldPlan}
 use Rattle.text_report.proofs.Shown.{holds-held, few-vertices, in-passes, in-levels, in-counts, report-asked, report-is}
 use Rattle.text_report.proofs.Texts.{report-of}
 use Rattle.text_report.proofs.whole.report_plan.Statement.{statement}

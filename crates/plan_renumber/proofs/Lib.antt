@@ -1,0 +1,9 @@
+pub mod Places
+pub mod Own
+pub mod Segments
+pub mod Kept
+pub mod Back
+pub mod Loops
+pub mod Codes
+pub mod Marks
+pub mod Arrays

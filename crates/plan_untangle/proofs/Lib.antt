@@ -1,0 +1,9 @@
+pub mod Example
+pub mod Orders
+pub mod Untangled
+pub mod Sharing
+pub mod Steps
+pub mod Tables
+pub mod Levels
+pub mod Whole
+pub mod Arrays

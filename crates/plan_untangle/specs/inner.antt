@@ -1,0 +1,4 @@
+-- Words of inner contracts: what the arrays hold and what is left in them. No public promise rests on them.
+pub mod Turns
+pub mod Ordering
+pub mod Arrays

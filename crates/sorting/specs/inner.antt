@@ -1,0 +1,2 @@
+-- Words of inner contracts and of laws. No public promise rests on them.
+pub mod Words
