@@ -35,13 +35,14 @@ moved m s = record { upper = placeIn m (s .upper); lower = placeIn m (s .lower) 
 unfoldable pub movedSegments : PlanData → List ℕ → List Segment
 movedSegments p m = sortBy segmentKey (map (moved m) (segmentsOf p))
 
+-- "Vertices are then renumbered, segments sorted anew".
 unfoldable pub renumbered : PlanData → List ℕ → PlanData
 renumbered p m =
     let ss = movedSegments p m in
     dataOf (p .levels) (p .gap) (p .spacing) (p .sizes) (map (λ v. isVia p v) m) (map (λ v. halfWidth p v) m)
     (map (λ s. s .upper) ss) (map (λ s. s .lower) ss)
 
--- Whether m has each vertex of the plan once, each on the level of its new number.
+-- Whether numbers are "each level's own, once each": m has each vertex of the plan once, each on the level of its place.
 abbrev pub isOnce : List ℕ → ℕ → Bool
 isOnce m v = eqb (countOf v m) 1
 

@@ -7,7 +7,7 @@ ghost use lib.ListN.{length};
 ghost use Rattle.plan.specs.Plan.{PlanData};
 ghost use Rattle.plan.specs.Checks.{every};
 ghost use Rattle.plan_renumber.specs.Renumber.{ownNumbers};
-ghost use Rattle.plan_renumber.specs.inner.Own.{isNew, Markable, Marks, Numbered, Numbers};
+ghost use Rattle.plan_renumber.specs.inner.Own.{isNew, Markable, Marks, FewNumbers, Numbers};
 
 // Whether v is a vertex on level l that was not seen yet. `level` has the level of every vertex.
 fn is_new(level: &[u16], seen: &[bool], l: u16, v: usize) -> bool
@@ -55,7 +55,7 @@ fn all(seen: &[bool]) -> bool
 
 // The same, with room for the level of every vertex and for a mark of each.
 fn own_by(sizes: &[u16], numbers: &[u16], level: &mut [u16], seen: &mut [bool]) -> bool
-    requires { ⌜ Numbered (now sizes) (now numbers) × Markable (now level) (now numbers) (now seen) ⌝ }
+    requires { ⌜ FewNumbers (now sizes) (now numbers) × Markable (now level) (now numbers) (now seen) ⌝ }
     ensures { λ r. ⌜ ((p : PlanData) → Numbers p (now (sizes .entry)) (now (numbers .entry)) → r ≡ ownNumbers p (now (numbers .entry))) ⌝ }
 {
     levels(sizes, level);
@@ -67,7 +67,7 @@ fn own_by(sizes: &[u16], numbers: &[u16], level: &mut [u16], seen: &mut [bool]) 
 
 // Whether these numbers are own numbers of a plan with these level sizes and as many vertices.
 pub fn own_numbers(sizes: &[u16], numbers: &[u16]) -> bool
-    requires { ⌜ Numbered (now sizes) (now numbers) ⌝ }
+    requires { ⌜ FewNumbers (now sizes) (now numbers) ⌝ }
     ensures { λ r. ⌜ ((p : PlanData) → Numbers p (now (sizes .entry)) (now (numbers .entry)) → r ≡ ownNumbers p (now (numbers .entry))) ⌝ }
 {
     let mut level = [0u16; Plan::MAX_VERTICES];

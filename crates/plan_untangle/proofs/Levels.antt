@@ -10,7 +10,7 @@ use Rattle.plan.proofs.Sound.{goes}
 use Rattle.plan_renumber.specs.inner.Words.{Once}
 use Rattle.plan_untangle.specs.Order.{orderTo, order as orderOf}
 use Rattle.plan_untangle.specs.inner.Turns.{sharedBy, Sharable}
-use Rattle.plan_untangle.specs.inner.Ordering.{Ordering, SomeOrdering, Room}
+use Rattle.plan_untangle.specs.inner.Ordering.{Ordering, SomeOrdering, ShareRoom}
 use Rattle.plan_untangle.proofs.Orders.{order-start, order-once}
 use Rattle.plan_untangle.proofs.Steps.{upper-below, step-is}
 
@@ -38,7 +38,7 @@ module _ (levels : ℕ) (turn upper order₀ places₀ codes₀ : List ℕ) (som
     unfolding orderOf
     rearrange-end h p o = w .after p o ∙ ap (orderTo p) (omega (arith, w .high, o .levelsAre))
 
-    pub rearrange-sharable : Room order₀ places₀ codes₀ → Sharable turn upper order places codes
+    pub rearrange-sharable : ShareRoom order₀ places₀ codes₀ → Sharable turn upper order places codes
     rearrange-sharable r =
         let p = some .plan in
         let t = some .tables in

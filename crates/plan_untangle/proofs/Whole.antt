@@ -14,7 +14,7 @@ use Rattle.plan.proofs.LimitLaws.{limits}
 use Rattle.plan.proofs.GraphLaws.{within-of, same-3}
 use Rattle.plan.proofs.Sound.{goes}
 use Rattle.plan_untangle.specs.Order.{upperEnd}
-use Rattle.plan_untangle.specs.inner.Ordering.{Tangled, SomeTangled, Endable, Ended, Turnable, Turned, Ordering, SomeOrdering, Room, Tables}
+use Rattle.plan_untangle.specs.inner.Ordering.{Tangled, SomeTangled, Endable, Ended, Turnable, Turned, Ordering, SomeOrdering, ShareRoom, Tables}
 use Rattle.plan_untangle.proofs.Steps.{upper-below}
 
 module _ (p : PlanData) (sizes : List ℕ) (vias : List Bool) (us ls : List ℕ) (t : Tangled p sizes vias us ls) where
@@ -92,7 +92,7 @@ module _ (sizes : List ℕ) (vias : List Bool) (us ls order turn upper places co
     made p q = ordering p sizes vias us ls q level turn′ upper″ lv (ll ∙ r .turns-long) (ul ∙ r .uppers-long) e tu (tl ∙ ll ∙ r .turns-long) order′
         (o ∙ ap (numbers 0) (r .order-long))
 
-    pub all-made : SomeOrdering (length sizes) turn′ upper″ order′ × Room order′ places codes
+    pub all-made : SomeOrdering (length sizes) turn′ upper″ order′ × ShareRoom order′ places codes
     all-made =
         let long : length order′ ≡ length order = ap length o ∙ length-numbers 0 (length order) in (
           record { plan = s .plan; tables = made (s .plan) t },

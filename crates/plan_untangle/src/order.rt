@@ -9,7 +9,7 @@ ghost use lib.ListN.{length};
 ghost use Rattle.plan.specs.Plan.{PlanData, numbers};
 ghost use Rattle.plan.specs.Limits.{maxVertices};
 ghost use Rattle.plan_untangle.specs.Order.{order as orderOf};
-ghost use Rattle.plan_untangle.specs.inner.Ordering.{Tangled, SomeTangled, Endable, Ended, Turnable, Turned, Ordering, SomeOrdering, Room, Tables};
+ghost use Rattle.plan_untangle.specs.inner.Ordering.{Tangled, SomeTangled, Endable, Ended, Turnable, Turned, Ordering, SomeOrdering, ShareRoom, Tables};
 
 // Writes the numbers from 0 on.
 fn count_up(out: &mut [u16])
@@ -70,7 +70,7 @@ fn share_levels(
     places: &mut [u16],
     codes: &mut [u32],
 )
-    requires { ⌜ SomeOrdering levels (now turn) (now upper) (now order) × Room (now order) (now places) (now codes) ⌝ }
+    requires { ⌜ SomeOrdering levels (now turn) (now upper) (now order) × ShareRoom (now order) (now places) (now codes) ⌝ }
     ensures { λ _. ⌜ ((p : PlanData) → Ordering p levels (now (turn .entry)) (now (upper .entry)) (now (order .entry)) → now (order .exit) ≡ orderOf p) ⌝ }
 {
     let mut l: usize = 2;

@@ -40,7 +40,7 @@ pub record Numbers (p : PlanData) (sizes m : List ℕ) : Type 0 where
   pub many : vertexCount p ≡ length m
 
 -- Level sizes and numbers within the limits.
-pub record Numbered (sizes m : List ℕ) : Type 0 where
+pub record FewNumbers (sizes m : List ℕ) : Type 0 where
   pub levels : length sizes ≤ maxLevels
   pub vertices : length m ≤ maxVertices
 

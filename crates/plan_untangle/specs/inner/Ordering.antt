@@ -69,7 +69,7 @@ pub record SomeOrdering (levels : ℕ) (turn upper order : List ℕ) : Type 0 wh
   pub tables : Ordering plan levels turn upper order
 
 -- Room for the place of each vertex and for as many codes.
-pub record Room (order places codes : List ℕ) : Type 0 where
+pub record ShareRoom (order places codes : List ℕ) : Type 0 where
   pub places-long : length places ≡ length order
   pub enough : length order ≤ length codes
 
