@@ -24,7 +24,7 @@ use Rattle.pass_list.specs.inner.Ended.{Written}
 use Rattle.pass_draw.specs.inner.Turn.{graph}
 use Rattle.plan.specs.inner.Held.{HoldsPlan}
 use Rattle.plan.proofs.HeldLaws.{bounds as proper}
-use Rattle.pass_draw.specs.inner.Drawn.{Unlisted, begun, AtStart}
+use Rattle.pass_draw.specs.inner.Drawn.{Wanted, Unlisted, begun, AtStart}
 
 none-written : (p : PlanData) {g : Columns} → Unlisted g → Written p [] 0 0 g
 unfolding visitAll startAt listed boxesListed
@@ -73,7 +73,7 @@ module _ {p : PlanData} {gap : ℕ} {ns : List ℕ} {vias : List Bool} {halves u
             ∙ ap (λ (xs : List ℤ). levelwise (λ (v to : ℕ). startsLoose (p .vias) (doubledIn p (levelsOf p)) xs v to) 0 ns) a
             ∙ ap (λ (ms : List ℕ). levelwise (λ (v to : ℕ). startsLoose (p .vias) (doubledIn p (levelsOf p)) (preliminary p) v to) 0 ms) (sym (l .sizesAre))
 
-        pub at-start : {g : Columns} → Unlisted g → AtStart (begun (graph ns vias uppers lowers) at apart marks g) p
+        pub at-start : {g : Columns} → (Wanted g → Unlisted g) → AtStart (begun (graph ns vias uppers lowers) at apart marks g) p
         unfolding visitAll startAt
         at-start u = record {
           is = record {
@@ -85,7 +85,7 @@ module _ {p : PlanData} {gap : ℕ} {ns : List ℕ} {vias : List Bool} {halves u
               long = marks-length p marks-are (l .ok);
               unsettled = start-unsettled p marks-are (l .ok);
             };
-            written = none-written p u;
+            written = λ w. none-written p (u w);
             viasAre = sym (l .viasAre);
             uppersAre = sym (l .uppersAre);
             lowersAre = sym (l .lowersAre);

@@ -11,7 +11,6 @@ use Rattle.plan.specs.Plan.{PlanData}
 use Rattle.plan.specs.Acceptable.{acceptable}
 use Rattle.passes.specs.State.{State}
 use Rattle.passes.specs.Drawing.{Placing, drawingOf, listed}
-use Rattle.passes.specs.Words.{boxesListed}
 use Rattle.passes.proofs.Sound.{sound}
 use Rattle.passes.specs.inner.Schedule.{start, Visit, passVisits, firstPass, secondPass, thirdPass, schedule}
 use Rattle.passes.proofs.Schedule.{three-is}
@@ -20,11 +19,11 @@ use Rattle.pass_tables.specs.inner.Moments.{stateAfter, Held, AtPass}
 use Rattle.pass_neighbours.specs.inner.Order.{inTurn}
 use Rattle.pass_neighbours.proofs.OrderLaws.{starts-are}
 use Rattle.pass_visits.specs.inner.Passing.{PassDone}
-use Rattle.pass_list.specs.inner.Listing.{Columns, Lies}
+use Rattle.pass_list.specs.inner.Listing.{Columns, Stored}
 use Rattle.pass_list.specs.inner.Ended.{Written, Copied, Ending, ending, AtEnd, PassEnding, PassListed}
 use Rattle.pass_list.proofs.PassWritten.{pass-end, pass-fits, pass-written}
 use Rattle.pass_draw.specs.inner.Turn.{graph, TurnNext}
-use Rattle.pass_draw.specs.inner.Drawn.{Drawn, Begun, begun, AtStart, AtFirst}
+use Rattle.pass_draw.specs.inner.Drawn.{Wanted, Drawn, Begun, begun, AtStart, AtFirst}
 
 -- ---- the visits of m passes from pass q on
 unfoldable pub turnsFrom : PlanData → ℕ → ℕ → List Visit
@@ -56,7 +55,7 @@ drawing-placings p = ap (λ (s : State). listed p (s .trace)) (sym (three-is p (
 pub record Reached (p : PlanData) (q n b : ℕ) (at : List ℤ) (apart : List ℕ) (marks : List Bool) (g : Columns) : Type 0 where
   pub past : List Visit
   pub held : Held p past (turnsFrom p (4 - q) q) at apart marks
-  pub written : Written p past n b g
+  pub written : Wanted g → Written p past n b g
 
 module _ {k : Begun} {p : PlanData} (s : AtStart k p) where
   ok : acceptable p ≡ true
@@ -96,9 +95,7 @@ module _ {p : PlanData} {q n b : ℕ} {at : List ℤ} {apart : List ℕ} {marks 
   pub all-drawn : Drawn n b at g p
   all-drawn = record {
     final = r .held .places ∙ ap (λ (vs : List Visit). stateAfter p vs .at) all-past ∙ drawing-final p;
-    lists = subst (λ (l : List Placing). Lies l g) all-listed (r .written .lists);
-    placings = r .written .placings ∙ ap length all-listed;
-    boxes = r .written .boxes ∙ ap (λ (l : List Placing). length (boxesListed l)) all-listed;
+    listed = λ w. subst (λ (l : List Placing). Stored n b g l) all-listed (r .written w);
   }
 
 -- ---- one turn
@@ -129,12 +126,12 @@ module _ {k : Begun} {p : PlanData} (s : AtFirst k p) {q n b : ℕ} {at : List �
       abbrev listed-before : AtEnd
       listed-before = record { plan = p; before = listed p (stateAfter p (r .past) .trace) }
 
-      pub ended : PassEnding q n b (k .graph .levels) then listed-before
-      ended = record {
+      pub ended : Wanted g → PassEnding q n b (k .graph .levels) then listed-before
+      ended w = record {
         is = pass-end one three (turn .held) copy long d (s .startsAre) (s .is .viasAre);
-        stored = r .written;
-        fits = pass-fits one three (turn .held) copy long d (r .written);
+        stored = r .written w;
+        fits = pass-fits one three (turn .held) copy long d (r .written w);
       }
 
-      pub reached-then : (n′ b′ : ℕ) (g′ : Columns) → PassListed q n′ b′ then g′ listed-before → Reached p (q + 1) n′ b′ at′ apart′ marks′ g′
-      reached-then n′ b′ g′ x = record { past = _; held = d; written = pass-written one three (turn .held) copy long d n′ b′ g′ x }
+      pub reached-then : (n′ b′ : ℕ) (g′ : Columns) → (Wanted g′ → PassListed q n′ b′ then g′ listed-before) → Reached p (q + 1) n′ b′ at′ apart′ marks′ g′
+      reached-then n′ b′ g′ x = record { past = _; held = d; written = λ w. pass-written one three (turn .held) copy long d n′ b′ g′ (x w) }

@@ -5,7 +5,7 @@ ghost use mathlib.Core.Path.{_≡_};
 ghost use lib.ListN.{length};
 ghost use Rattle.plan.specs.Plan.{PlanData};
 ghost use Rattle.plan.specs.inner.Held.{HoldsPlan};
-ghost use Rattle.pass_draw.specs.inner.Made.{Blank, Made};
+ghost use Rattle.pass_draw.specs.inner.Made.{Blank, Made, Room, Done};
 
 pub fn copy_positions(from: &[i64], to: &mut [i64])
     requires { ⌜ length (now to) ≡ length (now from) ⌝ }
@@ -16,6 +16,46 @@ pub fn copy_positions(from: &[i64], to: &mut [i64])
         to[i] = from[i];
         i += 1;
     }
+}
+
+// Draws, and answers how many placings were listed. The arrays of the list are 0 before; where they have no length none is listed.
+pub fn make_drawing(
+    gap: u32,
+    lengths: &[u16],
+    vias: &[bool],
+    halves: &[u16],
+    uppers: &[u32],
+    lowers: &[u32],
+    preliminary: &mut [i64],
+    finals: &mut [i64],
+    passes: &mut [u16],
+    levels: &mut [u16],
+    counts: &mut [u16],
+    vertices: &mut [u16],
+    positions: &mut [i64],
+) -> usize
+    requires { ⌜ Room gap (now lengths) (now vias) (now halves) (now uppers) (now lowers) (now preliminary) (now finals)
+        (now passes) (now levels) (now counts) (now vertices) (now positions) ⌝ }
+    ensures { λ r. ⌜ ((p : PlanData) → HoldsPlan p gap (now (lengths .entry)) (now (vias .entry)) (now (halves .entry)) (now (uppers .entry)) (now (lowers .entry))
+        → Done p r (now (preliminary .exit)) (now (finals .exit)) (now (passes .exit)) (now (levels .exit)) (now (counts .exit)) (now (vertices .exit)) (now (positions .exit))) ⌝ }
+{
+    preliminary_positions(gap, lengths, vias, halves, uppers, lowers, preliminary);
+    copy_positions(preliminary, finals);
+    let list = three_passes(
+        gap,
+        lengths,
+        vias,
+        halves,
+        uppers,
+        lowers,
+        finals,
+        passes,
+        levels,
+        counts,
+        vertices,
+        positions,
+    );
+    list.placings
 }
 
 // Draws, and answers how many placings were listed. The arrays of the list are 0 before.
@@ -39,21 +79,19 @@ pub fn draw(
     ensures { λ r. ⌜ ((p : PlanData) → HoldsPlan p gap (now (lengths .entry)) (now (vias .entry)) (now (halves .entry)) (now (uppers .entry)) (now (lowers .entry))
         → Made p r (now (preliminary .exit)) (now (finals .exit)) (now (passes .exit)) (now (levels .exit)) (now (counts .exit)) (now (vertices .exit)) (now (positions .exit))) ⌝ }
 {
-    preliminary_positions(gap, lengths, vias, halves, uppers, lowers, preliminary);
-    copy_positions(preliminary, finals);
-    let list = three_passes(
+    make_drawing(
         gap,
         lengths,
         vias,
         halves,
         uppers,
         lowers,
+        preliminary,
         finals,
         passes,
         levels,
         counts,
         vertices,
         positions,
-    );
-    list.placings
+    )
 }

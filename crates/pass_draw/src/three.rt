@@ -13,9 +13,9 @@ ghost use lib.ListN.{length};
 ghost use Rattle.pass_tables.specs.inner.Moments.{Some, Leaves};
 ghost use Rattle.pass_visits.specs.inner.Passing.{PassDone};
 ghost use Rattle.pass_list.specs.inner.Listing.{columns};
-ghost use Rattle.pass_list.specs.inner.Ended.{Copied};
+ghost use Rattle.pass_list.specs.inner.Ended.{Copied, Ending, ending, PassEnding, PassListed};
 ghost use Rattle.pass_draw.specs.inner.Turn.{Graph, graph, Lent, TurnNext};
-ghost use Rattle.pass_draw.specs.inner.Drawn.{Drawn, Begun, begun, AtStart, AtFirst, Unlisted, PlanLists, planLists, Outset};
+ghost use Rattle.pass_draw.specs.inner.Drawn.{Wanted, Drawn, Begun, begun, AtStart, AtFirst, Unlisted, PlanLists, planLists, Outset};
 
 // Keeps the marks.
 fn copy_marks(marks: &[bool], had: &mut [bool])
@@ -51,6 +51,46 @@ fn run_pass(
 {
     neighbours(q, uppers, lowers, first, ends);
     pass(q, starts, vias, first, ends, at, apart, marks);
+}
+
+// Lists the placed runs of pass q, if the list is wanted.
+fn list_wanted(
+    q: u16,
+    starts: &[u16],
+    vias: &[bool],
+    had: &[bool],
+    marks: &[bool],
+    at: &[i64],
+    list: Listed,
+    passes: &mut [u16],
+    levels: &mut [u16],
+    sizes: &mut [u16],
+    vertices: &mut [u16],
+    positions: &mut [i64],
+) -> Listed
+    ghost { Ending }
+    requires { λ k. ⌜ ending (now vias) (now had) (now marks) (now at) (columns (now passes) (now levels) (now sizes) (now vertices) (now positions)) ≡ k ⌝ }
+    requires { λ k. ⌜ (Wanted (k .list) → Some (PassEnding q (list .placings) (list .boxes) (now starts) k)) ⌝ }
+    ensures { λ k r. ⌜ (Wanted (k .list) → Leaves (PassEnding q (list .placings) (list .boxes) (now (starts .entry)) k) (PassListed q (r .placings) (r .boxes) k
+        (columns (now (passes .exit)) (now (levels .exit)) (now (sizes .exit)) (now (vertices .exit)) (now (positions .exit))))) ⌝ }
+{
+    if passes.len() == 0 {
+        return list;
+    }
+    list_pass(
+        q,
+        starts,
+        vias,
+        had,
+        marks,
+        at,
+        list,
+        passes,
+        levels,
+        sizes,
+        vertices,
+        positions,
+    )
 }
 
 // The three passes, from the first visit on; each is listed when it ends.
@@ -97,7 +137,7 @@ fn run_passes(
             apart,
             marks,
         );
-        listed = list_pass(
+        listed = list_wanted(
             q,
             starts,
             vias,
@@ -163,7 +203,7 @@ fn run_with_tables(
     )
 }
 
-// Draws: `at` holds the preliminary positions, and afterwards the final ones; the list of placings goes into the five arrays.
+// Draws: `at` holds the preliminary positions, and afterwards the final ones; the list of placings, if it is wanted, goes into the five arrays.
 pub fn three_passes(
     gap: u32,
     lengths: &[u16],
@@ -180,7 +220,8 @@ pub fn three_passes(
 ) -> Listed
     ghost { PlanLists }
     requires { λ l. ⌜ planLists gap (now lengths) (now vias) (now halves) (now uppers) (now lowers) ≡ l ⌝ }
-    requires { λ l. ⌜ Some (Outset l (now at)) × Unlisted (columns (now passes) (now levels) (now sizes) (now vertices) (now positions)) ⌝ }
+    requires { λ l. ⌜ Some (Outset l (now at)) × (Wanted (columns (now passes) (now levels) (now sizes) (now vertices) (now positions))
+        → Unlisted (columns (now passes) (now levels) (now sizes) (now vertices) (now positions))) ⌝ }
     ensures { λ l r. ⌜ Leaves (Outset l (now (at .entry))) (Drawn (r .placings) (r .boxes) (now (at .exit))
         (columns (now (passes .exit)) (now (levels .exit)) (now (sizes .exit)) (now (vertices .exit)) (now (positions .exit)))) ⌝ }
 {

@@ -17,8 +17,13 @@ ghost use Rattle.run.specs.Call.{Request, isTaken, placedOf};
 ghost use Rattle.pass_tables.specs.inner.Moments.{Some, Leaves, Placing, Placed};
 ghost use Rattle.pass_place.specs.inner.Asked.{lowOf, highOf, leftOf, rightOf, asked, rowsLong, takenOn, Rowed, Standing};
 
-// The most neighbours in all of what is placed with the lesser working space.
-const FEW: usize = 64;
+// The most neighbours in all of what is placed with the least working space, and with the lesser.
+const FEW: usize = 16;
+
+const SOME: usize = 256;
+
+// The most boxes of what is placed with the lesser space for where they go.
+const FEW_BOXES: usize = 8;
 
 // The first member: the via left of the boxes, if one stands there.
 fn low_end(start: usize, from: usize) -> usize
@@ -101,7 +106,56 @@ fn place_near(
     );
 }
 
-// The same, with as much working space as the neighbours ask for, since most runs have few, and none where there are no boxes.
+// The same of more than a few neighbours, with as much working space as they ask for.
+fn place_many(
+    left: Bound,
+    right: Bound,
+    distances: &[u64],
+    from: usize,
+    end: usize,
+    first: &[u16],
+    ends: &[u32],
+    at: &[i64],
+    answer: &mut [i64],
+)
+    ghost { Request }
+    requires { λ q. ⌜ asked left right (now distances) from end (now first) (now ends) (now at) ≡ q ⌝ }
+    requires { λ q. ⌜ Rowed from end (now first) (now ends) (now at) ⌝ }
+    requires { λ q. ⌜ isTaken q (now answer) ≡ true ⌝ }
+    ensures { λ q _. ⌜ now (answer .exit) ≡ placedOf q ⌝ }
+{
+    if wide(first[end]) - wide(first[from]) <= SOME {
+        let mut near = [0i64; SOME];
+        place_near(
+            left,
+            right,
+            distances,
+            from,
+            end,
+            first,
+            ends,
+            at,
+            &mut near,
+            answer,
+        );
+        return;
+    }
+    let mut near = [0i64; MAX_NEIGHBOURS];
+    place_near(
+        left,
+        right,
+        distances,
+        from,
+        end,
+        first,
+        ends,
+        at,
+        &mut near,
+        answer,
+    );
+}
+
+// The same, with little working space, since most runs have few neighbours, and none where there are no boxes.
 fn place_boxes(
     left: Bound,
     right: Bound,
@@ -138,19 +192,7 @@ fn place_boxes(
         );
         return;
     }
-    let mut near = [0i64; MAX_NEIGHBOURS];
-    place_near(
-        left,
-        right,
-        distances,
-        from,
-        end,
-        first,
-        ends,
-        at,
-        &mut near,
-        answer,
-    );
+    place_many(left, right, distances, from, end, first, ends, at, answer);
 }
 
 // Whether a via stands on both sides.
@@ -225,6 +267,21 @@ pub fn place_one(
         (Placed (now (at .exit)) (now (apart .exit))) ⌝ }
 {
     let n = end - from;
+    if n <= FEW_BOXES {
+        let mut answer = [0i64; FEW_BOXES];
+        place_with(
+            start,
+            from,
+            end,
+            to,
+            first,
+            ends,
+            at,
+            apart,
+            &mut answer[..n],
+        );
+        return;
+    }
     let mut answer = [0i64; MAX_BOXES];
     place_with(
         start,

@@ -15,9 +15,10 @@ use Rattle.passes.proofs.Sound.{sound}
 use Rattle.passes.specs.inner.Schedule.{Visit}
 use Rattle.pass_tables.specs.inner.Joins.{Readable, readyBy}
 use Rattle.pass_tables.specs.inner.Moments.{stateAfter, AtVisit}
+use Rattle.pass_tables.proofs.RunEnds.{left-on}
 use Rattle.pass_tables.proofs.Due.{InOrder, left-none, left-some, right-none, right-some, in-order, due-left, due-right, due-third, due-ready}
 use Rattle.pass_tables.proofs.ReadyLaws.{left-inside, right-inside, before-inside, after-inside, ready-is}
-use Rattle.pass_visits.specs.inner.Visits.{Work, Visiting}
+use Rattle.pass_visits.specs.inner.Visits.{Work, Asks, Visiting}
 
 module _ {q start from end to : ℕ} {k : Work} {m : AtVisit} (v : Visiting q start from end to k m) where
   abbrev p : PlanData
@@ -78,15 +79,18 @@ module _ {q start from end to : ℕ} {k : Work} {m : AtVisit} (v : Visiting q st
     pub due-in-third : getD marks (from - 1) false ≡ true → q ≡ 3 → eqb q 3 ≡ isDue p q (stateAfter p past) (w .run)
     due-in-third e z = eq-eqb q 3 z ∙ sym e ∙ sym (due-third (v .held .unsettled) (v .run .is) (from - 1) end left-is right-is q z)
 
+    asks : getD marks (from - 1) false ≡ true → (q ≡ 3 → ⊥) → Asks p q (w .run .level) marks
+    asks e n = record { notThird = n; via = from - 1; on = left-on (v .run .is) (from - 1) left-is; unsettled = e }
+
     pub due-if-ready : getD marks (from - 1) false ≡ true → (q ≡ 3 → ⊥) → readyBy before after counts (from - 1) end ≡ isDue p q (stateAfter p past) (w .run)
     due-if-ready e n = sym (due-ready (v .held .unsettled) (v .run .is) (from - 1) end left-is right-is q n
         ∙ ap (λ (t : Bool). t && isReady p q (stateAfter p past) (w .run)) e
-        ∙ ready-is (v .held .ok) (v .near) (v .run .is) (v .tables) (from - 1) end left-is right-is (v .held .unsettled))
+        ∙ ready-is (v .held .ok) (v .near) (v .run .is) (v .tables (asks e n)) (from - 1) end left-is right-is (v .held .unsettled))
 
-    pub may-ask : Readable before after counts (from - 1) end
-    may-ask = (
-      left-inside (v .held .ok) (v .near) (v .run .is) (v .tables) (from - 1) end left-is right-is,
-      right-inside (v .held .ok) (v .near) (v .run .is) (v .tables) (from - 1) end left-is right-is,
-      before-inside (v .held .ok) (v .near) (v .run .is) (v .tables) (from - 1) end left-is right-is,
-      after-inside (v .held .ok) (v .near) (v .run .is) (v .tables) (from - 1) end left-is right-is,
+    pub may-ask : getD marks (from - 1) false ≡ true → (q ≡ 3 → ⊥) → Readable before after counts (from - 1) end
+    may-ask e n = let t = v .tables (asks e n) in (
+      left-inside (v .held .ok) (v .near) (v .run .is) t (from - 1) end left-is right-is,
+      right-inside (v .held .ok) (v .near) (v .run .is) t (from - 1) end left-is right-is,
+      before-inside (v .held .ok) (v .near) (v .run .is) t (from - 1) end left-is right-is,
+      after-inside (v .held .ok) (v .near) (v .run .is) t (from - 1) end left-is right-is,
     )

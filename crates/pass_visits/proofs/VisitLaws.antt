@@ -1,12 +1,12 @@
 -- What a visit leaves. Assumes nothing.
-use Prim.Native.Nat.{ℕ, _-_, _<_, _≤_}
+use Prim.Native.Nat.{ℕ, zero, suc, _-_, _<_, _≤_}
 use mathlib.Core.Path.{_≡_, refl, sym, _∙_, ap, subst}
 use mathlib.Core.Bool.{Bool, true, false, cond, not, _&&_}
 use mathlib.Core.List.{List, [], _∷_, _++_}
 use native.Mathlib.Omega.{arith}
 use borrow.Author.Tests.{lt-ltb, le-ltb}
-use lib.Dec.{ltb}
-use lib.ListN.{length, set, length-set}
+use lib.Dec.{T, ltb}
+use lib.ListN.{length, getD, set, length-set}
 use lib.IntN.{ℤ}
 use Rattle.ints.proofs.Laws.{cases}
 use Rattle.plan.specs.Plan.{PlanData}
@@ -16,7 +16,7 @@ use Rattle.pass_tables.proofs.RunEnds.{left-on}
 use Rattle.pass_tables.proofs.Due.{and-no, left-none, left-some, right-none, open-left, open-right}
 use Rattle.pass_tables.proofs.Settle.{whole-next, held-skipped, open-kept, bounded-settled}
 use Rattle.pass_tables.proofs.TablesKept.{tables-settled}
-use Rattle.pass_visits.specs.inner.Visits.{Work, worked, Visiting, Asking, Visited, isDueAt, settled}
+use Rattle.pass_visits.specs.inner.Visits.{Work, worked, Asks, Visiting, Asking, Visited, isDueAt, settled}
 use Rattle.pass_visits.proofs.DueLaws.{order, not-due, is-due}
 
 -- ---- the marks
@@ -36,6 +36,17 @@ module _ (start from end to : ℕ) (marks : List Bool) where
       go : (t : Bool) → length (cond t (set marks (from - 1) false) marks) ≡ length marks
       go true = length-set marks (from - 1) false
       go false = refl
+
+-- who asks after a mark is taken away asked before
+unset : (marks : List Bool) (i v : ℕ) → getD (set marks i false) v false ≡ true → getD marks v false ≡ true
+unset [] i v e = e
+unset (t ∷ ts) zero zero e = absurd (subst T (sym e) tt)
+unset (t ∷ ts) zero (suc v) e = e
+unset (t ∷ ts) (suc i) zero e = e
+unset (t ∷ ts) (suc i) (suc v) e = unset ts i v e
+
+asked-before : {p : PlanData} {q l : ℕ} {marks : List Bool} (i : ℕ) → Asks p q l (set marks i false) → Asks p q l marks
+asked-before {marks = marks} i a = record { notThird = a .notThird; via = a .via; on = a .on; unsettled = unset marks i (a .via) (a .unsettled) }
 
 pub asking : {q start from end to : ℕ} {k : Work} {m : AtVisit} → Visiting q start from end to k m → Asking q start from end to (k .before) (k .after) (k .counts) (k .marks) m
 asking {k = k} v = record { first = k .first; ends = k .ends; at = k .at; apart = k .apart; is = v }
@@ -88,7 +99,7 @@ module _ {q start from end to : ℕ} {k : Work} {m : AtVisit} (v : Visiting q st
     -- the marks then
     record Kept (marks′ : List Bool) : Type 0 where
       pub unsettled : Unsettled p (stateAfter p (past ++ w ∷ [])) marks′
-      pub tables : Tables p q (w .run .level) first ends before after counts marks′
+      pub tables : Asks p q (w .run .level) marks′ → Tables p q (w .run .level) first ends before after counts marks′
 
     kept : Kept (settled start from end to marks)
     kept = cases from start
@@ -99,7 +110,7 @@ module _ {q start from end to : ℕ} {k : Work} {m : AtVisit} (v : Visiting q st
         (record { unsettled = open-kept (v .held) (open-right (w .run) (right-none (v .run) (omega (arith, order v)))); tables = v .tables }))
         (λ i. subst Kept (settled-bounded start from end to marks h i) (record {
           unsettled = bounded-settled (v .held) (is-due v e t) (from - 1) (left-some (v .run) h);
-          tables = tables-settled (v .tables) (from - 1) (left-on (v .run .is) (from - 1) (left-some (v .run) h));
+          tables = λ a. tables-settled (v .tables (asked-before (from - 1) a)) (from - 1) (left-on (v .run .is) (from - 1) (left-some (v .run) h));
         })))
 
     pub visit-placed : (at′ : List ℤ) (apart′ : List ℕ) (marks′ : List Bool) → at′ ≡ stateAfter p (past ++ w ∷ []) .at → apart′ ≡ stateAfter p (past ++ w ∷ []) .apart

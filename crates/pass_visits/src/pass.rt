@@ -7,9 +7,61 @@ use pass_tables::ready::nearest_after;
 use pass_tables::ready::nearest_before;
 use plan::data::Plan;
 ghost use mathlib.Core.Path.{_≡_};
+ghost use mathlib.Core.Bool.{true, false};
+ghost use Prim.Native.Nat.{ℕ, _≤_, _<_};
+ghost use lib.ListN.{length, getD};
+ghost use Rattle.plan.specs.Limits.{maxVertices};
+ghost use Rattle.pass_tables.specs.inner.Joins.{Joinable};
 ghost use Rattle.pass_tables.specs.inner.Moments.{Some, Leaves};
 ghost use Rattle.pass_visits.specs.inner.Visits.{LevelDone};
-ghost use Rattle.pass_visits.specs.inner.Passing.{PassWork, passWork, TableRoom, LevelNext, PassNext, PassDone};
+ghost use Rattle.pass_visits.specs.inner.Passing.{PassWork, passWork, TableRoom, Made, LevelNext, PassNext, PassDone};
+
+// Whether a vertex from `from` up to `to` is marked.
+fn any_marked(marks: &[bool], from: usize, to: usize) -> bool
+    requires { ⌜ to ≤ length (now marks) ⌝ }
+    ensures { λ r. ⌜ (r ≡ false → (v : ℕ) → from ≤ v → v < to → getD (now (marks .entry)) v false ≡ false) ⌝ }
+{
+    let mut v = from;
+    while v < to {
+        if marks[v] {
+            return true;
+        }
+        v += 1;
+    }
+    false
+}
+
+// The tables that tell which runs of the level from `start` up to `to` are ready, if that is asked of any: of an unsettled one, and not
+// in the third pass. The level that precedes it stands from `low` up to `high`.
+fn make_tables(
+    q: u16,
+    low: usize,
+    high: usize,
+    start: usize,
+    to: usize,
+    vias: &[bool],
+    first: &[u16],
+    ends: &[u32],
+    marks: &[bool],
+    before: &mut [u32],
+    after: &mut [u32],
+    counts: &mut [u16],
+)
+    requires { ⌜ (to ≤ length (now vias)) × (to ≤ length (now before)) × (to ≤ length (now after)) × (to ≤ length (now marks))
+        × (high ≤ length (now marks)) × (high ≤ length (now counts)) × (length (now marks) ≤ maxVertices) × Joinable (now vias) (now first) (now ends) ⌝ }
+    ensures { λ _. ⌜ ((q ≡ 3 → ⊥) → (u : ℕ) → start ≤ u → u < to → getD (now (marks .entry)) u false ≡ true
+        → Made low high start to (now (vias .entry)) (now (first .entry)) (now (ends .entry)) (now (before .exit)) (now (after .exit)) (now (counts .exit)) (now (marks .entry))) ⌝ }
+{
+    if q == 3 {
+        return;
+    }
+    if !any_marked(marks, start, to) {
+        return;
+    }
+    nearest_before(vias, first, ends, start, to, before);
+    nearest_after(vias, first, ends, start, to, after);
+    count_marks(marks, low, high, counts);
+}
 
 // Visits the runs of the level from `start` up to `to`; the level that precedes it stands from `low` up to `high`. The tables that tell
 // which runs are ready are made in what is lent for them.
@@ -35,9 +87,20 @@ fn enter_level(
     ensures { λ k _. ⌜ Leaves (LevelNext q low high start to (now (vias .entry)) k)
         (LevelDone q (now (at .exit)) (now (apart .exit)) (now (marks .exit))) ⌝ }
 {
-    nearest_before(vias, first, ends, start, to, before);
-    nearest_after(vias, first, ends, start, to, after);
-    count_marks(marks, low, high, counts);
+    make_tables(
+        q,
+        low,
+        high,
+        start,
+        to,
+        vias,
+        first,
+        ends,
+        marks,
+        before,
+        after,
+        counts,
+    );
     visit_level(
         q,
         start,

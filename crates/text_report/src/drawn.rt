@@ -1,11 +1,10 @@
 // The draw of a plan that was read, as far as its positions are asked for.
-use pass_draw::draw::draw;
-use report::data::Drawing;
+use pass_draw::draw::make_drawing;
 ghost use Rattle.plan.specs.Plan.{PlanData};
 ghost use Rattle.plan.specs.inner.Held.{HoldsPlan};
 ghost use Rattle.text_report.specs.inner.Drawn.{PositionsRoom, Placed};
 
-// Draws, and forgets the list of placings.
+// Draws without the list of placings.
 pub fn draw_positions(
     gap: u32,
     sizes: &[u16],
@@ -20,12 +19,12 @@ pub fn draw_positions(
     ensures { λ _. ⌜ ((p : PlanData) → HoldsPlan p gap (now (sizes .entry)) (now (vias .entry)) (now (halves .entry)) (now (uppers .entry)) (now (lowers .entry))
         → Placed p (now (preliminary .exit)) (now (finals .exit))) ⌝ }
 {
-    let mut passes = [0u16; Drawing::MAX_LISTED];
-    let mut levels = [0u16; Drawing::MAX_LISTED];
-    let mut boxes = [0u16; Drawing::MAX_LISTED];
-    let mut vertices = [0u16; Drawing::MAX_LISTED];
-    let mut positions = [0i64; Drawing::MAX_LISTED];
-    draw(
+    let mut passes = [0u16; 0];
+    let mut levels = [0u16; 0];
+    let mut boxes = [0u16; 0];
+    let mut vertices = [0u16; 0];
+    let mut positions = [0i64; 0];
+    make_drawing(
         gap,
         sizes,
         vias,

@@ -2,27 +2,29 @@
 use mathlib.Core.Bool.{Bool}
 use mathlib.Core.List.{List, []}
 use mathlib.Core.Path.{_≡_}
-use Prim.Native.Nat.{ℕ}
+use Prim.Native.Nat.{ℕ, _<_}
 use lib.ListN.{length, replicate}
 use lib.IntN.{ℤ, pos}
 use Rattle.plan.specs.Plan.{PlanData}
 use Rattle.preliminary.specs.Positions.{preliminary}
 use Rattle.passes.specs.Drawing.{drawingOf}
-use Rattle.passes.specs.Words.{boxesListed, maxListed}
+use Rattle.passes.specs.Words.{maxListed}
 use Rattle.passes.specs.inner.Schedule.{schedule}
 use Rattle.pass_tables.specs.inner.Moments.{Held}
 use Rattle.pass_neighbours.specs.inner.Order.{Starts}
-use Rattle.pass_list.specs.inner.Listing.{Columns, Lies}
+use Rattle.pass_list.specs.inner.Listing.{Columns, Stored}
 use Rattle.pass_list.specs.inner.Ended.{Written}
 use Rattle.plan.specs.inner.Held.{HoldsPlan}
 use Rattle.pass_draw.specs.inner.Turn.{Graph}
 
--- Final positions and the list of placings, n placings with b boxes in all.
+-- Whether the list of placings is wanted: where it is not, its arrays have no length.
+abbrev pub Wanted : Columns → Type 0
+Wanted g = 0 < length (g .passes)
+
+-- Final positions and, if it is wanted, the list of placings, n placings with b boxes in all.
 pub record Drawn (n b : ℕ) (at : List ℤ) (g : Columns) (p : PlanData) : Type 0 where
   pub final : at ≡ drawingOf p .final
-  pub lists : Lies (drawingOf p .placings) g
-  pub placings : n ≡ length (drawingOf p .placings)
-  pub boxes : b ≡ length (boxesListed (drawingOf p .placings))
+  pub listed : Wanted g → Stored n b g (drawingOf p .placings)
 
 -- What is lent to the passes: the plan's lists, what the visits change, and the list of placings.
 pub record Begun : Type 0 where
@@ -38,7 +40,7 @@ begun graph at apart marks list = record { graph = graph; at = at; apart = apart
 -- Before the first visit: the list of placings is empty.
 pub record Started (k : Begun) (p : PlanData) : Type 0 where
   pub held : Held p [] (schedule p) (k .at) (k .apart) (k .marks)
-  pub written : Written p [] 0 0 (k .list)
+  pub written : Wanted (k .list) → Written p [] 0 0 (k .list)
   pub viasAre : k .graph .vias ≡ p .vias
   pub uppersAre : k .graph .uppers ≡ p .uppers
   pub lowersAre : k .graph .lowers ≡ p .lowers

@@ -11,7 +11,8 @@ use Rattle.passes.specs.Words.{maxListed}
 use Rattle.passes.specs.Stored.{placingsFrom}
 use Rattle.passes.specs.Demand3.{Demand3}
 use Rattle.plan.specs.inner.Held.{SomePlan}
-use Rattle.pass_list.specs.inner.Listing.{Listing}
+use Rattle.pass_list.specs.inner.Listing.{Listing, columns}
+use Rattle.pass_draw.specs.inner.Drawn.{Wanted, Unlisted}
 
 -- An acceptable plan's lists, room for its positions, and the arrays of an empty list of placings.
 pub record Blank (gap : ℕ) (ns : List ℕ) (vias : List Bool) (halves uppers lowers : List ℕ) (preliminary finals : List ℤ)
@@ -40,3 +41,16 @@ pub record Made (p : PlanData) (n : ℕ) (preliminary finals : List ℤ) (passes
   pub list : Listing (drawingOf p .placings) passes levels counts vertices positions
   pub placings : n ≡ length (drawingOf p .placings)
   pub demand3 : Demand3 p (drawingAt n preliminary finals passes levels counts vertices positions)
+
+-- The same where the list may not be wanted.
+pub record Room (gap : ℕ) (ns : List ℕ) (vias : List Bool) (halves uppers lowers : List ℕ) (preliminary finals : List ℤ)
+    (passes levels counts vertices : List ℕ) (positions : List ℤ) : Type 0 where
+  pub some : SomePlan gap ns vias halves uppers lowers
+  pub preliminaryRoom : length preliminary ≡ length vias
+  pub finalRoom : length finals ≡ length vias
+  pub noList : Wanted (columns passes levels counts vertices positions) → Unlisted (columns passes levels counts vertices positions)
+
+pub record Done (p : PlanData) (n : ℕ) (preliminary finals : List ℤ) (passes levels counts vertices : List ℕ) (positions : List ℤ) : Type 0 where
+  pub started : preliminary ≡ drawingOf p .preliminary
+  pub ended : finals ≡ drawingOf p .final
+  pub made : Wanted (columns passes levels counts vertices positions) → Made p n preliminary finals passes levels counts vertices positions

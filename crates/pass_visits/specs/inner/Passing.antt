@@ -2,14 +2,15 @@
 use mathlib.Core.Bool.{Bool}
 use mathlib.Core.List.{List, _++_}
 use mathlib.Core.Path.{_≡_}
-use Prim.Native.Nat.{ℕ, _≤_}
+use Prim.Native.Nat.{ℕ, _+_, _-_, _<_, _≤_}
 use lib.IntN.{ℤ}
 use Rattle.plan.specs.Plan.{vertexCount}
 use Rattle.passes.specs.inner.Schedule.{passVisits}
+use Rattle.pass_tables.specs.inner.Joins.{joinedAt, lastIn, firstIn, markedIn}
 use Rattle.pass_tables.specs.inner.Moments.{Held, Neighbouring, Range, AtLevel, AtPass}
 use Rattle.pass_neighbours.specs.inner.Order.{inTurn, Starts}
 use Rattle.pass_visits.specs.inner.Visits.{Entering}
-use lib.ListN.{length}
+use lib.ListN.{length, getD}
 use Rattle.plan.specs.Limits.{maxVertices}
 
 -- What a pass works on: its neighbours, and what the visits change.
@@ -28,6 +29,12 @@ pub record TableRoom (before after counts : List ℕ) : Type 0 where
   pub lefts : length before ≡ maxVertices
   pub rights : length after ≡ maxVertices
   pub numbers : length counts ≡ maxVertices
+
+-- The tables of the level from `start` up to `to`; the level that precedes it stands from `low` up to `high`.
+pub record Made (low high start to : ℕ) (vias : List Bool) (first ends before after counts : List ℕ) (marks : List Bool) : Type 0 where
+  pub lefts : (v : ℕ) → start ≤ v → v < to → getD before v 0 ≡ lastIn (joinedAt vias first ends) start (v + 1 - start)
+  pub rights : (v : ℕ) → start ≤ v → v < to → getD after v 0 ≡ firstIn (joinedAt vias first ends) v (to - v)
+  pub numbers : (v : ℕ) → low ≤ v → v < high → getD counts v 0 ≡ markedIn marks low (v - low)
 
 -- The visits of pass q to the runs of a level come next; the level that precedes it stands from `low` up to `high`.
 pub record LevelNext (q low high start to : ℕ) (vias : List Bool) (k : PassWork) (m : AtLevel) : Type 0 where

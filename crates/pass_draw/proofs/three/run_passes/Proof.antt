@@ -1,5 +1,5 @@
 -- `pass_draw::three::run_passes` meets its contract: at every turn the passes before q are made and listed.
-use Prim.Native.Nat.{_-_, _≤_}
+use Prim.Native.Nat.{_-_, _≤_, _<_}
 use mathlib.Core.Path.{_≡_, refl, sym, _∙_}
 use native.Mathlib.Omega.{arith}
 use lib.ListN.{length}
@@ -33,14 +33,14 @@ copy-marks-requires c κs = let s = c .before .before .before .before .before .b
 run-pass-requires : tie.Need-run-pass-requires Inv-loop μ-loop
 run-pass-requires c κs = let s = c .before .before .before .before .before .before .before .before .before .before .before .before .before .before .before .before .before .before .before .before .before .before .before .pre in let l = c .before .before .before .before .before .before .before .before .before .before .loop in (still-lent (s .0) (l .inv .1) (l .inv .2), record { it = _; is = turn (s .1 .is) (l .inv .0 (s .1 .it) (s .1 .is)) (l .inv .11) (omega (arith, c .before .before .before .before .before .before .before .before .before .loop-test)) })
 
-slice-aggregate-list-pass : tie.Need-slice-aggregate-list-pass Inv-loop μ-loop
-slice-aggregate-list-pass c = sym (c .before .before .before .before .before .before .before .before .before .before .before .before .before .before .before .before .before .copy-marks .kept .1 .0 ∙ c .before .before .before .before .before .before .before .before .before .before .before .before .before .before .before .before .before .before .before .before .before .loop .inv .12)
+slice-aggregate-list-wanted : tie.Need-slice-aggregate-list-wanted Inv-loop μ-loop
+slice-aggregate-list-wanted c = sym (c .before .before .before .before .before .before .before .before .before .before .before .before .before .before .before .before .before .copy-marks .kept .1 .0 ∙ c .before .before .before .before .before .before .before .before .before .before .before .before .before .before .before .before .before .before .before .before .before .loop .inv .12)
 
-list-pass-requires : tie.Need-list-pass-requires Inv-loop μ-loop
-list-pass-requires c κs = let s = c .before .before .before .before .before .before .before .before .before .before .before .before .before .before .before .before .before .before .before .before .before .before .before .before .before .before .before .before .before .before .before .before .before .before .before .before .before .before .before .before .before .pre .1 in let l = c .before .before .before .before .before .before .before .before .before .before .before .before .before .before .before .before .before .before .before .before .before .before .before .before .before .before .before .before .loop in let r = l .inv .0 (s .it) (s .is) in
+list-wanted-requires : tie.Need-list-wanted-requires Inv-loop μ-loop
+list-wanted-requires c κs = let s = c .before .before .before .before .before .before .before .before .before .before .before .before .before .before .before .before .before .before .before .before .before .before .before .before .before .before .before .before .before .before .before .before .before .before .before .before .before .before .before .before .before .pre .1 in let l = c .before .before .before .before .before .before .before .before .before .before .before .before .before .before .before .before .before .before .before .before .before .before .before .before .before .before .before .before .loop in let r = l .inv .0 (s .it) (s .is) in
     let h : l .q ≤ 3 = omega (arith, c .before .before .before .before .before .before .before .before .before .before .before .before .before .before .before .before .before .before .before .before .before .before .before .before .before .before .before .loop-test) in
     let g : 1024 ≤ length (c .before .before .before .before .before .before .before .before .before .before .before .before .before .before .before .before .before .before .before .before .before .before .before .before .copy-marks .last .1 .0) = omega (arith, c .before .before .before .before .before .before .before .before .before .before .before .before .before .before .before .before .before .before .before .before .before .before .before .before .copy-marks .kept .1 .0, l .inv .12) in
-    record { it = _; is = ended (s .is) r (l .inv .11) h (c .before .before .before .before .before .before .before .before .before .before .before .before .before .before .before .before .before .before .before .before .before .before .before .before .copy-marks .ensures) g (c .before .before .before .before .before .before .before .before .before .before .before .before .before .before .before .before .before .run-pass .ensures _ (turn (s .is) r (l .inv .11) h)) }
+    λ w. record { it = _; is = ended (s .is) r (l .inv .11) h (c .before .before .before .before .before .before .before .before .before .before .before .before .before .before .before .before .before .before .before .before .before .before .before .before .copy-marks .ensures) g (c .before .before .before .before .before .before .before .before .before .before .before .before .before .before .before .before .before .run-pass .ensures _ (turn (s .is) r (l .inv .11) h)) w }
 
 add-q : tie.Need-add-q Inv-loop μ-loop
 add-q c = omega (arith, c .before .before .before .before .before .before .before .before .before .before .before .before .before .before .before .before .before .before .before .before .before .before .before .before .before .before .before .before .before .before .before .before .before .before .before .before .before .loop-test)
@@ -55,17 +55,17 @@ loop-again c = let l = c .before .before .before .before .before .before .before
       let o = c .before .before .before .before .before .before .before .before .before .before .before .before .before .before .before .before .before .before .before .before .before .before .before .before .before .before .before .before .before .before .before .before .before .before .copy-marks .ensures in
       let g : 1024 ≤ length (c .before .before .before .before .before .before .before .before .before .before .before .before .before .before .before .before .before .before .before .before .before .before .before .before .before .before .before .before .before .before .before .before .before .before .copy-marks .last .1 .0) = omega (arith, c .before .before .before .before .before .before .before .before .before .before .before .before .before .before .before .before .before .before .before .before .before .before .before .before .before .before .before .before .before .before .before .before .before .before .copy-marks .kept .1 .0, l .inv .12) in
       let k = c .before .before .before .before .before .before .before .before .before .before .before .before .before .before .before .before .before .before .before .before .before .before .before .before .before .before .before .run-pass .ensures _ (turn s r (l .inv .11) h) in
-      reached-then s r (l .inv .11) h o g k _ _ _ (c .before .before .before .before .before .before .before .before .before .list-pass .ensures _ (ended s r (l .inv .11) h o g k))),
+      reached-then s r (l .inv .11) h o g k _ _ _ (λ w. let w′ : 0 < length (l .passes) = omega (arith, w, c .before .before .before .before .before .before .before .before .before .list-wanted .kept .1 .1 .1 .1 .1 .1 .1 .0) in c .before .before .before .before .before .before .before .before .before .list-wanted .ensures w′ _ (ended s r (l .inv .11) h o g k w′))),
   _∙_ {b = length (l .first)} (c .before .before .before .before .before .before .before .before .before .before .before .before .before .before .before .before .before .before .before .before .before .before .before .before .before .before .before .run-pass .kept .1 .1 .1 .1 .1 .0) (l .inv .1),
   _∙_ {b = length (l .ends)} (c .before .before .before .before .before .before .before .before .before .before .before .before .before .before .before .before .before .before .before .before .before .before .before .before .before .before .before .run-pass .kept .1 .1 .1 .1 .1 .1 .0) (l .inv .2),
   _∙_ {b = length (l .at)} (c .before .before .before .before .before .before .before .before .before .before .before .before .before .before .before .before .before .before .before .before .before .before .before .before .before .before .before .run-pass .kept .1 .1 .1 .1 .1 .1 .1 .0) (l .inv .3),
   _∙_ {b = length (l .apart)} (c .before .before .before .before .before .before .before .before .before .before .before .before .before .before .before .before .before .before .before .before .before .before .before .before .before .before .before .run-pass .kept .1 .1 .1 .1 .1 .1 .1 .1 .0) (l .inv .4),
   _∙_ {b = length (l .marks)} (c .before .before .before .before .before .before .before .before .before .before .before .before .before .before .before .before .before .before .before .before .before .before .before .before .before .before .before .run-pass .kept .1 .1 .1 .1 .1 .1 .1 .1 .1 .0) (l .inv .5),
-  _∙_ {b = length (l .passes)} (c .before .before .before .before .before .before .before .before .before .list-pass .kept .1 .1 .1 .1 .1 .1 .1 .0) (l .inv .6),
-  _∙_ {b = length (l .levels)} (c .before .before .before .before .before .before .before .before .before .list-pass .kept .1 .1 .1 .1 .1 .1 .1 .1 .0) (l .inv .7),
-  _∙_ {b = length (l .sizes)} (c .before .before .before .before .before .before .before .before .before .list-pass .kept .1 .1 .1 .1 .1 .1 .1 .1 .1 .0) (l .inv .8),
-  _∙_ {b = length (l .vertices)} (c .before .before .before .before .before .before .before .before .before .list-pass .kept .1 .1 .1 .1 .1 .1 .1 .1 .1 .1 .0) (l .inv .9),
-  _∙_ {b = length (l .positions)} (c .before .before .before .before .before .before .before .before .before .list-pass .kept .1 .1 .1 .1 .1 .1 .1 .1 .1 .1 .1 .0) (l .inv .10),
+  _∙_ {b = length (l .passes)} (c .before .before .before .before .before .before .before .before .before .list-wanted .kept .1 .1 .1 .1 .1 .1 .1 .0) (l .inv .6),
+  _∙_ {b = length (l .levels)} (c .before .before .before .before .before .before .before .before .before .list-wanted .kept .1 .1 .1 .1 .1 .1 .1 .1 .0) (l .inv .7),
+  _∙_ {b = length (l .sizes)} (c .before .before .before .before .before .before .before .before .before .list-wanted .kept .1 .1 .1 .1 .1 .1 .1 .1 .1 .0) (l .inv .8),
+  _∙_ {b = length (l .vertices)} (c .before .before .before .before .before .before .before .before .before .list-wanted .kept .1 .1 .1 .1 .1 .1 .1 .1 .1 .1 .0) (l .inv .9),
+  _∙_ {b = length (l .positions)} (c .before .before .before .before .before .before .before .before .before .list-wanted .kept .1 .1 .1 .1 .1 .1 .1 .1 .1 .1 .1 .0) (l .inv .10),
   omega (arith, c .before .before .before .before .before .before .before .before .before .before .before .before .before .before .before .before .before .before .before .before .before .before .before .before .before .before .before .before .before .before .before .before .before .before .before .before .before .loop-test),
   c .before .before .before .before .before .before .before .before .before .before .before .before .before .before .before .before .before .before .before .before .before .before .before .before .before .before .before .before .before .before .before .before .before .before .copy-marks .kept .1 .0 ∙ l .inv .12,
 )
@@ -107,5 +107,5 @@ pub run-passes-spec : {M : Type 1} → statement M
 run-passes-spec =
     tie.close
     (tie.spec Inv-loop μ-loop loop-holds slice-aggregate-copy-marks copy-marks-requires run-pass-requires
-    slice-aggregate-list-pass list-pass-requires add-q loop-less loop-again same-length same-length-2 same-length-3
+    slice-aggregate-list-wanted list-wanted-requires add-q loop-less loop-again same-length same-length-2 same-length-3
     same-length-4 same-length-5 same-length-6 same-length-7 same-length-8 same-length-9 same-length-10 returns)

@@ -1,5 +1,4 @@
--- `pass_place::one::place_boxes` meets its contract: no boxes go nowhere, others are placed with either working space, and a plan has
--- no more segments than there is space for.
+-- `pass_place::one::place_boxes` meets its contract: no boxes go nowhere, others are placed with one working space or another.
 use borrow.Author.Needs.{needs}
 use mathlib.Core.Path.{_≡_, ap}
 use Prim.Native.Nat.{ℕ, _-_}
@@ -28,14 +27,9 @@ place-near-requires c κs =
     let r = c .before .before .before .before .before .before .before .before .before .before .before .pre in
     (r .0, (r .1, omega (arith, c .before .before .if2 .taken)))
 
-place-near-requires-2 : tie.Need-place-near-requires-2
-place-near-requires-2 c κs =
-    let r = c .before .before .before .before .before .before .before .before .before .before .before .pre in
-    (r .0, (r .1, omega (arith, r .0 .inside, r .0 .many)))
-
 pub place-boxes-spec : {M : Type 1} → statement M
 place-boxes-spec =
     tie.close
     (tie.spec returns (λ c. search needs) (λ c. search needs) (λ c κs. search needs) (λ c. search needs) (λ c. search needs)
     (λ c κs. search needs) sub-if2 (λ c. search needs) place-near-requires (λ c. search needs) (λ c. search needs)
-    (λ c. search needs) place-near-requires-2 (λ c. search needs) (λ c. search needs))
+    (λ c κs. search needs) (λ c. search needs) (λ c. search needs))

@@ -34,7 +34,7 @@ sub-is-ready : tie.Need-sub-is-ready
 sub-is-ready c = omega (arith, left-via (c .before .before .before))
 
 is-ready-requires : tie.Need-is-ready-requires
-is-ready-requires c κs = may-ask (c .before .before .before .before .before .before .before .before .before .pre .is .is) (left-via (c .before .before .before)) (right-via (c .before .before .before))
+is-ready-requires c κs = may-ask (c .before .before .before .before .before .before .before .before .before .pre .is .is) (left-via (c .before .before .before)) (right-via (c .before .before .before)) (not-false _ (c .before .if3 .left)) (c .if4 .left)
 
 returns-3 : tie.Need-returns-3
 returns-3 c m x = due-in-third (x .is) (left-via (c .before .before .before)) (right-via (c .before .before .before)) (not-false _ (c .before .if3 .left)) (c .if4 .taken)
