@@ -22,9 +22,21 @@ extern "C" {
 /* A buffer of this many bytes has room for every picture. */
 #define VAMZSOLIK_MAX_PICTURE 1257182
 
+/* A buffer of this many bytes has room for the text of every plan, one of this many numbers for the numbers of its vertices. */
+#define VAMZSOLIK_MAX_TEXT 43546
+#define VAMZSOLIK_MAX_VERTICES 1024
+
 /* Writes the report of the plan text into out and returns its length. If the text is refused with N, 1 to 6, it returns -N, and
    -14 if out is too short; out is then untouched. What lies beyond the report stays. */
 int64_t report_c(const uint8_t *text, size_t text_length, uint8_t *out, size_t out_length);
+
+/* The same for a plan text that may be tangled: the report of the rearranged plan, in the numbers of the text. It is refused with 1 to 5. */
+int64_t report_tangled_c(const uint8_t *text, size_t text_length, uint8_t *out, size_t out_length);
+
+/* Rearranges a plan text that may be tangled: writes the rearranged plan's text into out and returns its length, and into numbers for
+   each vertex of that plan its number in the text given. Returns -N if the text is refused with N, 1 to 5, and -14 if out or numbers is too
+   short; both are then untouched. What lies beyond stays. Vias alone change places: a box keeps its number. */
+int64_t untangle_c(const uint8_t *text, size_t text_length, uint8_t *out, size_t out_length, uint16_t *numbers, size_t numbers_length);
 
 /* Writes the marks of the plan's drawing into out and returns how many there are, vertices first, then segments. Each has five
    numbers, in steps:

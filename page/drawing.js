@@ -3,7 +3,8 @@
 
 let drawing = null;
 
-function drawingOf(text, report, names) {
+// A plan that was rearranged has beside its text and report the numbers that its vertices have in the text before.
+function drawingOf(text, report, names, numbers = []) {
   const placings = [], preliminary = [], final = [];
   for (const line of report.split("\n")) {
     const [word, ...rest] = line.match(/[a-z]+|-?\d+/g) || [], numbers = rest.map(Number);
@@ -18,7 +19,9 @@ function drawingOf(text, report, names) {
   // the text is accepted, so its segments are written so, and in the order of their marks
   const segments = [...textOf(text).matchAll(/\(seg (\d+) (\d+)/g)].map(s => [+s[1], +s[2]]);
   segments.forEach(([a, b], n) => { vertices[a].below.push([n, b]); vertices[b].above.push([n, a]); });
-  return { text, report, names: namesIn(names), vertices, segments, placings, preliminary, final, levels: ys.length };
+  const moved = numbers.slice(0, vertices.length).map((number, n) => ({ number, now: n })).filter(({ number, now }) => number !== now);
+  moved.sort((a, b) => a.number - b.number);
+  return { text, names: namesIn(names), vertices, segments, placings, preliminary, final, levels: ys.length, moved };
 }
 
 // The names in an accepted text of names, by vertex.
@@ -45,5 +48,8 @@ function nameOf(n) {
   return name.length ? `${name.length > 40 ? name.slice(0, 39).join("") + "…" : name.join("")} (${n})` : `box ${n}`;
 }
 
-// The first few of a list of boxes in words.
-const few = (list, most = 8) => list.slice(0, most).map(nameOf).join(", ") + (list.length > most ? ` and ${list.length - most} more` : "");
+// The first few of a list in words, of boxes if not said.
+const few = (list, most = 8, wordsOf = nameOf) => list.slice(0, most).map(wordsOf).join(", ") + (list.length > most ? ` and ${list.length - most} more` : "");
+
+// What was rearranged. Boxes keep their places and so their numbers; a via has one in the text and one in the drawing.
+const movedWords = () => few(drawing.moved, 8, ({ number, now }) => `via ${number} (in the drawing ${now})`);

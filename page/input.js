@@ -2,30 +2,41 @@
 // A plan or names come in: from a file, dropped, pasted or typed. What is refused leaves the last drawing, marked as old.
 
 const MOST_READ = 65537; // bytes of a file; more than this is refused whatever it holds
-let good = null, typing = 0; // the last plan drawn: { title, plan, names } as bytes
+let good = null, typing = 0; // the last plan drawn: { title, plan, names } as bytes, and whether it may be untangled
+let offered = null; // the tangled plan that was refused and can be untangled, as `draw` takes it, and the names given since; the fields are its
 
-function fail(why) {
-  showRefusal(why);
+function fail(why, tangled = null) {
+  offered = tangled;
+  if (tangled) inField("names-text", textOf(tangled.names));
+  showRefusal(why, tangled !== null);
   at("old").hidden = !drawing;
   at("view").classList.toggle("is-old", drawing !== null);
   return false;
 }
 
-// Draws a plan with names, or says why not; whether it was drawn. A plan that goes on from the one before takes its place on the device.
-function draw(title, plan, names, goesOn = false, leftOff = null) {
-  let report, picture;
+// Draws a plan with names, or says why not; whether it was drawn. A plan that goes on from the one before takes its place on the device. One
+// that is tangled is drawn rearranged, if it may be; its text, and what is kept for it, stay as they came. Names fit it either way: boxes
+// keep their numbers.
+function draw(title, plan, names, goesOn = false, leftOff = null, untangles = goesOn && good.untangles) {
+  let report, picture, straight = { text: plan };
   try {
     report = reportOf(plan);
-    const refused = /^\(refused (\d+)\)/.exec(report);
-    if (refused) return fail(planRefusal(+refused[1], plan));
-    picture = pictureOf(plan, names);
+    const refused = +(/^\(refused (\d+)\)/.exec(report) || [])[1];
+    if (refused === 6 && untangles) {
+      straight = untangledOf(plan);
+      report = tangledReportOf(plan);
+    } else if (refused) {
+      return fail(planRefusal(refused, plan), refused === 6 ? { title, plan, names, goesOn, leftOff, given: null } : null);
+    }
+    picture = pictureOf(straight.text, names);
     const kinds = textOf(plan).match(/via|box/g);
     if (picture.line !== undefined) return fail(namesRefusal(picture.line, names, n => kinds[n] && kinds[n] === "box"));
   } catch (problem) {
     loadLibrary();
     return fail({ title: "The program stopped.", means: String(problem), todo: "Open the plan again; if it stops again, keep the plan and tell us." });
   }
-  drawing = drawingOf(plan, report, names);
+  drawing = drawingOf(straight.text, straight.numbers ? reportOf(straight.text) : report, names, straight.numbers);
+  offered = null;
   showRefusal(null);
   at("old").hidden = true;
   at("view").classList.remove("is-old");
@@ -36,11 +47,28 @@ function draw(title, plan, names, goesOn = false, leftOff = null) {
   pick(box);
   const isKept = keepNames(textOf(plan), textOf(names), goesOn ? textOf(good.plan) : undefined);
   sayNames(drawing.names.size, drawing.vertices.filter(vertex => vertex.isBox).length, isKept, leftOff);
-  good = { title, plan, names };
-  at("title").textContent = title;
-  document.title = `${title} · Supply diagram`;
+  good = { title, plan, names, untangles };
+  at("title").textContent = headingOf();
+  document.title = `${headingOf()} · Supply diagram`;
   at("report-text").textContent = report;
+  sayRearranged();
   return true;
+}
+
+// What the drawing is, in a few words.
+const headingOf = () => good.title + (drawing.moved.length ? ", rearranged" : "");
+
+function sayRearranged() {
+  const count = drawing.moved.length;
+  at("rearranged").hidden = !count;
+  at("rearranged").textContent = count ? `Rearranged: ${count} vias changed places` : "";
+  at("plan-note").textContent = count ? `The drawing is rearranged: ${movedWords()}. The text is as it came; boxes keep their numbers, and the report has the text's.` : "";
+}
+
+// Draws the plan that was offered, then with the names given since.
+function untangle() {
+  const { title, plan, names, goesOn, leftOff, given } = offered;
+  if (draw(title, plan, names, goesOn, leftOff, true) && given) takeNames(given);
 }
 
 const inField = (id, text) => { if (at(id).value !== text) at(id).value = text; };
@@ -52,11 +80,19 @@ function drawNew(title, plan) {
   if (draw(title, plan, bytesOf(names))) inField("names-text", names);
 }
 
-// Names from outside, for the plan that is drawn.
+// Names for the plan that can be untangled, if there is one, else for the one that is drawn.
+function takeNames(names) {
+  if (offered) {
+    offered.given = names;
+    at("names-note").textContent = "They wait until the plan is untangled.";
+  } else if (good) draw(good.title, good.plan, names, true);
+}
+
+// Names from outside.
 function nameNew(names) {
   inField("names-text", textOf(names));
   showTab("names", false);
-  if (good) draw(good.title, good.plan, names, true);
+  takeNames(names);
 }
 
 // The kinds of all vertices, level by level: while they stay, numbers mean the same boxes.
@@ -64,10 +100,10 @@ const shapeOf = bytes => textOf(bytes).split("\n").filter(line => line.startsWit
 const ended = text => text === "" || text.endsWith("\n") ? text : text + "\n";
 
 function drawTyped() {
-  const plan = bytesOf(ended(at("plan-text").value)), goesOn = good !== null && shapeOf(plan) === shapeOf(good.plan);
+  const plan = bytesOf(ended(at("plan-text").value)), goesOn = good !== null && (!offered || offered.goesOn) && shapeOf(plan) === shapeOf(good.plan);
   const names = bytesOf(goesOn ? ended(at("names-text").value) : keptNames(textOf(plan)));
   const title = goesOn ? good.title.replace(/( \(edited\))?$/, " (edited)") : "Typed plan";
-  const leftOff = !goesOn && good && good.names.length && !names.length ? good.names : null;
+  const before = offered ? offered.given || offered.names : good ? good.names : [], leftOff = !goesOn && before.length && !names.length ? before : null;
   if (draw(title, plan, names, goesOn, leftOff) && !goesOn) inField("names-text", textOf(names));
 }
 
@@ -98,7 +134,7 @@ async function takeFiles(files) {
 
 const later = act => { clearTimeout(typing); typing = setTimeout(act, 250); };
 at("plan-text").oninput = () => later(drawTyped);
-at("names-text").oninput = () => later(() => good && draw(good.title, good.plan, bytesOf(ended(at("names-text").value)), true));
+at("names-text").oninput = () => later(() => takeNames(bytesOf(ended(at("names-text").value))));
 
 at("choose").onclick = () => at("files").click();
 at("files").onchange = async e => { const files = [...e.target.files]; await takeFiles(files); e.target.value = ""; };

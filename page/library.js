@@ -2,7 +2,8 @@
 // The proved library. What it asks of its caller: texts and buffer lie within its memory, apart from each other, a buffer of numbers at a
 // multiple of 8. Lengths and answers are 64 bits wide, BigInt here.
 
-const MAX_REPORT = 119834, MAX_NUMBERS = 15360, MAX_PICTURE = 1257182; // bytes and numbers that are enough for every plan
+// bytes and numbers that are enough for every plan
+const MAX_TEXT = 43546, MAX_REPORT = 119834, MAX_NUMBERS = 15360, MAX_PICTURE = 1257182, MAX_VERTICES = 1024;
 let library;
 
 const at = id => document.getElementById(id);
@@ -14,39 +15,44 @@ async function loadLibrary() {
   library = (await WebAssembly.instantiate(bytes)).instance.exports;
 }
 
-// Calls a function with texts and room for `count` items of `size` bytes; gives its answer and where the items are. Views are made anew
-// after each call: growing the memory ends them.
-function call(name, texts, count, size) {
-  const words = [];
+// Calls a function with texts and rooms, each for `count` items of `size` bytes; gives its answer and where the rooms are. Views are made
+// anew after each call: growing the memory ends them.
+function call(name, texts, ...rooms) {
   let place = library.__heap_base.value;
-  const lend = length => { const begin = Math.ceil(place / 16) * 16; place = begin + length; return begin; };
-  const begins = texts.map(text => lend(text.length)), room = lend(count * size);
+  const lend = (count, size) => { const begin = Math.ceil(place / 16) * 16; place = begin + count * size; return [begin, BigInt(count)]; };
+  const lent = [...texts.map(text => lend(text.length, 1)), ...rooms.map(([count, size]) => lend(count, size))];
   const missing = place - library.memory.buffer.byteLength;
   if (missing > 0) library.memory.grow(Math.ceil(missing / 65536));
-  texts.forEach((text, n) => {
-    new Uint8Array(library.memory.buffer).set(text, begins[n]);
-    words.push(begins[n], BigInt(text.length));
-  });
-  return [Number(library[name](...words, room, BigInt(count))), room];
+  texts.forEach((text, n) => new Uint8Array(library.memory.buffer).set(text, lent[n][0]));
+  return [Number(library[name](...lent.flat())), ...lent.slice(texts.length).map(([begin]) => begin)];
 }
 
 const written = (room, length) => textOf(new Uint8Array(library.memory.buffer, room, length));
 
-// The report of a plan's bytes, or the line that refuses it.
-function reportOf(text) {
-  const [length, room] = call("report_c", [text], MAX_REPORT, 1);
+// The report of a plan's bytes, or the line that refuses it; by the second way, of a plan that may be tangled, in the numbers of its text.
+function reportOf(text, way = "report_c") {
+  const [length, room] = call(way, [text], [MAX_REPORT, 1]);
   return length < 0 ? `(refused ${-length})\n` : written(room, length);
+}
+
+const tangledReportOf = text => reportOf(text, "report_tangled_c");
+
+// The plan that a tangled one is rearranged to: its bytes, and for each vertex of it the number in the text given.
+function untangledOf(text) {
+  const [length, room, numbers] = call("untangle_c", [text], [MAX_TEXT, 1], [MAX_VERTICES, 2]), { buffer } = library.memory;
+  if (length < 0) throw new Error(`untangle_c answers ${length}`);
+  return { text: new Uint8Array(buffer, room, length).slice(), numbers: [...new Uint16Array(buffer, numbers, MAX_VERTICES)] };
 }
 
 // The marks of an accepted plan: lists of five numbers.
 function marksOf(text) {
-  const [count, room] = call("marks_c", [text], MAX_NUMBERS, 8);
+  const [count, room] = call("marks_c", [text], [MAX_NUMBERS, 8]);
   return Array.from({ length: Math.max(0, count) }, (_, n) => [...new Float64Array(library.memory.buffer, room + 40 * n, 5)]);
 }
 
 // The picture of a plan's bytes with names: { svg }, { refused: number } or { line }, the line of the names that is refused.
 function pictureOf(text, names) {
-  const [length, room] = call("picture_c", [text, names], MAX_PICTURE, 1);
+  const [length, room] = call("picture_c", [text, names], [MAX_PICTURE, 1]);
   if (length >= 0) return { svg: written(room, length) };
   return length <= -100 ? { line: -length - 100 } : { refused: -length };
 }

@@ -24,7 +24,7 @@ async function copyReport() {
   const say = words => { at("copied").textContent = words; };
   if (!drawing) return;
   try {
-    await navigator.clipboard.writeText(drawing.report);
+    await navigator.clipboard.writeText(at("report-text").textContent);
     say("Copied.");
   } catch {
     const range = document.createRange();
@@ -47,7 +47,7 @@ addEventListener("beforeprint", () => {
   const pixels = Math.min(1000 / (right - left), 1000 / parts.height); // of a step on a sheet, about
   parts.root.style.setProperty("--true-pen", Math.max(parts.pen, 0.5 / pixels));
   at("sheet").textContent = `@page { size: ${parts.width > parts.height ? "landscape" : "portrait"}; margin: 10mm }`;
-  at("printed").textContent = good.title + lit + where;
+  at("printed").textContent = headingOf() + lit + where;
 });
 addEventListener("afterprint", () => { if (parts) parts.root.setAttribute("viewBox", `${parts.left} ${parts.top} ${parts.width} ${parts.height}`); });
 at("print").onclick = () => print();

@@ -28,7 +28,7 @@ function showPicture(svg) {
     shapes[n].setAttribute("aria-label", `${nameOf(n)}, level ${level} of ${drawing.levels}`);
   });
   root.setAttribute("role", "group");
-  root.setAttribute("aria-label", `Drawing, ${drawing.vertices.filter(v => v.isBox).length} boxes on ${drawing.levels} levels`);
+  root.setAttribute("aria-label", `Drawing, ${drawing.vertices.filter(v => v.isBox).length} boxes on ${drawing.levels} levels${drawing.moved.length ? ", rearranged" : ""}`);
   root.setAttribute("focusable", "false");
   for (const group of root.querySelectorAll(".lines, .bends")) group.setAttribute("aria-hidden", "true");
   cancelAnimationFrame(moving);

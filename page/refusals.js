@@ -14,7 +14,7 @@ const REFUSALS = {
   5: ["A via has not exactly one segment from above and one to below.",
     "Give it both, or make it a box, or take it out."],
   6: ["Two long cables cross on their inner stretches.",
-    "Exchange the two vias on one of the levels, so that stretches from via to via keep their order."],
+    "Exchange the two vias on one of the levels, so that stretches from via to via keep their order; or have the plan untangled here."],
 };
 
 const CRLF = { words: "Its lines end in CR LF: save it with line feeds (LF) alone, or paste it." };
@@ -80,8 +80,8 @@ function whyNames(line, bytes, isBox) {
   return { words, ...(lines[line - 1] ? { line: lineAt(lines, line - 1).line } : {}) };
 }
 
-// Says in words why there is no new drawing; nothing clears it.
-function showRefusal(why) {
+// Says in words why there is no new drawing; nothing clears it. A tangled plan can be untangled.
+function showRefusal(why, isTangled = false) {
   const add = (name, words, kind) => { if (words) place.append(Object.assign(document.createElement(name), { textContent: words, className: kind || "" }), " "); };
   const place = document.createElement("div");
   if (why) {
@@ -91,8 +91,9 @@ function showRefusal(why) {
     add("code", why.where && why.where.line);
     add("span", why.todo, "todo");
   }
-  const back = Object.assign(document.createElement("button"), { textContent: "Back to the drawing shown", onclick: () => goBack() });
-  at("refusal").replaceChildren(...(why ? drawing ? [place, back] : [place] : []));
+  const button = (words, act) => Object.assign(document.createElement("button"), { textContent: words, onclick: act });
+  const acts = [...(isTangled ? [button("Untangle it", () => untangle())] : []), ...(drawing ? [button("Back to the drawing shown", () => goBack())] : [])];
+  at("refusal").replaceChildren(...(why ? [place, ...acts] : []));
 }
 
 const planRefusal = (number, bytes) => ({

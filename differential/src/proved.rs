@@ -10,11 +10,17 @@ pub const MAX_REPORT: usize = 119_834;
 /// No picture has more bytes.
 pub const MAX_PICTURE: usize = 1_257_182;
 
+/// No plan has a longer text.
+pub const MAX_TEXT: usize = 43_546;
+
+/// No plan has more vertices.
+pub const MAX_VERTICES: usize = 1_024;
+
 /// Numbers of a mark in a buffer.
 pub const NUMBERS: usize = 5;
 
 /// No plan has more marks.
-pub const MAX_MARKS: usize = 1_024 + 2_048;
+pub const MAX_MARKS: usize = MAX_VERTICES + 2_048;
 
 extern "C" {
     #[allow(clippy::too_many_arguments)]
@@ -39,6 +45,17 @@ extern "C" {
     fn reread_c(text: *const u8, text_len: usize, out: *mut u8, out_len: usize) -> i64;
 
     fn report_c(text: *const u8, text_len: usize, out: *mut u8, out_len: usize) -> i64;
+
+    fn report_tangled_c(text: *const u8, text_len: usize, out: *mut u8, out_len: usize) -> i64;
+
+    fn untangle_c(
+        text: *const u8,
+        text_len: usize,
+        out: *mut u8,
+        out_len: usize,
+        numbers: *mut u16,
+        numbers_len: usize,
+    ) -> i64;
 
     fn picture_c(
         text: *const u8,
@@ -97,6 +114,22 @@ pub fn write_report(text: &[u8], out: &mut [u8]) -> Result<usize, u32> {
     answer(unsafe { report_c(text.as_ptr(), text.len(), out.as_mut_ptr(), out.len()) })
 }
 
+/// Writes the report of a text that may be tangled into the buffer, in the numbers of the text: how many bytes it has. Else as for
+/// `reread`.
+pub fn write_tangled_report(text: &[u8], out: &mut [u8]) -> Result<usize, u32> {
+    // The function reads and writes the lent slices alone, within their lengths.
+    answer(unsafe { report_tangled_c(text.as_ptr(), text.len(), out.as_mut_ptr(), out.len()) })
+}
+
+/// Writes the text of the rearranged plan into the buffer, and each vertex's number in the text given into the other: how many bytes
+/// the text has. Else as for `reread`.
+pub fn write_untangled(text: &[u8], out: &mut [u8], numbers: &mut [u16]) -> Result<usize, u32> {
+    // The function reads and writes the lent slices alone, within their lengths.
+    answer(unsafe {
+        untangle_c(text.as_ptr(), text.len(), out.as_mut_ptr(), out.len(), numbers.as_mut_ptr(), numbers.len())
+    })
+}
+
 /// Writes the answers to a script's commands into the buffer: how many bytes they have. Else 14, and the buffer is as it was.
 pub fn write_answers(script: &[u8], out: &mut [u8]) -> Result<usize, u32> {
     // The function reads and writes the lent slices alone, within their lengths.
@@ -107,16 +140,7 @@ pub fn write_answers(script: &[u8], out: &mut [u8]) -> Result<usize, u32> {
 /// refused are told by 100 and their line.
 pub fn write_picture(text: &[u8], names: &[u8], out: &mut [u8]) -> Result<usize, u32> {
     // The function reads and writes the lent slices alone, within their lengths.
-    answer(unsafe {
-        picture_c(
-            text.as_ptr(),
-            text.len(),
-            names.as_ptr(),
-            names.len(),
-            out.as_mut_ptr(),
-            out.len(),
-        )
-    })
+    answer(unsafe { picture_c(text.as_ptr(), text.len(), names.as_ptr(), names.len(), out.as_mut_ptr(), out.len()) })
 }
 
 /// Writes the marks of a plan's drawing into the buffer, five numbers each: how many marks there are. Else as for `reread`.

@@ -1,12 +1,12 @@
-//! The proved runner of scripts against the reference: on random scripts, on those that the gate runs, at edges, with buffers of any
-//! length. A test has a stack of two mebibytes.
+//! The proved runner of scripts against the reference: on random scripts, on those that the gate runs, on all vectors, at edges, with
+//! buffers of any length. A test has a stack of two mebibytes.
 
 use std::fs;
 use std::io::Write;
 use std::path::Path;
 use std::process::{Command, Stdio};
 
-use differential::proved;
+use differential::{proved, vectors};
 use reference::{script, scripts};
 
 /// What stands in a buffer before it is lent.
@@ -30,12 +30,12 @@ fn compare(commands: &[u8]) {
     }
 }
 
-/// How many random scripts each of two tests compares; a third of them alter the stored record.
+/// How many random scripts each test compares; a third of them alter the stored record.
 const SCRIPTS: u64 = 10_500;
 
 /// Compares on a buffer that has room; on each fiftieth script also on others.
-fn compare_random(seed: u64) {
-    let commands = scripts::script(seed);
+fn compare_random(seed: u64, script: fn(u64) -> String) {
+    let commands = script(seed);
     if seed % 50 == 0 {
         return compare(commands.as_bytes());
     }
@@ -47,12 +47,55 @@ fn compare_random(seed: u64) {
 
 #[test]
 fn random_scripts() {
-    (0..SCRIPTS).for_each(compare_random);
+    (0..SCRIPTS).for_each(|seed| compare_random(seed, scripts::script));
 }
 
 #[test]
 fn more_random_scripts() {
-    (SCRIPTS..2 * SCRIPTS).for_each(compare_random);
+    (SCRIPTS..2 * SCRIPTS).for_each(|seed| compare_random(seed, scripts::script));
+}
+
+#[test]
+fn random_scripts_with_tangled_loads() {
+    (0..SCRIPTS).for_each(|seed| compare_random(seed, scripts::tangled_script));
+}
+
+#[test]
+fn more_random_scripts_with_tangled_loads() {
+    (SCRIPTS..2 * SCRIPTS).for_each(|seed| compare_random(seed, scripts::tangled_script));
+}
+
+/// Each script gives the answers that stand beside it.
+#[test]
+fn vectors() {
+    let scripts = vectors::scripts();
+    assert_eq!(scripts.len(), 55);
+    for file in scripts {
+        let expected = fs::read(file.with_extension("answers")).expect("answers");
+        let mut out = vec![OLD; expected.len()];
+        let length = proved::write_answers(&fs::read(&file).expect("a script"), &mut out);
+        assert_eq!(length, Ok(expected.len()), "{}", file.display());
+        assert!(out == expected, "{}", file.display());
+    }
+}
+
+/// What a sheet remembers is each level's own numbers, once each; a clear and the next load forget it.
+#[test]
+fn remembered_numbers() {
+    let plan = "(plan 4 1 5)\\n(level (box 1) (box 2))\\n(level (via) (via))\\n(level (via) (via))\\n(level (box 1) (box 2))\\n\
+                (seg 0 2)\\n(seg 1 3)\\n(seg 2 5)\\n(seg 3 4)\\n(seg 4 6)\\n(seg 5 7)\\n(end)\\n";
+    let loads = format!("load 1 tangled {plan}\ndraw 1\nlines 1\n");
+    // Each number once in the plan, two of them on another's level.
+    let exchanged = "poke 1 mem 1 2\npoke 1 mem 2 1\nlines 1\nmarks 1\ndraw 1\n";
+    let small =
+        "load 1 strict (plan 2 1 5)\\n(level (box 1) (box 2))\\n(level (box 1) (box 1))\\n(end)\\n\ndraw 1\nlines 1\n";
+    // A plan by hand, after a clear: its numbers are all 0, so that two vertices are refused, and one is not.
+    let by_hand =
+        "clear 1\npoke 1 k 1\npoke 1 g 1\npoke 1 s 1\npoke 1 size 0 2\npoke 1 vertex 0 box 1\npoke 1 vertex 1 box 1\n\
+                   poke 1 stage loaded 2 0\ndraw 1\npoke 1 size 0 1\npoke 1 stage loaded 1 0\ndraw 1\nlines 1\n";
+    for way in ["", "poke 1 tangled 0\n", "poke 1 tangled 1\n"] {
+        compare([&loads, way, exchanged, small, &loads, way, by_hand].concat().as_bytes());
+    }
 }
 
 #[test]
@@ -63,7 +106,18 @@ fn scripts_of_the_gate() {
 
 #[test]
 fn edges() {
-    let edges = ["", "\n", "\n\n", "# no command", "stage 1", "stage 1\n", "stage 1\r\n", "lines 1\nmarks 1", "stage 2", "poke 1 size 64 1"];
+    let edges = [
+        "",
+        "\n",
+        "\n\n",
+        "# no command",
+        "stage 1",
+        "stage 1\n",
+        "stage 1\r\n",
+        "lines 1\nmarks 1",
+        "stage 2",
+        "poke 1 size 64 1",
+    ];
     edges.iter().for_each(|commands| compare(commands.as_bytes()));
 }
 
@@ -73,7 +127,8 @@ const LINE_ROOM: usize = 2_097_152;
 /// What the program `script` answers.
 fn run(commands: &[u8]) -> Vec<u8> {
     let program = Path::new(env!("CARGO_MANIFEST_DIR")).join("../target/bin/script");
-    let mut child = Command::new(program).stdin(Stdio::piped()).stdout(Stdio::piped()).spawn().expect("the program script");
+    let mut child =
+        Command::new(program).stdin(Stdio::piped()).stdout(Stdio::piped()).spawn().expect("the program script");
     child.stdin.take().expect("its input").write_all(commands).expect("a script sent");
     child.wait_with_output().expect("its answers").stdout
 }
@@ -81,7 +136,8 @@ fn run(commands: &[u8]) -> Vec<u8> {
 /// A line that fits the room is answered as the reference answers it; a longer one is no command, or a remark that is passed over.
 #[test]
 fn long_lines_of_the_program() {
-    let long = |front: &str, length: usize| [front.as_bytes(), &vec![b'a'; length - front.len()], b"\nstage 1\n"].concat();
+    let long =
+        |front: &str, length: usize| [front.as_bytes(), &vec![b'a'; length - front.len()], b"\nstage 1\n"].concat();
     for length in [65_536 + 14, 65_537 + 14, 300_000, LINE_ROOM - 1] {
         let commands = long("load 1 strict ", length);
         assert_eq!(run(&commands), script::answers(&commands), "{length}");

@@ -9,19 +9,24 @@ use place_run::call::place_run;
 use script_run::script::answers;
 use text_report::all_marks::marks_text;
 use text_report::positions::positions_text;
+use text_report::tangled::report_tangled_text;
 use text_report::whole::report_text;
+use text_untangle::again::untangle_text;
 use text_write::again::rewrite;
 ghost use Rattle.run.specs.Call.{callOf};
-ghost use Rattle.text.specs.Reading.{reading};
+ghost use Rattle.text.specs.Reading.{reading, tangledReading};
 ghost use Rattle.text_write.specs.Again.{rewritten};
 ghost use Rattle.script_run.specs.Scripts.{scriptOf};
 ghost use Rattle.text_report.specs.Marks.{marksOf};
 ghost use Rattle.text_report.specs.Positions.{positionsOf};
+ghost use Rattle.text_report.specs.Tangled.{tangledReportOf};
 ghost use Rattle.text_report.specs.Texts.{reportOf};
+ghost use Rattle.text_untangle.specs.Text.{untangledText};
 ghost use Rattle.picture_text.specs.Text.{pictureIn};
 ghost use Rattle.c_codes.specs.Code.{Codes};
 ghost use Rattle.c_codes.specs.Again as again;
 ghost use Rattle.c_codes.specs.Picture as picture;
+ghost use Rattle.c_codes.specs.Untangled as untangled;
 ghost use Rattle.c_codes.specs.Run.{boundOf, Answers};
 
 // How many bytes all report lines of the text's plan have, which are at the front of the buffer; -N if the text is refused with N,
@@ -61,6 +66,26 @@ pub extern "C" fn reread_c(text: &[u8], out: &mut [u8]) -> i64
     ensures { λ r. ⌜ again.Codes (rewritten (reading (now (text .entry))) (now (out .entry))) r (now (out .exit)) ⌝ }
 {
     let answer = rewrite(text, out);
+    again_code(answer)
+}
+
+// What `report_c` gives, of a text that may be tangled: the report of the rearranged plan in the numbers of the text, refused with 1 to 5
+// or 14 only.
+#[no_mangle]
+pub extern "C" fn report_tangled_c(text: &[u8], out: &mut [u8]) -> i64
+    ensures { λ r. ⌜ Codes (tangledReportOf (tangledReading (now (text .entry))) (now (out .entry))) r (now (out .exit)) ⌝ }
+{
+    let answer = report_tangled_text(text, out);
+    code(answer)
+}
+
+// How many bytes the text of the rearranged plan has, which is at the front of the first buffer, and at the front of the second stands the
+// number in the text of each vertex; -N if the text is refused with N, -14 if a buffer is too short. Where it is negative both stay as they are.
+#[no_mangle]
+pub extern "C" fn untangle_c(text: &[u8], out: &mut [u8], numbers: &mut [u16]) -> i64
+    ensures { λ r. ⌜ untangled.Codes (untangledText (tangledReading (now (text .entry))) (now (out .entry)) (now (numbers .entry))) r (now (out .exit)) (now (numbers .exit)) ⌝ }
+{
+    let answer = untangle_text(text, out, numbers);
     again_code(answer)
 }
 

@@ -10,6 +10,7 @@ use Rattle.run.specs.Call as run
 use Rattle.text_write.specs.declared.again.Rewritten.{Rewritten}
 use Rattle.text_write.specs.declared.again.Rewritten.the-variants.{Written as Again, Refused as Unread, Short}
 use Rattle.text_write.specs.Again as rewriting
+use Rattle.text_untangle.specs.Text as untangling
 use Rattle.sheet.specs.declared.types.LineAnswer.{LineAnswer}
 use Rattle.sheet.specs.declared.types.LineAnswer.the-variants.{Written, Refused}
 use Rattle.sheet.specs.Results.{Result, gives, lineResultOf}
@@ -19,6 +20,7 @@ use Rattle.picture_fit.specs.declared.types.PictureAnswer.the-variants.{Written
 use Rattle.picture_fit.specs.Fitted as fitting
 use Rattle.c_codes.specs.Code.{codeOf, Codes}
 use Rattle.c_codes.specs.Again as again
+use Rattle.c_codes.specs.Untangled as untangled
 use Rattle.c_codes.specs.Picture as picture
 use Rattle.c_codes.specs.Run.{Answers}
 use Rattle.c_codes.specs.inner.Few.{Few, FewAgain, FewDrawn}
@@ -28,6 +30,9 @@ codes w e = record { code = e ∙ ap codeOf (w .answered); buffer = w .left }
 
 pub again-codes : {l : rewriting.Left} {a : Rewritten} {r : ℤ} {out : List ℕ} → rewriting.Leaves l a out → r ≡ again.codeOf a → again.Codes l r out
 again-codes w e = record { code = e ∙ ap again.codeOf (w .answer); buffer = w .buffer }
+
+pub untangled-codes : {l : untangling.Left} {a : Rewritten} {r : ℤ} {out m : List ℕ} → untangling.Leaves l a out m → r ≡ again.codeOf a → untangled.Codes l r out m
+untangled-codes w e = record { code = e ∙ ap again.codeOf (w .answer); buffer = w .buffer; numbers-left = w .numbers }
 
 pub picture-codes : {l : fitting.Left} {a : PictureAnswer} {r : ℤ} {out : List ℕ} → fitting.Leaves l a out → r ≡ picture.codeOf a → picture.Codes l r out
 picture-codes w e = record { code = e ∙ ap picture.codeOf (w .answer); buffer = w .buffer }

@@ -11,7 +11,7 @@ use Rattle.sheet.specs.Results.{lineResultOf, markResultOf}
 use Rattle.sheet.specs.Calls as sheet
 use Rattle.sheet.specs.Calls.{SheetOut, Leaves, Draws, Writes}
 use Rattle.calls.specs.declared.types.Call.{Call}
-use Rattle.calls.specs.declared.types.Call.the-variants.{Load, Draw, Line, Report, Mark, Marks, Clear}
+use Rattle.calls.specs.declared.types.Call.the-variants.{Load, LoadTangled, Draw, Line, Report, Mark, Marks, Clear}
 use Rattle.calls.specs.declared.types.Reply.{Reply}
 use Rattle.calls.specs.Replies.{done, written, marked, replyOf, each}
 use Rattle.calls.specs.Step.{Lent, Steps, step, changed}
@@ -32,6 +32,10 @@ module _ (l : Lent) (s : Sheet) where
     pub load-steps : q ≡ Load → Leaves (sheet.load s (l .text)) a t → Changes a t r u → Steps (step q l s) r u (l .buffer) (l .numbers)
     unfolding step
     load-steps e h k = rw e (changes _ h k)
+
+    pub tangled-steps : q ≡ LoadTangled → Leaves (sheet.loadTangled s (l .text)) a t → Changes a t r u → Steps (step q l s) r u (l .buffer) (l .numbers)
+    unfolding step
+    tangled-steps e h k = rw e (changes _ h k)
 
     pub draw-steps : q ≡ Draw → Draws s a t → Changes a t r u → Steps (step q l s) r u (l .buffer) (l .numbers)
     unfolding step

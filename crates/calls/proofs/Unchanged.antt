@@ -10,9 +10,9 @@ use Rattle.text.proofs.Words.{never}
 use Rattle.sheet.specs.declared.types.Sheet.{Sheet}
 use Rattle.sheet.specs.Results.{Result, gives, refuses}
 use Rattle.sheet.specs.Calls.{clear}
-use Rattle.sheet.proofs.WhenRefused.{load-kept, draw-kept, line-kept, report-kept, marks-kept}
+use Rattle.sheet.proofs.WhenRefused.{load-kept, tangled-kept, draw-kept, line-kept, report-kept, marks-kept}
 use Rattle.calls.specs.declared.types.Call.{Call}
-use Rattle.calls.specs.declared.types.Call.the-variants.{Load, Draw, Line, Report, Mark, Marks, Clear}
+use Rattle.calls.specs.declared.types.Call.the-variants.{Load, LoadTangled, Draw, Line, Report, Mark, Marks, Clear}
 use Rattle.calls.specs.Replies.{Value, each}
 use Rattle.calls.specs.Step.{Lent, After, step}
 use Rattle.calls.specs.Run.{Asked, leaves, shows}
@@ -29,6 +29,7 @@ each-refused f (refuses m) e = cc
 pub refused-changes-nothing : (q : Call) (l : Lent) (s : Sheet) (n : ℕ) → step q l s .result ≡ refuses n → Unchanged l s (step q l s)
 unfolding step clear
 refused-changes-nothing Load l s n e = record { sheet = load-kept s (l .text) n (each-refused _ _ e); buffer = refl; numbers = refl }
+refused-changes-nothing LoadTangled l s n e = record { sheet = tangled-kept s (l .text) n (each-refused _ _ e); buffer = refl; numbers = refl }
 refused-changes-nothing Draw l s n e = record { sheet = draw-kept s n (each-refused _ _ e); buffer = refl; numbers = refl }
 refused-changes-nothing (Line m) l s n e = record { sheet = refl; buffer = line-kept s m n (l .buffer) (each-refused _ _ e); numbers = refl }
 refused-changes-nothing Report l s n e = record { sheet = refl; buffer = report-kept s n (l .buffer) (each-refused _ _ e); numbers = refl }
@@ -40,6 +41,7 @@ refused-changes-nothing Clear l s n e = never (cc)
 pub show-leaves : (q : Call) (l : Lent) (s : Sheet) → shows q ≡ true → step q l s .sheet ≡ s
 unfolding step
 show-leaves Load l s e = never (cc)
+show-leaves LoadTangled l s e = never (cc)
 show-leaves Draw l s e = never (cc)
 show-leaves (Line n) l s e = refl
 show-leaves Report l s e = refl

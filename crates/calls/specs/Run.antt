@@ -6,7 +6,7 @@ use lib.Ieee.{Float}
 use Rattle.sheet.specs.declared.types.Sheet.{Sheet}
 use Rattle.sheet.specs.Results.{Result}
 use Rattle.calls.specs.declared.types.Call.{Call}
-use Rattle.calls.specs.declared.types.Call.the-variants.{Load, Draw, Line, Report, Mark, Marks, Clear}
+use Rattle.calls.specs.declared.types.Call.the-variants.{Load, LoadTangled, Draw, Line, Report, Mark, Marks, Clear}
 use Rattle.calls.specs.Replies.{Value}
 use Rattle.calls.specs.Step.{Lent, After, step}
 
@@ -42,6 +42,7 @@ leaves (q ∷ qs) s = leaves qs (made q s .sheet)
 -- Line, report, mark and marks only show what a sheet holds.
 abbrev pub shows : Call → Bool
 shows Load = false
+shows LoadTangled = false
 shows Draw = false
 shows (Line n) = true
 shows Report = true

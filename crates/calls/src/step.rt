@@ -4,6 +4,7 @@ use crate::types::Call;
 use crate::types::Reply;
 use sheet::clear::clear;
 use sheet::load::load;
+use sheet::tangled::load_tangled;
 use sheet::types::Answer;
 use sheet::types::Changed;
 use sheet::types::LineAnswer;
@@ -67,6 +68,7 @@ pub fn step(call: Call, text: &[u8], buffer: &mut [u8], numbers: &mut [f64], she
 {
     match call {
         Call::Load => of_change(load(sheet, text)),
+        Call::LoadTangled => of_change(load_tangled(sheet, text)),
         Call::Draw => of_change(draw(sheet)),
         Call::Line(n) => After {
             reply: of_line(line(sheet, n, buffer)),

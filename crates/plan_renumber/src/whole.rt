@@ -8,7 +8,7 @@ ghost use Rattle.plan.specs.Plan.{PlanData};
 ghost use Rattle.plan_renumber.specs.Renumber.{renumbered};
 ghost use Rattle.plan_renumber.specs.inner.Words.{Lists, Renumberable};
 
-fn copy(xs: &[u16], out: &mut [u16])
+pub fn copy(xs: &[u16], out: &mut [u16])
     requires { ⌜ length (now out) ≡ length (now xs) ⌝ }
     ensures { λ _. ⌜ now (out .exit) ≡ now (xs .entry) ⌝ }
 {

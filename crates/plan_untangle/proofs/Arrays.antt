@@ -6,15 +6,12 @@ use mathlib.Core.List.{List}
 use native.Mathlib.Omega.{arith}
 use lib.ListN.{length}
 use Rattle.plan.specs.Plan.{PlanData, vertexCount}
-use Rattle.plan.specs.inner.Held.{HoldsPlan}
 use Rattle.plan_renumber.specs.Renumber.{renumbered}
 use Rattle.plan_renumber.specs.inner.Words.{Once, Lists, Renumberable}
-use Rattle.plan_renumber.proofs.Kept.{header-same}
 use Rattle.plan_untangle.specs.Order.{order, untangled}
 use Rattle.plan_untangle.specs.inner.Ordering.{Tangled, SomeTangled}
 use Rattle.plan_untangle.specs.inner.Arrays.{Rooms, Untangles}
 use Rattle.plan_untangle.proofs.Orders.{order-own}
-use Rattle.plan_untangle.proofs.Untangled.{untangled-acceptable}
 use Rattle.plan_untangle.proofs.Whole.{tangled-within}
 
 module _ (sizes : List ℕ) (vias : List Bool) (halves us ls numbers turn upper places codes keys : List ℕ) (flags : List Bool)
@@ -50,23 +47,6 @@ untangles p sizes vias halves us ls t h numbers o vias′ halves′ us′ ls′ 
   numbersAre = o;
   lists = rw o at (f p (record { viasAre = t .viasAre; halvesAre = h; uppersAre = t .uppersAre; lowersAre = t .lowersAre }));
 }
-
--- so the arrays hold a plan that passes the checks
-pub untangles-holds : (p : PlanData) (gap : ℕ) (sizes : List ℕ) (vias : List Bool) (us ls : List ℕ) → Tangled p sizes vias us ls → p .gap ≡ gap
-    → (numbers : List ℕ) (vias′ : List Bool) (halves′ us′ ls′ : List ℕ) → Untangles p numbers vias′ halves′ us′ ls′ → HoldsPlan (untangled p) gap sizes vias′ halves′ us′ ls′
-unfolding untangled
-untangles-holds p gap sizes vias us ls t g numbers vias′ halves′ us′ ls′ u =
-    let h = header-same p (order p) in
-    record {
-      levelsAre = h .levels ∙ t .levelsAre;
-      gapIs = h .gap ∙ g;
-      sizesAre = h .sizes ∙ t .sizesAre;
-      viasAre = u .lists .viasAre;
-      halvesAre = u .lists .halvesAre;
-      uppersAre = u .lists .uppersAre;
-      lowersAre = u .lists .lowersAre;
-      ok = untangled-acceptable p (t .limits) (t .three) (t .four) (t .five);
-    }
 
 pub at-least : (a b : ℕ) → a ≡ b → b ≤ a
 at-least a b e = omega arith

@@ -90,7 +90,7 @@ module _ (p : PlanData) where
   order-levels (suc l) = rw (order-step l)
       (share-map (shares p (suc (suc l))) (keyBy (orderTo p l)) (orderTo p l) (λ v. levelOf p v) (suc (suc l)) (shares-level (suc (suc l))) ∙ order-levels l)
 
-  order-to-own : (l : ℕ) → Own p (orderTo p l)
+  pub order-to-own : (l : ℕ) → Own p (orderTo p l)
   order-to-own l = same-own p (orderTo p l) (order-same l) (order-levels l)
 
   pub order-once : (l : ℕ) → Once (vertexCount p) (orderTo p l)

@@ -37,10 +37,11 @@ module _ (p : PlanData) (sizes : List ℕ) (vias : List Bool) (us ls : List ℕ)
 
   -- the tables are those of p
   pub ordering : (level turn upper : List ℕ) → Levelled sizes level → length level ≡ length vias → length upper ≡ length vias → Ended us ls upper
-      → Turned vias upper level turn → length turn ≡ length vias → (order : List ℕ) → order ≡ numbers 0 (length vias) → Ordering p (length sizes) turn upper order
+      → Turned vias upper level turn → length turn ≡ length vias → (order : List ℕ) → order ≡ numbers 0 (length vias) → Ordering p sizes turn upper order
   unfolding levelOf
   ordering level turn upper lv ll ul e tu tl order o = record {
     levelsAre = t .levelsAre;
+    sizesAre = t .sizesAre;
     limits = t .limits;
     three = t .three;
     five = t .five;
@@ -88,11 +89,11 @@ module _ (sizes : List ℕ) (vias : List Bool) (us ls order turn upper places co
 
   module _ (level upper″ turn′ order′ : List ℕ) (lv : Levelled sizes level) (ll : length level ≡ length turn) (ul : length upper″ ≡ length upper) (e : Ended us ls upper″)
       (tu : Turned vias upper″ level turn′) (tl : length turn′ ≡ length level) (o : order′ ≡ numbers 0 (length order)) where
-    pub made : (p : PlanData) → Tangled p sizes vias us ls → Ordering p (length sizes) turn′ upper″ order′
+    pub made : (p : PlanData) → Tangled p sizes vias us ls → Ordering p sizes turn′ upper″ order′
     made p q = ordering p sizes vias us ls q level turn′ upper″ lv (ll ∙ r .turns-long) (ul ∙ r .uppers-long) e tu (tl ∙ ll ∙ r .turns-long) order′
         (o ∙ ap (numbers 0) (r .order-long))
 
-    pub all-made : SomeOrdering (length sizes) turn′ upper″ order′ × ShareRoom order′ places codes
+    pub all-made : SomeOrdering sizes turn′ upper″ order′ × ShareRoom order′ places codes
     all-made =
         let long : length order′ ≡ length order = ap length o ∙ length-numbers 0 (length order) in (
           record { plan = s .plan; tables = made (s .plan) t },

@@ -12,7 +12,7 @@ ghost use Rattle.plan_untangle.specs.Order.{order as orderOf};
 ghost use Rattle.plan_untangle.specs.inner.Ordering.{Tangled, SomeTangled, Endable, Ended, Turnable, Turned, Ordering, SomeOrdering, ShareRoom, Tables};
 
 // Writes the numbers from 0 on.
-fn count_up(out: &mut [u16])
+pub fn count_up(out: &mut [u16])
     requires { ⌜ length (now out) ≤ maxVertices ⌝ }
     ensures { λ _. ⌜ now (out .exit) ≡ numbers 0 (length (now (out .entry))) ⌝ }
 {
@@ -63,19 +63,22 @@ fn set_turns(vias: &[bool], upper: &[u16], turn: &mut [u16])
 
 // Rearranges each level from the second down.
 fn share_levels(
-    levels: usize,
+    sizes: &[u16],
     turn: &[u16],
     upper: &[u16],
     order: &mut [u16],
     places: &mut [u16],
     codes: &mut [u32],
 )
-    requires { ⌜ SomeOrdering levels (now turn) (now upper) (now order) × ShareRoom (now order) (now places) (now codes) ⌝ }
-    ensures { λ _. ⌜ ((p : PlanData) → Ordering p levels (now (turn .entry)) (now (upper .entry)) (now (order .entry)) → now (order .exit) ≡ orderOf p) ⌝ }
+    requires { ⌜ SomeOrdering (now sizes) (now turn) (now upper) (now order) × ShareRoom (now order) (now places) (now codes) ⌝ }
+    ensures { λ _. ⌜ ((p : PlanData) → Ordering p (now (sizes .entry)) (now (turn .entry)) (now (upper .entry)) (now (order .entry)) → now (order .exit) ≡ orderOf p) ⌝ }
 {
+    let mut first: usize = 0;
     let mut l: usize = 2;
-    while l <= levels {
-        share_level(turn, l as u16, upper, order, places, codes);
+    while l <= sizes.len() {
+        first += wide(sizes[l - 2]);
+        let end = first + wide(sizes[l - 1]);
+        share_level(turn, l as u16, upper, order, first, end, places, codes);
         l += 1;
     }
 }
@@ -100,5 +103,5 @@ pub fn order(
     upper_ends(uppers, lowers, upper);
     set_turns(vias, upper, turn);
     count_up(order);
-    share_levels(sizes.len(), turn, upper, order, places, codes);
+    share_levels(sizes, turn, upper, order, places, codes);
 }

@@ -16,7 +16,7 @@ use Rattle.sheet.specs.Results.{gives, refuses}
 use Rattle.sheet.specs.Tests.{lineOf}
 use Rattle.sheet.specs.Calls as sheet
 use Rattle.sheet.specs.Calls.{lineTests}
-use Rattle.calls.specs.declared.types.Call.the-variants.{Load, Draw, Line, Mark as MarkOf, Clear}
+use Rattle.calls.specs.declared.types.Call.the-variants.{Load, LoadTangled, Draw, Line, Mark as MarkOf, Clear}
 use Rattle.calls.specs.Replies.{written, each}
 use Rattle.calls.specs.Step.{Lent, step}
 use Rattle.script_answers.specs.Answers.{refused, done, text, mark}
@@ -26,7 +26,7 @@ module _ (l : Lent) (s : Sheet) where
   abbrev whole : ℕ → WholeMark
   whole n = wholeMarkOf (planIn s) (drawingIn s .final) n
 
-  -- load, draw and clear: "ok", or the refusal
+  -- load by either way, draw and clear: "ok", or the refusal
   pub load-done : sheet.load s (l .text) .result ≡ gives tt → callSaid Load l s ≡ done
   unfolding callSaid step
   load-done e = rw e
@@ -34,6 +34,14 @@ module _ (l : Lent) (s : Sheet) where
   pub load-refused : (m : ℕ) → sheet.load s (l .text) .result ≡ refuses m → callSaid Load l s ≡ refused m
   unfolding callSaid step
   load-refused m e = rw e
+
+  pub tangled-done : sheet.loadTangled s (l .text) .result ≡ gives tt → callSaid LoadTangled l s ≡ done
+  unfolding callSaid step
+  tangled-done e = rw e
+
+  pub tangled-refused : (m : ℕ) → sheet.loadTangled s (l .text) .result ≡ refuses m → callSaid LoadTangled l s ≡ refused m
+  unfolding callSaid step
+  tangled-refused m e = rw e
 
   pub draw-done : sheet.draw s .result ≡ gives tt → callSaid Draw l s ≡ done
   unfolding callSaid step

@@ -16,7 +16,7 @@ use Rattle.sheet.specs.Results.{Result, gives, refuses}
 use Rattle.sheet.specs.Calls as sheet
 use Rattle.sheet.proofs.Exactly.{mark-fits, mark-exact}
 use Rattle.calls.specs.declared.types.Call.{Call}
-use Rattle.calls.specs.declared.types.Call.the-variants.{Load, Draw, Line, Report, Mark as MarkOf, Marks, Clear}
+use Rattle.calls.specs.declared.types.Call.the-variants.{Load, LoadTangled, Draw, Line, Report, Mark as MarkOf, Marks, Clear}
 use Rattle.calls.specs.declared.types.Reply.{Reply}
 use Rattle.calls.specs.declared.types.Reply.the-variants.{Done, Written, Given, Refused}
 use Rattle.calls.specs.Replies as value
@@ -48,6 +48,7 @@ module _ (l : Lent) (s : Sheet) where
   mark-given : (q : Call) (m : Mark) → gives (marked m) ≡ step q l s .result → sheet.mark s (markAsked q) ≡ gives m
   unfolding step
   mark-given Load m e = absurd (no-mark (λ u. value.done) (sheet.load s (l .text) .result) (λ a. done-none) e)
+  mark-given LoadTangled m e = absurd (no-mark (λ u. value.done) (sheet.loadTangled s (l .text) .result) (λ a. done-none) e)
   mark-given Draw m e = absurd (no-mark (λ u. value.done) (sheet.draw s .result) (λ a. done-none) e)
   mark-given (Line n) m e = absurd (no-mark written (sheet.line s n (l .buffer) .result) written-none e)
   mark-given Report m e = absurd (no-mark written (sheet.report s (l .buffer) .result) written-none e)

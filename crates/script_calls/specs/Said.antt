@@ -10,7 +10,7 @@ use Rattle.sheet.specs.declared.types.Sheet.{Sheet}
 use Rattle.sheet.specs.Sheet.{planIn, drawingIn}
 use Rattle.sheet.specs.Results.{Result, gives, refuses}
 use Rattle.calls.specs.declared.types.Call.{Call}
-use Rattle.calls.specs.declared.types.Call.the-variants.{Load, Draw, Line, Report, Mark, Marks, Clear}
+use Rattle.calls.specs.declared.types.Call.the-variants.{Load, LoadTangled, Draw, Line, Report, Mark, Marks, Clear}
 use Rattle.calls.specs.Replies as value
 use Rattle.calls.specs.Replies.{Value, written, marked}
 use Rattle.calls.specs.Step.{Lent, step}
@@ -30,6 +30,7 @@ resultSaid w buffer (refuses n) = refused n
 -- The number of the mark that is asked for.
 abbrev pub markAsked : Call → ℕ
 markAsked Load = 0
+markAsked LoadTangled = 0
 markAsked Draw = 0
 markAsked (Line n) = 0
 markAsked Report = 0

@@ -1,6 +1,6 @@
 -- The definition computed on a few lines.
 use mathlib.Core.Path.{_≡_, refl}
-use mathlib.Core.Bool.{true}
+use mathlib.Core.Bool.{true, false}
 use mathlib.Core.List.{[], _∷_}
 use lib.IntN.{pos, negsuc}
 use Rattle.plan.specs.Checks.{every}
@@ -14,14 +14,15 @@ use Rattle.script_forms.specs.Forms.{standsFor, fits}
 use Rattle.script_runs.specs.Lists.{isList, wholesIn, signedsIn}
 use Rattle.script_runs.specs.Names.{valuesOf}
 use Rattle.script_runs.specs.Runs.{hasParts, hasOptions, hasNumbers, hasLists, isRequest, requestIn}
-use Rattle.script_commands.specs.declared.types.Poke.the-variants.{Drawn, Vertex, Final, Listed}
-use Rattle.script_commands.specs.Commands.{skip, unknown, load, draw, line, mark, placeRun, poke}
-use Rattle.script_commands.specs.Table.{longEnough, calls, planPokes, drawingPokes, saidBy, commandOf}
+use Rattle.script_commands.specs.declared.types.Poke.the-variants.{Drawn, Vertex, Remembered, Tangled, Final, Listed}
+use Rattle.script_commands.specs.Commands.{skip, unknown, load, loadTangled, draw, line, mark, placeRun, poke}
+use Rattle.script_commands.specs.Table.{longEnough, calls, planPokes, loadingPokes, drawingPokes, saidBy, commandOf}
 
 record Lines : Type 0 where
   empty : commandOf [] ≡ skip
   remark : commandOf (bytes "# draw 1") ≡ skip
   loaded : commandOf (bytes "load 1 strict (end)\\n") ≡ load (bytes "(end)\n")
+  loaded-tangled : commandOf (bytes "load 1 tangled (end)\\n") ≡ loadTangled (bytes "(end)\n")
   no-text : commandOf (bytes "load 1 strict") ≡ unknown
   empty-text : commandOf (bytes "load 1 strict ") ≡ load []
   no-escape : commandOf (bytes "load 1 strict \\q") ≡ unknown
@@ -36,6 +37,10 @@ record Lines : Type 0 where
   below-zero : commandOf (bytes "mark 1 -1") ≡ unknown
   stage : commandOf (bytes "poke 1 stage drawn 30 43 16") ≡ poke (Drawn 30 43 16)
   vertex : commandOf (bytes "poke 1 vertex 44 via 200") ≡ poke (Vertex 44 true 200)
+  number : commandOf (bytes "poke 1 mem 4 7") ≡ poke (Remembered 4 7)
+  first-way : commandOf (bytes "poke 1 tangled 0") ≡ poke (Tangled false)
+  second-way : commandOf (bytes "poke 1 tangled 1") ≡ poke (Tangled true)
+  no-way : commandOf (bytes "poke 1 tangled 2") ≡ unknown
   position : commandOf (bytes "poke 1 pos 4 -1099511627777") ≡ poke (Final 4 (negsuc 1099511627776))
   box : commandOf (bytes "poke 1 box 0 1 1 1099511627777") ≡ poke (Listed 0 1 1 (pos 1099511627777))
   run : commandOf (bytes "placerun r=2 old=-9,2 left=-7 counts=2,0 nbrs=-9,-3 dist=1,15") ≡ placeRun (record {
@@ -61,11 +66,12 @@ record Lines : Type 0 where
   run-without : commandOf (bytes "placerun r=0 old= nbrs= counts=") ≡ unknown
 
 lines : Lines
-unfolding commandOf word unescaped hexValue saidBy calls planPokes drawingPokes fits standsFor parts same numberIn naturalIn isNatural every valueFrom hasParts hasOptions hasNumbers hasLists isRequest valuesOf isList wholesIn signedsIn requestIn
+unfolding commandOf word unescaped hexValue saidBy calls planPokes loadingPokes drawingPokes fits standsFor parts same numberIn naturalIn isNatural every valueFrom hasParts hasOptions hasNumbers hasLists isRequest valuesOf isList wholesIn signedsIn requestIn
 lines = record {
   empty = refl;
   remark = refl;
   loaded = refl;
+  loaded-tangled = refl;
   no-text = refl;
   empty-text = refl;
   no-escape = refl;
@@ -80,6 +86,10 @@ lines = record {
   below-zero = refl;
   stage = refl;
   vertex = refl;
+  number = refl;
+  first-way = refl;
+  second-way = refl;
+  no-way = refl;
   position = refl;
   box = refl;
   run = refl;

@@ -19,11 +19,11 @@ use Rattle.script_runs.specs.Runs.{isRequest, requestIn, roomIn}
 use Rattle.script_runs.specs.inner.Filled.{Asks}
 use Rattle.script_forms.specs.Forms.{hasForm}
 use Rattle.script_forms.specs.inner.First.{firstForm}
-use Rattle.script_commands.specs.Commands.{Command, skip, unknown, load}
-use Rattle.script_commands.specs.Table.{Row, calls, planPokes, drawingPokes, saidBy, isSkipped, loading, placing, commandOf}
+use Rattle.script_commands.specs.Commands.{Command, skip, unknown, load, loadTangled}
+use Rattle.script_commands.specs.Table.{Row, calls, planPokes, loadingPokes, drawingPokes, saidBy, isSkipped, loading, placing, commandOf}
 use Rattle.script_commands.specs.inner.Held.{Lent, commandIn, shortened, Inside, Commands, isBare, Bare}
 use Rattle.script_commands.specs.declared.types.Command.{Command as Found}
-use Rattle.script_commands.specs.declared.types.Command.the-variants.{Skip, Unknown, Load, Draw, Clear, Stage, Line, Lines, Mark, Marks, PlaceRun, Poke}
+use Rattle.script_commands.specs.declared.types.Command.the-variants.{Skip, Unknown, Load, LoadTangled, Draw, Clear, Stage, Line, Lines, Mark, Marks, PlaceRun, Poke}
 
 -- What row k says.
 abbrev pub saysAt : List Row → ℕ → List ℕ → Command
@@ -79,30 +79,39 @@ module _ (l : List ℕ) where
   command-skip e = rw e
 
   module _ (e : isSkipped l ≡ false) where
-    pub command-load : (rest : List ℕ) → word (bytes "load 1 strict ") l ≡ got tt rest → commandOf l ≡ loading (unescaped rest)
+    pub command-load : (rest : List ℕ) → word (bytes "load 1 strict ") l ≡ got tt rest → commandOf l ≡ loading load (unescaped rest)
     unfolding commandOf
     command-load rest q = rw (e, q)
 
     module _ (f : word (bytes "load 1 strict ") l ≡ nothing) where
-      pub command-place : (rest : List ℕ) → word (bytes "placerun ") l ≡ got tt rest → commandOf l ≡ placing (words rest)
+      pub command-tangled : (rest : List ℕ) → word (bytes "load 1 tangled ") l ≡ got tt rest
+          → commandOf l ≡ loading loadTangled (unescaped rest)
       unfolding commandOf
-      command-place rest q = rw (e, f, q)
+      command-tangled rest q = rw (e, f, q)
 
-      pub command-said : word (bytes "placerun ") l ≡ nothing → commandOf l ≡ saidBy (calls ++ planPokes ++ drawingPokes) l
-      unfolding commandOf
-      command-said q = rw (e, f, q)
+      module _ (g : word (bytes "load 1 tangled ") l ≡ nothing) where
+        pub command-place : (rest : List ℕ) → word (bytes "placerun ") l ≡ got tt rest → commandOf l ≡ placing (words rest)
+        unfolding commandOf
+        command-place rest q = rw (e, f, g, q)
+
+        pub command-said : word (bytes "placerun ") l ≡ nothing → commandOf l ≡ saidBy (calls ++ planPokes ++ loadingPokes ++ drawingPokes) l
+        unfolding commandOf
+        command-said q = rw (e, f, g, q)
 
 -- ---- what the program found
-loading-cut : (b : Lent) (o : Option (List ℕ)) → shortened b (loading o) ≡ loading (cut (length (b .text)) o)
-loading-cut b none = refl
-loading-cut b (some t) = refl
+loading-cut : (b : Lent) (say : List ℕ → Command) → ((t : List ℕ) → shortened b (say t) ≡ say (take (length (b .text)) t))
+    → (o : Option (List ℕ)) → shortened b (loading say o) ≡ loading say (cut (length (b .text)) o)
+loading-cut b say s none = refl
+loading-cut b say s (some t) = s t
 
-module _ (before : Lent) (o : Option (List ℕ)) (r : Text) (out : List ℕ) (e : textIn r out ≡ cut (length (before .text)) o) where
-  pub load-text : (n : ℕ) → r ≡ Bytes n → load (take n out) ≡ shortened before (loading o)
-  load-text n q = ap loading (sym (ap (λ (t : Text). textIn t out) q) ∙ e) ∙ sym (loading-cut before o)
+-- `say` is which load, and s that its text is cut to the room
+module _ (before : Lent) (say : List ℕ → Command) (s : (t : List ℕ) → shortened before (say t) ≡ say (take (length (before .text)) t))
+    (o : Option (List ℕ)) (r : Text) (out : List ℕ) (e : textIn r out ≡ cut (length (before .text)) o) where
+  pub load-text : (n : ℕ) → r ≡ Bytes n → say (take n out) ≡ shortened before (loading say o)
+  load-text n q = ap (loading say) (sym (ap (λ (t : Text). textIn t out) q) ∙ e) ∙ sym (loading-cut before say s o)
 
-  pub load-bad : r ≡ Bad → unknown ≡ shortened before (loading o)
-  load-bad q = ap loading (sym (ap (λ (t : Text). textIn t out) q) ∙ e) ∙ sym (loading-cut before o)
+  pub load-bad : r ≡ Bad → unknown ≡ shortened before (loading say o)
+  load-bad q = ap (loading say) (sym (ap (λ (t : Text). textIn t out) q) ∙ e) ∙ sym (loading-cut before say s o)
 
 module _ (ws : List (List ℕ)) (before : Lent) where
   pub place-not : isRequest ws ≡ false → unknown ≡ shortened before (placing ws)
@@ -117,6 +126,7 @@ keeps : (b : Lent) (r : Found) → isBare r ≡ true → shortened b (commandIn 
 keeps b Skip e = refl
 keeps b Unknown e = refl
 keeps b (Load n) e = absurd (false≢true e)
+keeps b (LoadTangled n) e = absurd (false≢true e)
 keeps b Draw e = refl
 keeps b Clear e = refl
 keeps b Stage e = refl
@@ -131,6 +141,7 @@ bare-inside : (b : Lent) (r : Found) → isBare r ≡ true → Inside b r
 bare-inside b Skip e = tt
 bare-inside b Unknown e = tt
 bare-inside b (Load n) e = absurd (false≢true e)
+bare-inside b (LoadTangled n) e = absurd (false≢true e)
 bare-inside b Draw e = tt
 bare-inside b Clear e = tt
 bare-inside b Stage e = tt
@@ -155,6 +166,10 @@ calls-forms = refl
 pub plan-forms : parts 10 (bytes "poke 1 stage empty\npoke 1 stage loaded N N\npoke 1 stage drawn N N N\npoke 1 k N\npoke 1 g N\npoke 1 s N\npoke 1 size N N\npoke 1 vertex N box N\npoke 1 vertex N via N\npoke 1 seg N N N") ≡ formsOf planPokes
 unfolding parts planPokes
 plan-forms = refl
+
+pub loading-forms : parts 10 (bytes "poke 1 mem N N\npoke 1 tangled 0\npoke 1 tangled 1") ≡ formsOf loadingPokes
+unfolding parts loadingPokes
+loading-forms = refl
 
 pub drawing-forms : parts 10 (bytes "poke 1 pre N Z\npoke 1 pos N Z\npoke 1 pass N N\npoke 1 level N N\npoke 1 box N N N Z") ≡ formsOf drawingPokes
 unfolding parts drawingPokes

@@ -9,39 +9,51 @@ use native.Mathlib.Decide.{decLt}
 use borrow.Author.Tests.{lt-leb}
 use lib.ListN.{length, take, length-take}
 use lib.Seq.{take-all}
-use Rattle.ints.specs.Refusals.{firstRefusal}
+use Rattle.ints.specs.Refusals.{Test, firstRefusal}
+use Rattle.plan.specs.Plan.{PlanData}
+use Rattle.plan.specs.Checks.{checksOf, tangledChecksOf}
 use Rattle.text.specs.Form.{Lines, formOf}
-use Rattle.text.specs.Reading.{maxBytes, testsBy, testsOf, refused, readAs, reading}
+use Rattle.text.specs.Reading.{maxBytes, testsBy, refused, readAs, readingBy, reading, tangledReading}
 use Rattle.run.specs.Call.{Request}
 use Rattle.script_runs.specs.inner.Filled.{shortened as shortenedRun}
 use Rattle.script_commands.specs.declared.types.Command.{Command as Found}
-use Rattle.script_commands.specs.Commands.{Command, skip, unknown, load, draw, clear, stage, line, lines, mark, marks, placeRun, poke}
+use Rattle.script_commands.specs.Commands.{Command, skip, unknown, load, loadTangled, draw, clear, stage, line, lines, mark, marks, placeRun, poke}
 use Rattle.script_commands.specs.inner.Held.{Lent, commandIn, shortened, Commands}
 
 -- ---- a text
-read-long : (s : List ℕ) (l : Option Lines) → maxBytes < length s → readAs (firstRefusal (testsOf s l)) l ≡ refused 1
-unfolding testsBy firstRefusal
-read-long s none h = refl
-read-long s (some l) h = rw (lt-leb (length s) maxBytes h)
+module _ (checks : PlanData → List Test) where
+  read-long : (s : List ℕ) (l : Option Lines) → maxBytes < length s → readAs (firstRefusal (testsBy checks s l)) l ≡ refused 1
+  unfolding testsBy firstRefusal
+  read-long s none h = refl
+  read-long s (some l) h = rw (lt-leb (length s) maxBytes h)
 
-reading-long : (s : List ℕ) → maxBytes < length s → reading s ≡ refused 1
-unfolding reading
-reading-long s h = read-long s (formOf s) h
+  reading-long : (s : List ℕ) → maxBytes < length s → readingBy checks s ≡ refused 1
+  reading-long s h = read-long s (formOf s) h
+
+  cut-by : (m : ℕ) (s : List ℕ) → maxBytes < m → readingBy checks (take m s) ≡ readingBy checks s
+  cut-by m s h = elim (decLt (length s) m) [
+    | yes k ↦ ap (readingBy checks) (take-all m s (omega arith))
+    | no k ↦ reading-long (take m s) (simp length-take (omega arith)) ∙ sym (reading-long s (omega arith))
+  ]
 
 pub reading-cut : (m : ℕ) (s : List ℕ) → maxBytes < m → reading (take m s) ≡ reading s
-reading-cut m s h = elim (decLt (length s) m) [
-  | yes k ↦ ap reading (take-all m s (omega arith))
-  | no k ↦ reading-long (take m s) (simp length-take (omega arith)) ∙ sym (reading-long s (omega arith))
-]
+unfolding reading
+reading-cut m s h = cut-by checksOf m s h
+
+pub tangled-cut : (m : ℕ) (s : List ℕ) → maxBytes < m → tangledReading (take m s) ≡ tangledReading s
+unfolding tangledReading
+tangled-cut m s h = cut-by tangledChecksOf m s h
 
 -- ---- a command
 module _ {X : Type 0} (f : Command → X) (b : Lent)
     (text : (t : List ℕ) → f (load (take (length (b .text)) t)) ≡ f (load t))
+    (tangled : (t : List ℕ) → f (loadTangled (take (length (b .text)) t)) ≡ f (loadTangled t))
     (run : (q : Request) (n : ℕ) → f (placeRun (shortenedRun (b .run) q) n) ≡ f (placeRun q n)) where
   pub same-cut : (c : Command) → f (shortened b c) ≡ f c
   same-cut skip = refl
   same-cut unknown = refl
   same-cut (load t) = text t
+  same-cut (loadTangled t) = tangled t
   same-cut draw = refl
   same-cut clear = refl
   same-cut stage = refl

@@ -11,6 +11,8 @@ pub data Command : Type 0 where
   unknown : Command
   -- `load S strict TEXT`: the bytes that TEXT stands for.
   load : List ℕ → Command
+  -- `load S tangled TEXT`
+  loadTangled : List ℕ → Command
   draw : Command
   clear : Command
   stage : Command

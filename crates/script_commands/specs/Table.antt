@@ -11,8 +11,9 @@ use Rattle.script_words.specs.Parts.{words}
 use Rattle.script_texts.specs.Texts.{unescaped}
 use Rattle.script_forms.specs.Forms.{hasForm, wholeAt, signedAt}
 use Rattle.script_runs.specs.Runs.{isRequest, requestIn, roomIn}
-use Rattle.script_commands.specs.declared.types.Poke.the-variants.{Empty, Loaded, Drawn, Levels, Gap, Spacing, Size, Vertex, Segment, Preliminary, Final, Pass, Level, Listed}
-use Rattle.script_commands.specs.Commands.{Command, skip, unknown, load, draw, clear, stage, line, lines, mark, marks, placeRun, poke}
+use Rattle.script_commands.specs.declared.types.Poke.the-variants.{Empty, Loaded, Drawn, Levels, Gap, Spacing, Size, Vertex, Segment}
+use Rattle.script_commands.specs.declared.types.Poke.the-variants.{Remembered, Tangled, Preliminary, Final, Pass, Level, Listed}
+use Rattle.script_commands.specs.Commands.{Command, skip, unknown, load, loadTangled, draw, clear, stage, line, lines, mark, marks, placeRun, poke}
 
 -- A form, and what a line in that form says.
 pub record Row : Type 0 where
@@ -53,6 +54,14 @@ planPokes =
     ∷ row "poke 1 seg N N N" (λ l. poke (Segment (wholeAt l 3) (wholeAt l 4) (wholeAt l 5)))
     ∷ []
 
+-- what is remembered of the loading,
+unfoldable pub loadingPokes : List Row
+loadingPokes =
+    row "poke 1 mem N N" (λ l. poke (Remembered (wholeAt l 3) (wholeAt l 4)))
+    ∷ row "poke 1 tangled 0" (λ l. poke (Tangled false))
+    ∷ row "poke 1 tangled 1" (λ l. poke (Tangled true))
+    ∷ []
+
 -- and the drawing.
 unfoldable pub drawingPokes : List Row
 drawingPokes =
@@ -76,14 +85,14 @@ abbrev pub isSkipped : List ℕ → Bool
 isSkipped [] = true
 isSkipped (b ∷ l) = eqb b 35
 
--- "TEXT goes to the line's end".
-abbrev pub loading : Option (List ℕ) → Command
-loading none = unknown
-loading (some text) = load text
+-- "TEXT goes to the line's end". `say` is which load.
+abbrev pub loading : (List ℕ → Command) → Option (List ℕ) → Command
+loading say none = unknown
+loading say (some text) = say text
 
-abbrev pub loadOr : Got (Unit {0}) → Command → Command
-loadOr (got u text) other = loading (unescaped text)
-loadOr nothing other = other
+abbrev pub loadOr : (List ℕ → Command) → Got (Unit {0}) → Command → Command
+loadOr say (got u text) other = loading say (unescaped text)
+loadOr say nothing other = other
 
 -- What follows placerun is a request, or the line is unknown.
 abbrev pub placing : List (List ℕ) → Command
@@ -97,7 +106,8 @@ placeOr nothing other = other
 
 unfoldable pub commandOf : List ℕ → Command
 commandOf l =
-    let other = saidBy (calls ++ planPokes ++ drawingPokes) l in
+    let other = saidBy (calls ++ planPokes ++ loadingPokes ++ drawingPokes) l in
     let run = placeOr (word (bytes "placerun ") l) other in
-    let said = loadOr (word (bytes "load 1 strict ") l) run in
+    let tangled = loadOr loadTangled (word (bytes "load 1 tangled ") l) run in
+    let said = loadOr load (word (bytes "load 1 strict ") l) tangled in
     cond (isSkipped l) skip said

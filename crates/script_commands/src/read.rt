@@ -15,7 +15,8 @@ ghost use Prim.Native.Nat.{ℕ};
 ghost use Rattle.script_words.specs.Parts.{words};
 ghost use Rattle.script_texts.specs.Texts.{unescaped};
 ghost use Rattle.script_runs.specs.inner.Filled.{Buffers, buffers};
-ghost use Rattle.script_commands.specs.Table.{calls, planPokes, drawingPokes, saidBy, isSkipped, loading, placing, commandOf};
+ghost use Rattle.script_commands.specs.Commands.{load as strictLoad, loadTangled};
+ghost use Rattle.script_commands.specs.Table.{calls, planPokes, loadingPokes, drawingPokes, saidBy, isSkipped, loading, placing, commandOf};
 ghost use Rattle.script_commands.specs.inner.Held.{lent, Commands, Bare};
 
 // No line has more bytes.
@@ -52,9 +53,22 @@ fn said_by_drawing_pokes(line: &[u8]) -> Command
     }
 }
 
+// what is remembered of the loading,
+fn said_by_loading_pokes(line: &[u8]) -> Command
+    ensures { λ r. ⌜ Bare (saidBy (loadingPokes ++ drawingPokes) (now (line .entry))) r ⌝ }
+{
+    let forms = b"poke 1 mem N N\npoke 1 tangled 0\npoke 1 tangled 1";
+    match first_form(forms, line) {
+        0 => Command::Poke(Poke::Remembered(whole_at(line, 3), whole_at(line, 4))),
+        1 => Command::Poke(Poke::Tangled(false)),
+        2 => Command::Poke(Poke::Tangled(true)),
+        _ => said_by_drawing_pokes(line),
+    }
+}
+
 // the stage and the plan.
 fn said_by_pokes(line: &[u8]) -> Command
-    ensures { λ r. ⌜ Bare (saidBy (planPokes ++ drawingPokes) (now (line .entry))) r ⌝ }
+    ensures { λ r. ⌜ Bare (saidBy (planPokes ++ loadingPokes ++ drawingPokes) (now (line .entry))) r ⌝ }
 {
     let forms =
         b"poke 1 stage empty\npoke 1 stage loaded N N\npoke 1 stage drawn N N N\npoke 1 k N\npoke 1 g N\npoke 1 s N\npoke 1 size N N\npoke 1 vertex N box N\npoke 1 vertex N via N\npoke 1 seg N N N";
@@ -69,13 +83,13 @@ fn said_by_pokes(line: &[u8]) -> Command
         7 => Command::Poke(Poke::Vertex(whole_at(line, 3), false, whole_at(line, 5))),
         8 => Command::Poke(Poke::Vertex(whole_at(line, 3), true, whole_at(line, 5))),
         9 => Command::Poke(Poke::Segment(whole_at(line, 3), whole_at(line, 4), whole_at(line, 5))),
-        _ => said_by_drawing_pokes(line),
+        _ => said_by_loading_pokes(line),
     }
 }
 
 // A call of the sheet, or a poke.
 fn said(line: &[u8]) -> Command
-    ensures { λ r. ⌜ Bare (saidBy (calls ++ planPokes ++ drawingPokes) (now (line .entry))) r ⌝ }
+    ensures { λ r. ⌜ Bare (saidBy (calls ++ planPokes ++ loadingPokes ++ drawingPokes) (now (line .entry))) r ⌝ }
 {
     let forms = b"draw 1\nclear 1\nstage 1\nline 1 N\nline 1 N N\nlines 1\nmark 1 N\nmarks 1";
     match first_form(forms, line) {
@@ -91,13 +105,25 @@ fn said(line: &[u8]) -> Command
     }
 }
 
-// "TEXT goes to the line's end".
+// "TEXT goes to the line's end": a strict load,
 fn load(escaped: &[u8], text: &mut [u8]) -> Command
-    ensures { λ r. ⌜ ((b : Buffers) → Commands (loading (unescaped (now (escaped .entry)))) (lent (now (text .entry)) b) r (lent (now (text .exit)) b)) ⌝ }
+    ensures { λ r. ⌜ ((b : Buffers) → Commands (loading strictLoad (unescaped (now (escaped .entry)))) (lent (now (text .entry)) b) r (lent (now (text .exit)) b)) ⌝ }
 {
     let r = unescape(escaped, text);
     match r {
         Text::Bytes(n) => Command::Load(n),
+        Text::Bad => Command::Unknown,
+    }
+}
+
+// a tangled one.
+fn load_tangled(escaped: &[u8], text: &mut [u8]) -> Command
+    ensures { λ r. ⌜ ((b : Buffers) → Commands (loading loadTangled (unescaped (now (escaped .entry)))) (lent (now (text .entry)) b) r
+        (lent (now (text .exit)) b)) ⌝ }
+{
+    let r = unescape(escaped, text);
+    match r {
+        Text::Bytes(n) => Command::LoadTangled(n),
         Text::Bad => Command::Unknown,
     }
 }
@@ -138,6 +164,9 @@ pub fn command(
     }
     if word_at(line, 0, b"load 1 strict ") {
         return load(&line[14..], text);
+    }
+    if word_at(line, 0, b"load 1 tangled ") {
+        return load_tangled(&line[15..], text);
     }
     if word_at(line, 0, b"placerun ") {
         return place_run(&line[9..], old, distances, counts, neighbours);

@@ -2,8 +2,9 @@
 use script_runs::types::RunRequest;
 
 // What a poke alters, with the numbers of its line: the stage; K, G, S; the size of a level; kind and half-width of a vertex; the
-// ends of a segment; preliminary and final position of a vertex; pass and level of a placing; and of a placing's box its vertex
-// and position. Levels, vertices, segments, placings and boxes are counted from 0.
+// ends of a segment; the number that a vertex is remembered by; whether the plan was loaded as tangled; preliminary and final
+// position of a vertex; pass and level of a placing; and of a placing's box its vertex and position. Levels, vertices, segments,
+// placings and boxes are counted from 0.
 pub enum Poke {
     Empty,
     Loaded(usize, usize),
@@ -14,6 +15,8 @@ pub enum Poke {
     Size(usize, usize),
     Vertex(usize, bool, usize),
     Segment(usize, usize, usize),
+    Remembered(usize, usize),
+    Tangled(bool),
     Preliminary(usize, i64),
     Final(usize, i64),
     Pass(usize, usize),
@@ -21,11 +24,13 @@ pub enum Poke {
     Listed(usize, usize, usize, i64),
 }
 
-// A command. The text of Load lies in a lent buffer, and the number is how many bytes it has; the lists of PlaceRun lie in others.
+// A command. The text of Load and of LoadTangled lies in a lent buffer, and the number is how many bytes it has; the lists of
+// PlaceRun lie in others.
 pub enum Command {
     Skip,
     Unknown,
     Load(usize),
+    LoadTangled(usize),
     Draw,
     Clear,
     Stage,

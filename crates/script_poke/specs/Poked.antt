@@ -16,7 +16,8 @@ use Rattle.sheet.specs.declared.types.Sheet.{Sheet}
 use Rattle.sheet.specs.declared.types.Stage.{Stage}
 use Rattle.sheet.specs.declared.types.Stage.the-variants.{Empty as NoPlan, Loaded as HasPlan, Drawn as HasDrawing}
 use Rattle.script_commands.specs.declared.types.Poke.{Poke}
-use Rattle.script_commands.specs.declared.types.Poke.the-variants.{Empty, Loaded, Drawn, Levels, Gap, Spacing, Size, Vertex, Segment, Preliminary, Final, Pass, Level, Listed}
+use Rattle.script_commands.specs.declared.types.Poke.the-variants.{Empty, Loaded, Drawn, Levels, Gap, Spacing, Size, Vertex, Segment}
+use Rattle.script_commands.specs.declared.types.Poke.the-variants.{Remembered, Tangled, Preliminary, Final, Pass, Level, Listed}
 use Rattle.script_poke.specs.declared.types.Poked.{Poked}
 
 -- Altered, or not: the record has no such entry.
@@ -36,15 +37,23 @@ in16 n = min n 65535
 abbrev pub in32 : ℕ → ℕ
 in32 n = min n 4294967295
 
--- A sheet with another stage, plan or drawing.
+-- A sheet with another stage, way of loading, plan or drawing, or with other remembered numbers.
 abbrev pub withStage : Sheet → Stage → Sheet
-withStage s t = record { header = record { stage = t }; plan = s .plan; drawing = s .drawing }
+withStage s t =
+    record { header = record { stage = t; tangled = s .header .tangled }; plan = s .plan; drawing = s .drawing; remembered = s .remembered }
+
+abbrev pub withTangled : Sheet → Bool → Sheet
+withTangled s t =
+    record { header = record { stage = s .header .stage; tangled = t }; plan = s .plan; drawing = s .drawing; remembered = s .remembered }
 
 abbrev pub withPlan : Sheet → Plan → Sheet
-withPlan s p = record { header = s .header; plan = p; drawing = s .drawing }
+withPlan s p = record { header = s .header; plan = p; drawing = s .drawing; remembered = s .remembered }
 
 abbrev pub withDrawing : Sheet → Drawing → Sheet
-withDrawing s d = record { header = s .header; plan = s .plan; drawing = d }
+withDrawing s d = record { header = s .header; plan = s .plan; drawing = d; remembered = s .remembered }
+
+abbrev pub withRemembered : Sheet → List ℕ → Sheet
+withRemembered s m = record { header = s .header; plan = s .plan; drawing = s .drawing; remembered = m }
 
 abbrev pub withLimits : Plan → ℕ → ℕ → ℕ → Plan
 withLimits p k g s = storedPlan k g s (p .sizes) (p .vias) (p .halves) (p .uppers) (p .lowers)
@@ -90,6 +99,8 @@ poke (Spacing n) s = altered (withPlan s (withLimits (s .plan) (s .plan .levels)
 poke (Size i n) s = alteredIf (ltb i maxLevels) (withPlan s (withSize (s .plan) i (in16 n))) s
 poke (Vertex i via half) s = alteredIf (ltb i maxVertices) (withPlan s (withVertex (s .plan) i via (in16 half))) s
 poke (Segment i a b) s = alteredIf (ltb i maxSegments) (withPlan s (withSegment (s .plan) i (in32 a) (in32 b))) s
+poke (Remembered i n) s = alteredIf (ltb i maxVertices) (withRemembered s (set (s .remembered) i (in16 n))) s
+poke (Tangled t) s = altered (withTangled s t)
 poke (Preliminary i x) s = alteredIf (ltb i maxVertices) (withDrawing s (withPositions (s .drawing) (set (s .drawing .preliminary) i x) (s .drawing .finals))) s
 poke (Final i x) s = alteredIf (ltb i maxVertices) (withDrawing s (withPositions (s .drawing) (s .drawing .preliminary) (set (s .drawing .finals) i x))) s
 poke (Pass i n) s = alteredIf (ltb i maxListed) (withDrawing s (withPlacings (s .drawing) (set (s .drawing .passes) i (in16 n)) (s .drawing .levels))) s

@@ -6,18 +6,20 @@ use crate::put::put_level;
 use crate::put::put_listed;
 use crate::put::put_pass;
 use crate::put::put_preliminary;
+use crate::put::put_remembered;
 use crate::put::put_segment;
 use crate::put::put_size;
 use crate::put::put_vertex;
 use crate::put::with_plan;
 use crate::put::with_stage;
+use crate::put::with_tangled;
 use crate::types::Poked;
 use script_commands::types::Poke;
 use sheet::types::Sheet;
 use sheet::types::Stage;
 ghost use mathlib.Core.Path.{_≡_};
 ghost use Rattle.script_poke.specs.Poked as spec;
-ghost use Rattle.script_poke.specs.Poked.{altered, in32, withStage, withPlan, withLimits};
+ghost use Rattle.script_poke.specs.Poked.{altered, in32, withStage, withTangled, withPlan, withLimits};
 
 fn put_stage(sheet: Sheet, stage: Stage) -> Poked
     ensures { λ r. ⌜ r ≡ altered (withStage sheet stage) ⌝ }
@@ -25,6 +27,15 @@ fn put_stage(sheet: Sheet, stage: Stage) -> Poked
     Poked {
         known: true,
         sheet: with_stage(sheet, stage),
+    }
+}
+
+fn put_tangled(sheet: Sheet, tangled: bool) -> Poked
+    ensures { λ r. ⌜ r ≡ altered (withTangled sheet tangled) ⌝ }
+{
+    Poked {
+        known: true,
+        sheet: with_tangled(sheet, tangled),
     }
 }
 
@@ -75,6 +86,8 @@ pub fn poke(sheet: Sheet, poke: Poke) -> Poked
         Poke::Size(i, n) => put_size(sheet, i, in_16(n)),
         Poke::Vertex(i, via, half) => put_vertex(sheet, i, via, in_16(half)),
         Poke::Segment(i, a, b) => put_segment(sheet, i, in_32(a), in_32(b)),
+        Poke::Remembered(i, n) => put_remembered(sheet, i, in_16(n)),
+        Poke::Tangled(tangled) => put_tangled(sheet, tangled),
         Poke::Preliminary(i, x) => put_preliminary(sheet, i, x),
         Poke::Final(i, x) => put_final(sheet, i, x),
         Poke::Pass(i, n) => put_pass(sheet, i, in_16(n)),

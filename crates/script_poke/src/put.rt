@@ -13,7 +13,8 @@ ghost use lib.Dec.{ltb};
 ghost use lib.ListN.{set};
 ghost use Rattle.plan.specs.Limits.{maxLevels, maxVertices, maxSegments};
 ghost use Rattle.passes.specs.Words.{maxListed};
-ghost use Rattle.script_poke.specs.Poked.{alteredIf, in16, in32, withStage, withPlan, withDrawing, withSize, withVertex, withSegment, withPositions, withPlacings, withListed, placeOf, hasBox};
+ghost use Rattle.script_poke.specs.Poked.{alteredIf, in16, in32, withStage, withTangled, withPlan, withDrawing, withRemembered, placeOf, hasBox};
+ghost use Rattle.script_poke.specs.Poked.{withSize, withVertex, withSegment, withPositions, withPlacings, withListed};
 
 // A number as a field holds it.
 pub fn in_16(n: usize) -> u16
@@ -37,12 +38,34 @@ pub fn in_32(n: usize) -> u32
 pub fn with_stage(sheet: Sheet, stage: Stage) -> Sheet
     ensures { λ r. ⌜ r ≡ withStage sheet stage ⌝ }
 {
+    let header = sheet.header;
     let plan = sheet.plan;
     let drawing = sheet.drawing;
+    let remembered = sheet.remembered;
     Sheet {
-        header: Header { stage },
+        header: Header {
+            stage,
+            tangled: header.tangled,
+        },
         plan,
         drawing,
+        remembered,
+    }
+}
+
+pub fn with_tangled(sheet: Sheet, tangled: bool) -> Sheet
+    ensures { λ r. ⌜ r ≡ withTangled sheet tangled ⌝ }
+{
+    let header = sheet.header;
+    let stage = header.stage;
+    let plan = sheet.plan;
+    let drawing = sheet.drawing;
+    let remembered = sheet.remembered;
+    Sheet {
+        header: Header { stage, tangled },
+        plan,
+        drawing,
+        remembered,
     }
 }
 
@@ -51,10 +74,12 @@ pub fn with_plan(sheet: Sheet, plan: Plan) -> Sheet
 {
     let header = sheet.header;
     let drawing = sheet.drawing;
+    let remembered = sheet.remembered;
     Sheet {
         header,
         plan,
         drawing,
+        remembered,
     }
 }
 
@@ -63,10 +88,26 @@ pub fn with_drawing(sheet: Sheet, drawing: Drawing) -> Sheet
 {
     let header = sheet.header;
     let plan = sheet.plan;
+    let remembered = sheet.remembered;
     Sheet {
         header,
         plan,
         drawing,
+        remembered,
+    }
+}
+
+pub fn with_remembered(sheet: Sheet, remembered: [u16; Plan::MAX_VERTICES]) -> Sheet
+    ensures { λ r. ⌜ r ≡ withRemembered sheet remembered ⌝ }
+{
+    let header = sheet.header;
+    let plan = sheet.plan;
+    let drawing = sheet.drawing;
+    Sheet {
+        header,
+        plan,
+        drawing,
+        remembered,
     }
 }
 
@@ -120,6 +161,23 @@ pub fn put_segment(sheet: Sheet, i: usize, a: u32, b: u32) -> Poked
     Poked {
         known: true,
         sheet: with_plan(sheet, plan),
+    }
+}
+
+pub fn put_remembered(sheet: Sheet, i: usize, n: u16) -> Poked
+    ensures { λ r. ⌜ r ≡ alteredIf (ltb i maxVertices) (withRemembered sheet (set (sheet .remembered) i n)) sheet ⌝ }
+{
+    if Plan::MAX_VERTICES <= i {
+        return Poked {
+            known: false,
+            sheet,
+        };
+    }
+    let mut remembered = sheet.remembered;
+    remembered[i] = n;
+    Poked {
+        known: true,
+        sheet: with_remembered(sheet, remembered),
     }
 }
 

@@ -14,10 +14,10 @@ use Rattle.calls.specs.Step.{step}
 use Rattle.script_runs.specs.inner.Filled.{buffers, shortened}
 use Rattle.script_runs.proofs.Short.{Roomy, call-short}
 use Rattle.script_commands.specs.declared.types.Command.{Command as Found}
-use Rattle.script_commands.specs.declared.types.Command.the-variants.{Skip, Unknown, Load, Draw, Clear, Stage, Line, Lines, Mark, Marks, PlaceRun, Poke}
-use Rattle.script_commands.specs.Commands.{Command, load, placeRun}
+use Rattle.script_commands.specs.declared.types.Command.the-variants.{Skip, Unknown, Load, LoadTangled, Draw, Clear, Stage, Line, Lines, Mark, Marks, PlaceRun, Poke}
+use Rattle.script_commands.specs.Commands.{Command, load, loadTangled, placeRun}
 use Rattle.script_commands.specs.inner.Held.{Lent, lent, commandIn, Inside, Commands}
-use Rattle.script_commands.proofs.Whole.{reading-cut, same-answer}
+use Rattle.script_commands.proofs.Whole.{reading-cut, tangled-cut, same-answer}
 use Rattle.script_answers.specs.inner.Lengths.{maxAnswer}
 use Rattle.script_calls.specs.Said.{callSaid, runSaid}
 use Rattle.script_turn.specs.Turns.{saying, turnOf}
@@ -28,12 +28,16 @@ module _ (b : Lent) (long : maxBytes < length (b .text)) (roomy : Roomy (b .run)
   unfolding turnOf callSaid step sheet.load
   text t = rw (reading-cut (length (b .text)) t long)
 
+  tangled : (t : List ℕ) → turnOf (loadTangled (take (length (b .text)) t)) s ≡ turnOf (loadTangled t) s
+  unfolding turnOf callSaid step sheet.loadTangled
+  tangled t = rw (tangled-cut (length (b .text)) t long)
+
   run : (q : Request) (room : ℕ) → turnOf (placeRun (shortened (b .run) q) room) s ≡ turnOf (placeRun q room) s
   unfolding turnOf
   run q room = ap (λ (o : Out). saying (runSaid o) s) (call-short (b .run) roomy q (replicate room (pos 0)))
 
   pub same-turn : (c : Command) (r : Found) (after : Lent) → Commands c b r after → turnOf (commandIn r after) s ≡ turnOf c s
-  same-turn c r after h = same-answer (λ (d : Command). turnOf d s) b text run c r after h
+  same-turn c r after h = same-answer (λ (d : Command). turnOf d s) b text tangled run c r after h
 
 -- ---- what lies in the buffers lies in them when they are given back
 pub record SameLong (b d : Lent) : Type 0 where
@@ -47,6 +51,7 @@ pub inside-after : (b d : Lent) (c : Found) → SameLong b d → Inside b c → 
 inside-after b d Skip l i = tt
 inside-after b d Unknown l i = tt
 inside-after b d (Load n) l i = omega (arith, l .text)
+inside-after b d (LoadTangled n) l i = omega (arith, l .text)
 inside-after b d Draw l i = tt
 inside-after b d Clear l i = tt
 inside-after b d Stage l i = tt

@@ -16,14 +16,14 @@ use Rattle.sheet_data.specs.inner.Parts.{Holds}
 use Rattle.sheet_data.proofs.Rooms.{few}
 use Rattle.sheet.specs.declared.types.Sheet.{Sheet}
 use Rattle.sheet.specs.Sheet.{isDrawn}
-use Rattle.sheet.specs.Tests.{holdsPlan, holdsDrawing, linesIn, test7Line, marksIn, test7Mark, test14, lineOf}
+use Rattle.sheet.specs.Tests.{holdsPlan, holdsNumbers, holdsDrawing, linesIn, test7Line, marksIn, test7Mark, test14, lineOf}
 use Rattle.sheet.specs.Calls as sheet
 use Rattle.sheet.specs.Calls.{lineTests, markTests}
 use Rattle.sheet.specs.inner.Refusals.{countsIn}
 use Rattle.sheet.proofs.WhenRefused.{canShow, shows-given}
 use Rattle.calls.specs.declared.types.Call.the-variants.{Line, Mark}
 use Rattle.calls.specs.Step.{step}
-use Rattle.script_commands.specs.Commands.{Command, skip, unknown, load, draw, clear, stage, line, lines, mark, marks, placeRun, poke}
+use Rattle.script_commands.specs.Commands.{Command, skip, unknown, load, loadTangled, draw, clear, stage, line, lines, mark, marks, placeRun, poke}
 use Rattle.script_commands.specs.Table.{longEnough}
 use Rattle.script_answers.specs.Answers.{Said}
 use Rattle.script_turn.specs.Turns.{lending, isRefused, upToRefusal, mostAnswers, lineSaid, markSaid, turnOf}
@@ -54,7 +54,8 @@ module _ (f : ℕ → Said) where
 
 module _ (s : Sheet) where
   holds : canShow s ≡ true → Holds (s .plan) (s .drawing) (countsIn (s .header .stage))
-  holds h = let at = conj-at (isDrawn (s .header .stage)) (holdsPlan s ∷ holdsDrawing s ∷ []) h in record { plan = at 1; drawing = at 2 }
+  holds h = let at = conj-at (isDrawn (s .header .stage)) (holdsPlan s ∷ holdsNumbers s ∷ holdsDrawing s ∷ []) h in
+      record { plan = at 1; drawing = at 3 }
 
   -- ---- lines
   abbrev lineMore : ℕ → List Test
@@ -108,6 +109,7 @@ unfolding turnOf
 few-answers skip s = omega arith
 few-answers unknown s = omega arith
 few-answers (load t) s = omega arith
+few-answers (loadTangled t) s = omega arith
 few-answers draw s = omega arith
 few-answers clear s = omega arith
 few-answers stage s = omega arith

@@ -12,17 +12,19 @@ use Rattle.ints.specs.Lists.{sum, over}
 use Rattle.ints.specs.Refusals.{firstRefusal}
 use Rattle.ints.proofs.Laws.{cases}
 use Rattle.ints.proofs.Tests.{test, conj-at}
+use Rattle.plan_renumber.proofs.Own.{own}
 use Rattle.passes.specs.Words.{maxListed}
+use Rattle.passes.proofs.Sound.{sound}
 use Rattle.report.specs.Refusal13.{isDrawing, isDrawingIn}
 use Rattle.report_validity.proofs.Stored.{stored-of}
 use Rattle.report_lines.specs.inner.Stored.{maxLine}
 use Rattle.report_lines.proofs.Lengths.{line-short}
-use Rattle.report_lines.proofs.Printable.{printable}
+use Rattle.report_lines.proofs.Printable.{printable, printable-by}
 use Rattle.marks.specs.Marks.{WholeMark, wholeMarkOf}
 use Rattle.sheet.specs.declared.types.Sheet.{Sheet}
-use Rattle.sheet.specs.Sheet.{verticesIn, segmentsIn, placingsIn, planIn, drawingIn}
+use Rattle.sheet.specs.Sheet.{verticesIn, segmentsIn, placingsIn, planIn, drawingIn, rememberedIn}
 use Rattle.sheet.specs.Results.{gives, refuses}
-use Rattle.sheet.specs.Tests.{holdsPlan, holdsDrawing, lineOf as lineIn}
+use Rattle.sheet.specs.Tests.{holdsPlan, holdsNumbers, holdsDrawing, lineOf as lineIn}
 use Rattle.sheet.specs.Calls as sheet
 use Rattle.sheet.specs.Calls.{lineTests}
 use Rattle.calls.specs.declared.types.Call.the-variants.{Line}
@@ -55,12 +57,13 @@ module _ (s : Sheet) (n : ℕ) where
         said-by (wholeMarkOf (planIn s) (drawingIn s .final) 0) (eqb (firstRefusal (lineTests s n (l .buffer))) 0) (firstRefusal (lineTests s n (l .buffer))) (lineIn s n)
 
   -- ---- long enough
-  short : holdsPlan s ≡ true → holdsDrawing s ≡ true → length (lineIn s n) ≤ maxLine
+  short : holdsPlan s ≡ true → holdsNumbers s ≡ true → holdsDrawing s ≡ true → length (lineIn s n) ≤ maxLine
   unfolding lineIn isDrawingIn
-  short h k =
+  short h o k =
       let v = verticesIn (s .header .stage) in let e = segmentsIn (s .header .stage) in let q = placingsIn (s .header .stage) in
       let t = conj-at (leb q maxListed) (leb (sum (take q (s .drawing .counts))) maxListed ∷ isDrawing (planIn s) (drawingIn s) ∷ []) k in
-      line-short (printable (planIn s) (drawingIn s) (stored-of (s .plan) v e h .plan) (t 2)) n
+      let p = stored-of (s .plan) v e h .plan in
+      line-short (printable-by (own (planIn s) (rememberedIn s) (sound (planIn s) p .total) o .once) (printable (planIn s) (drawingIn s) p (t 2))) n
 
   module _ (b c : List ℕ) (l : maxLine ≤ length b) (m : maxLine ≤ length c) where
     same-refusal : firstRefusal (lineTests s n b) ≡ firstRefusal (lineTests s n c)
@@ -68,11 +71,14 @@ module _ (s : Sheet) (n : ℕ) where
     same-refusal =
         test (holdsPlan s)
         (λ h.
+        test (holdsNumbers s)
+        (λ o.
         test (holdsDrawing s)
         (λ k.
-        let z = short h k in
+        let z = short h o k in
         rw (le-ltb (length b) (length (lineIn s n)) (omega arith), le-ltb (length c) (length (lineIn s n)) (omega arith)))
         (λ k. rw k))
+        (λ o. rw o))
         (λ h. rw h)
 
   pub long-enough : (room : ℕ) → callSaid (Line n) (lending [] room) s ≡ callSaid (Line n) (lending [] (min room longEnough)) s

@@ -16,7 +16,7 @@ use Rattle.calls.specs.Step.{step}
 use Rattle.script_runs.specs.declared.types.RunRequest.{RunRequest}
 use Rattle.script_runs.specs.inner.Filled.{requestWith}
 use Rattle.script_commands.specs.declared.types.Command.{Command as Found}
-use Rattle.script_commands.specs.declared.types.Command.the-variants.{Skip, Unknown, Load, Draw, Clear, Stage, Line, Lines, Mark, Marks, PlaceRun, Poke}
+use Rattle.script_commands.specs.declared.types.Command.the-variants.{Skip, Unknown, Load, LoadTangled, Draw, Clear, Stage, Line, Lines, Mark, Marks, PlaceRun, Poke}
 use Rattle.script_commands.specs.declared.types.Poke.{Poke as Altering}
 use Rattle.script_commands.specs.inner.Held.{Lent, commandIn}
 use Rattle.script_commands.specs.Table.{longEnough}
@@ -85,6 +85,10 @@ module _ {c : Found} (b : Lent) (s : Sheet) where
   pub is-load : {k : ℕ} → c ≡ Load k → turnOf (commandIn c b) s ≡ calling call.Load (lending (take k (b .text)) 0) s
   unfolding turnOf
   is-load e = rw e
+
+  pub is-tangled : {k : ℕ} → c ≡ LoadTangled k → turnOf (commandIn c b) s ≡ calling call.LoadTangled (lending (take k (b .text)) 0) s
+  unfolding turnOf
+  is-tangled e = rw e
 
   pub is-draw : c ≡ Draw → turnOf (commandIn c b) s ≡ calling call.Draw (lending [] 0) s
   unfolding turnOf

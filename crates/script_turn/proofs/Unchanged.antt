@@ -13,14 +13,14 @@ use Rattle.marks.specs.Marks.{WholeMark}
 use Rattle.sheet.specs.declared.types.Sheet.{Sheet}
 use Rattle.sheet.specs.Results.{Result, gives, refuses}
 use Rattle.calls.specs.declared.types.Call.{Call}
-use Rattle.calls.specs.declared.types.Call.the-variants.{Load, Draw, Line, Mark, Clear}
+use Rattle.calls.specs.declared.types.Call.the-variants.{Load, LoadTangled, Draw, Line, Mark, Clear}
 use Rattle.calls.specs.Replies as value
 use Rattle.calls.specs.Replies.{Value, written, marked}
 use Rattle.calls.specs.Step.{Lent, step}
 use Rattle.calls.proofs.Unchanged as call
-use Rattle.script_commands.specs.Commands.{Command, skip, unknown, load, draw, clear, stage, line, lines, mark, marks, placeRun, poke}
+use Rattle.script_commands.specs.Commands.{Command, skip, unknown, load, loadTangled, draw, clear, stage, line, lines, mark, marks, placeRun, poke}
 use Rattle.script_commands.specs.declared.types.Poke.{Poke}
-use Rattle.script_commands.specs.declared.types.Poke.the-variants.{Empty, Loaded, Drawn, Levels, Gap, Spacing, Size, Vertex, Segment, Preliminary, Final, Pass, Level, Listed}
+use Rattle.script_commands.specs.declared.types.Poke.the-variants.{Empty, Loaded, Drawn, Levels, Gap, Spacing, Size, Vertex, Segment, Remembered, Tangled, Preliminary, Final, Pass, Level, Listed}
 use Rattle.script_poke.specs.Poked as pokes
 use Rattle.script_answers.specs.Answers.{unknown as notKnown, refused, done}
 use Rattle.script_calls.specs.Said.{resultSaid, callSaid}
@@ -46,6 +46,7 @@ unfolding turnOf
 refused-changes-nothing skip s n e = refl
 refused-changes-nothing unknown s n e = refl
 refused-changes-nothing (load t) s n e = refused-call Load (lending t 0) s n (cc)
+refused-changes-nothing (loadTangled t) s n e = refused-call LoadTangled (lending t 0) s n (cc)
 refused-changes-nothing draw s n e = refused-call Draw (lending [] 0) s n (cc)
 refused-changes-nothing clear s n e = refused-call Clear (lending [] 0) s n (cc)
 refused-changes-nothing stage s n e = refl
@@ -82,6 +83,8 @@ poke-missed (Spacing k) s e = never (cc)
 poke-missed (Size i n) s e = missed (ltb i maxLevels) _ s e
 poke-missed (Vertex i v h) s e = missed (ltb i maxVertices) _ s e
 poke-missed (Segment i a b) s e = missed (ltb i maxSegments) _ s e
+poke-missed (Remembered i n) s e = missed (ltb i maxVertices) _ s e
+poke-missed (Tangled t) s e = never (cc)
 poke-missed (Preliminary i x) s e = missed (ltb i maxVertices) _ s e
 poke-missed (Final i x) s e = missed (ltb i maxVertices) _ s e
 poke-missed (Pass i n) s e = missed (ltb i maxListed) _ s e
@@ -93,6 +96,7 @@ unfolding turnOf
 unknown-changes-nothing skip s e = refl
 unknown-changes-nothing unknown s e = refl
 unknown-changes-nothing (load t) s e = absurd (known-call Load (lending t 0) s (cc))
+unknown-changes-nothing (loadTangled t) s e = absurd (known-call LoadTangled (lending t 0) s (cc))
 unknown-changes-nothing draw s e = absurd (known-call Draw (lending [] 0) s (cc))
 unknown-changes-nothing clear s e = absurd (known-call Clear (lending [] 0) s (cc))
 unknown-changes-nothing stage s e = refl
@@ -108,6 +112,7 @@ abbrev pub shows : Command → Bool
 shows skip = true
 shows unknown = true
 shows (load t) = false
+shows (loadTangled t) = false
 shows draw = false
 shows clear = false
 shows stage = true
@@ -123,6 +128,7 @@ unfolding turnOf step
 show-leaves skip s e = refl
 show-leaves unknown s e = refl
 show-leaves (load t) s e = never (cc)
+show-leaves (loadTangled t) s e = never (cc)
 show-leaves draw s e = never (cc)
 show-leaves clear s e = never (cc)
 show-leaves stage s e = refl
@@ -139,6 +145,7 @@ unfolding turnOf
 several-leave skip s l = refl
 several-leave unknown s l = refl
 several-leave (load t) s l = absurd (omega arith)
+several-leave (loadTangled t) s l = absurd (omega arith)
 several-leave draw s l = absurd (omega arith)
 several-leave clear s l = absurd (omega arith)
 several-leave stage s l = refl

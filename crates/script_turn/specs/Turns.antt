@@ -10,9 +10,9 @@ use Rattle.passes.specs.Words.{maxListed}
 use Rattle.run.specs.Call.{callOf}
 use Rattle.sheet.specs.declared.types.Sheet.{Sheet}
 use Rattle.calls.specs.declared.types.Call.{Call}
-use Rattle.calls.specs.declared.types.Call.the-variants.{Load, Draw, Line, Mark, Clear}
+use Rattle.calls.specs.declared.types.Call.the-variants.{Load, LoadTangled, Draw, Line, Mark, Clear}
 use Rattle.calls.specs.Step.{Lent, lent, step}
-use Rattle.script_commands.specs.Commands.{Command, skip, unknown, load, draw, clear, stage, line, lines, mark, marks, placeRun, poke}
+use Rattle.script_commands.specs.Commands.{Command, skip, unknown, load, loadTangled, draw, clear, stage, line, lines, mark, marks, placeRun, poke}
 use Rattle.script_commands.specs.Table.{longEnough}
 use Rattle.script_poke.specs.declared.types.Poked.{Poked}
 use Rattle.script_poke.specs.Poked as pokes
@@ -73,6 +73,7 @@ unfoldable pub turnOf : Command → Sheet → Turn
 turnOf skip s = turn [] s
 turnOf unknown s = saying notKnown s
 turnOf (load t) s = calling Load (lending t 0) s
+turnOf (loadTangled t) s = calling LoadTangled (lending t 0) s
 turnOf draw s = calling Draw (lending [] 0) s
 turnOf clear s = calling Clear (lending [] 0) s
 turnOf stage s = saying (standing (s .header .stage)) s

@@ -40,6 +40,7 @@ pub fn turn(
         },
         Command::Unknown => unknown(sheet, out),
         Command::Load(size) => one_call(sheet, Call::Load, &text[..size], 0, out),
+        Command::LoadTangled(size) => one_call(sheet, Call::LoadTangled, &text[..size], 0, out),
         Command::Draw => one_call(sheet, Call::Draw, b"", 0, out),
         Command::Clear => one_call(sheet, Call::Clear, b"", 0, out),
         Command::Stage => show_stage(sheet, out),

@@ -21,9 +21,9 @@ use Rattle.sheet_data.proofs.Cuts.{PlanArrays}
 use Rattle.sheet_data.proofs.Rooms.{numbers-long}
 use Rattle.sheet_data.proofs.ReadBack.{read-back, demand3-of, drawing-holds}
 use Rattle.sheet.specs.declared.types.Sheet.{Sheet}
-use Rattle.sheet.specs.Sheet.{isEmpty, verticesIn, segmentsIn, planIn, drawingIn, drawnSheet}
+use Rattle.sheet.specs.Sheet.{isEmpty, verticesIn, segmentsIn, planIn, drawingIn, rememberedIn, drawnSheet}
 use Rattle.sheet.specs.Results.{Result, gives, refuses}
-use Rattle.sheet.specs.Tests.{holdsPlan, linesIn, test7Line, marksIn, test7Mark, test14, lineOf, reportOf, numbersOf}
+use Rattle.sheet.specs.Tests.{holdsPlan, holdsNumbers, linesIn, test7Line, marksIn, test7Mark, test14, lineOf, reportOf, numbersOf}
 use Rattle.sheet.specs.Calls.{drawTests, draw, line, report, mark, marks}
 use Rattle.sheet.specs.inner.Refusals.{countsIn}
 use Rattle.sheet.proofs.WhenRefused.{canShow, showTests, shows-given, draw-given, line-given, report-given, mark-given, marks-given}
@@ -40,9 +40,16 @@ module _ (s : Sheet) (a : PlanArrays (s .plan)) (h : draw s .result ≡ gives tt
   holds : holdsPlan s ≡ true
   holds = not-false (holdsPlan s) (none-at (drawTests s) (draw-given s .0 h) 1)
 
+  own : holdsNumbers s ≡ true
+  own = not-false (holdsNumbers s) (none-at (drawTests s) (draw-given s .0 h) 2)
+
   pub drawn-plan : planIn (draw s .sheet) ≡ planIn s
   unfolding drawnSheet
   drawn-plan = rw (drawn s h)
+
+  pub drawn-remembered : rememberedIn (draw s .sheet) ≡ rememberedIn s
+  unfolding drawnSheet
+  drawn-remembered = rw (drawn s h)
 
   pub drawn-drawing : drawingIn (draw s .sheet) ≡ drawingOf (planIn s)
   unfolding drawnSheet
@@ -54,7 +61,7 @@ module _ (s : Sheet) (a : PlanArrays (s .plan)) (h : draw s .result ≡ gives tt
 
   pub drawn-shows : canShow (draw s .sheet) ≡ true
   unfolding drawnSheet
-  drawn-shows = rw (drawn s h) (holds and drawing-holds (s .plan) a (verticesIn (s .header .stage)) (segmentsIn (s .header .stage)) holds)
+  drawn-shows = rw (drawn s h) (holds and own and drawing-holds (s .plan) a (verticesIn (s .header .stage)) (segmentsIn (s .header .stage)) holds)
 
   drawn-passes : (more : List Test) → noneRefuses more ≡ true → noneRefuses (showTests (draw s .sheet) ++ more) ≡ true
   drawn-passes more h = shows-given (draw s .sheet) more ∙ (drawn-shows and h)
@@ -97,15 +104,16 @@ module _ (s : Sheet) (a : PlanArrays (s .plan)) (h : draw s .result ≡ gives tt
 -- Drawing twice is drawing once.
 pub draw-again : (s : Sheet) → draw (draw s .sheet) ≡ draw s
 unfolding draw firstRefusal drawnSheet
-draw-again s = by (isEmpty (s .header .stage)) (holdsPlan s) refl refl
+draw-again s = by (isEmpty (s .header .stage)) (holdsPlan s) (holdsNumbers s) refl refl refl
   where
-    by : (e p : Bool) → isEmpty (s .header .stage) ≡ e → holdsPlan s ≡ p → draw (draw s .sheet) ≡ draw s
-    by true p h k = rw (h, h)
-    by false true h k = rw (h, k, k)
-    by false false h k = rw (h, k, h, k)
+    by : (e p m : Bool) → isEmpty (s .header .stage) ≡ e → holdsPlan s ≡ p → holdsNumbers s ≡ m → draw (draw s .sheet) ≡ draw s
+    by true p m h k l = rw (h, h)
+    by false true true h k l = rw (h, k, l, k, l)
+    by false true false h k l = rw (h, k, l, h, k, l)
+    by false false m h k l = rw (h, k, h, k)
 
--- What draw leaves depends on the plan and its counts alone, whatever else was handed in.
+-- What draw leaves depends on the plan and its counts, and on what the sheet remembers of its loading, alone, whatever else was handed in.
 pub draw-same : (s t : Sheet) → s .plan ≡ t .plan → verticesIn (s .header .stage) ≡ verticesIn (t .header .stage) → segmentsIn (s .header .stage) ≡ segmentsIn (t .header .stage)
-    → draw s .result ≡ gives tt → draw t .result ≡ gives tt → draw s .sheet ≡ draw t .sheet
+    → s .header .tangled ≡ t .header .tangled → s .remembered ≡ t .remembered → draw s .result ≡ gives tt → draw t .result ≡ gives tt → draw s .sheet ≡ draw t .sheet
 unfolding drawnSheet
-draw-same s t p v e f g = rw (drawn s f, drawn t g, p, v, e)
+draw-same s t p v e w m f g = rw (drawn s f, drawn t g, p, v, e, w, m)

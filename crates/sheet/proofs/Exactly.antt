@@ -24,7 +24,7 @@ use Rattle.sheet.specs.declared.types.LineAnswer.{LineAnswer}
 use Rattle.sheet.specs.declared.types.MarkAnswer.{MarkAnswer}
 use Rattle.sheet.specs.Sheet.{isDrawn, planIn, drawingIn}
 use Rattle.sheet.specs.Results.{gives, refuses, markResultOf, lineResultOf}
-use Rattle.sheet.specs.Tests.{holdsPlan, holdsDrawing, test7Mark, test14, marksIn, numbersOf}
+use Rattle.sheet.specs.Tests.{holdsPlan, holdsNumbers, holdsDrawing, test7Mark, test14, marksIn, numbersOf}
 use Rattle.sheet.specs.Calls.{markTests, mark, marksTests, marks, GivesMark, Writes, WritesMarks}
 use Rattle.sheet.specs.inner.Refusals.{countsIn}
 use Rattle.sheet.proofs.WhenRefused.{showTests, shows-given, mark-given, marks-given}
@@ -38,8 +38,8 @@ module _ (s : Sheet) where
   -- further tests behind those that all of these calls begin with
   shown : (more : List Test) → noneRefuses (showTests s ++ more) ≡ true → Holds (s .plan) (s .drawing) (countsIn (s .header .stage))
   shown more h =
-      let at = conj-at (isDrawn (s .header .stage)) (holdsPlan s ∷ holdsDrawing s ∷ noneRefuses more ∷ []) (sym (shows-given s more) ∙ h) in
-      record { plan = at 1; drawing = at 2 }
+      let at = conj-at (isDrawn (s .header .stage)) (holdsPlan s ∷ holdsNumbers s ∷ holdsDrawing s ∷ noneRefuses more ∷ []) (sym (shows-given s more) ∙ h) in
+      record { plan = at 1; drawing = at 3 }
 
   module _ (n : ℕ) where
     abbrev theMark : Mark

@@ -5,3 +5,4 @@ pub mod Refusal13
 pub mod Loaded
 pub mod Drawn
 pub mod Exactly
+pub mod Ways

@@ -12,18 +12,19 @@ use Rattle.ints.specs.Lists.{over}
 use Rattle.ints.specs.Refusals.{Test, firstRefusal, isFirst, noneRefuses}
 use Rattle.ints.proofs.Refusals.{lacks, numbered, refused-first, given-none, none-append, first-early, first-late}
 use Rattle.plan.specs.Plan.{PlanData}
-use Rattle.text.specs.Reading.{Reading, accepted, refused, textTests, reading}
+use Rattle.text.specs.Reading.{Reading, accepted, refused, textTests, reading, tangledReading}
 use Rattle.text.proofs.Words.{never}
-use Rattle.text.proofs.WhenRefused.{read-refused, read-given}
+use Rattle.text.proofs.WhenRefused as read
+use Rattle.text.proofs.WhenRefused.{read-refused, read-given, tangledTests}
 use Rattle.passes.specs.Drawing.{drawingOf}
 use Rattle.marks.specs.Marks.{markOf}
 use Rattle.sheet.specs.declared.types.Stage.{Stage}
 use Rattle.sheet.specs.declared.types.Stage.the-variants.{Empty, Loaded, Drawn}
 use Rattle.sheet.specs.declared.types.Sheet.{Sheet}
-use Rattle.sheet.specs.Sheet.{isEmpty, isDrawn, planIn, drawingIn, drawnSheet}
+use Rattle.sheet.specs.Sheet.{isEmpty, isDrawn, planIn, drawingIn, loadedAsRead, loadedUntangled, drawnSheet}
 use Rattle.sheet.specs.Results.{Result, gives, refuses, resultAfter}
-use Rattle.sheet.specs.Tests.{test11, test12, holdsPlan, test13Plan, holdsDrawing, test13Drawing, marksIn, lineOf, reportOf, numbersOf}
-use Rattle.sheet.specs.Calls.{loadOf, load, drawTests, draw, bufferAfter, lineTests, line, reportTests, report, markTests, mark, marksTests, marks, clear}
+use Rattle.sheet.specs.Tests.{test11, test12, holdsPlan, test13Plan, holdsNumbers, test13Numbers, holdsDrawing, test13Drawing, marksIn, lineOf, reportOf, numbersOf}
+use Rattle.sheet.specs.Calls.{loadOf, load, loadTangled, drawTests, draw, bufferAfter, lineTests, line, reportTests, report, markTests, mark, marksTests, marks, clear}
 
 -- ---- the one law, of what a call gives
 module _ {A : Type 0} (ts : List Test) (h : numbered ts ≡ true) (a : A) where
@@ -80,24 +81,37 @@ module _ (s : Sheet) where
   clear-given = refl
 
   -- load is refused as its text is read
-  unread : (r : Reading) (m : ℕ) → (loadOf s r .result ≡ refuses m) ↔ (r ≡ refused m)
-  unread (accepted p) m = (λ e. never (cc), λ e. never (cc))
-  unread (refused n) m = (λ e. cc, λ e. cc)
+  unread : (f : PlanData → Sheet) (r : Reading) (m : ℕ) → (loadOf f s r .result ≡ refuses m) ↔ (r ≡ refused m)
+  unread f (accepted p) m = (λ e. never (cc), λ e. never (cc))
+  unread f (refused n) m = (λ e. cc, λ e. cc)
 
   pub load-refused : (text : List ℕ) (m : ℕ) → (load s text .result ≡ refuses m) ↔ (isFirst m (textTests text) ≡ true)
   unfolding load
-  load-refused text m = let u = unread (reading text) m in let r = read-refused text m in (λ e. r .0 (u .0 e), λ e. u .1 (r .1 e))
+  load-refused text m = let u = unread loadedAsRead (reading text) m in let r = read-refused text m in (λ e. r .0 (u .0 e), λ e. u .1 (r .1 e))
 
-  read : (r : Reading) → (loadOf s r .result ≡ gives tt) ↔ ((p : PlanData) × (r ≡ accepted p))
-  read (accepted p) = (λ e. (p, refl), λ e. refl)
-  read (refused n) = (λ e. never (cc), λ e. never (cc (e .1)))
+  -- by the second way with 1 to 5 alone
+  pub tangled-refused : (text : List ℕ) (m : ℕ) → (loadTangled s text .result ≡ refuses m) ↔ (isFirst m (tangledTests text) ≡ true)
+  unfolding loadTangled
+  tangled-refused text m = let u = unread loadedUntangled (tangledReading text) m in let r = read.tangled-refused text m in (λ e. r .0 (u .0 e), λ e. u .1 (r .1 e))
+
+  taken : (f : PlanData → Sheet) (r : Reading) → (loadOf f s r .result ≡ gives tt) ↔ ((p : PlanData) × (r ≡ accepted p))
+  taken f (accepted p) = (λ e. (p, refl), λ e. refl)
+  taken f (refused n) = (λ e. never (cc), λ e. never (cc (e .1)))
 
   pub load-read : (text : List ℕ) → (load s text .result ≡ gives tt) ↔ ((p : PlanData) × (reading text ≡ accepted p))
   unfolding load
-  load-read text = read (reading text)
+  load-read text = taken loadedAsRead (reading text)
+
+  pub tangled-read : (text : List ℕ) → (loadTangled s text .result ≡ gives tt) ↔ ((p : PlanData) × (tangledReading text ≡ accepted p))
+  unfolding loadTangled
+  tangled-read text = taken loadedUntangled (tangledReading text)
 
   pub load-given : (text : List ℕ) → (load s text .result ≡ gives tt) ↔ (noneRefuses (textTests text) ≡ true)
   load-given text = let l = load-read text in let r = read-given text in (λ e. r .0 (l .0 e), λ e. l .1 (r .1 e))
+
+  -- a tangled load "is accepted" exactly if checks 1 to 5 pass
+  pub tangled-given : (text : List ℕ) → (loadTangled s text .result ≡ gives tt) ↔ (noneRefuses (tangledTests text) ≡ true)
+  tangled-given text = let l = tangled-read text in let r = read.tangled-given text in (λ e. r .0 (l .0 e), λ e. l .1 (r .1 e))
 
 -- ---- what that says, number by number, of the calls that show a sheet: all begin with the same tests
 abbrev pub isLoaded : Stage → Bool
@@ -107,60 +121,64 @@ isLoaded (Drawn v e k) = false
 
 -- A sheet that is drawn, and not refused by 13.
 abbrev pub canShow : Sheet → Bool
-canShow s = isDrawn (s .header .stage) && holdsPlan s && holdsDrawing s
+canShow s = isDrawn (s .header .stage) && holdsPlan s && holdsNumbers s && holdsDrawing s
 
 abbrev pub showTests : Sheet → List Test
-showTests s = test11 s ∷ test12 s ∷ test13Plan s ∷ test13Drawing s ∷ []
+showTests s = test11 s ∷ test12 s ∷ test13Plan s ∷ test13Numbers s ∷ test13Drawing s ∷ []
 
 module _ (s : Sheet) where
-  begin-11 : (t : Stage) (c d : Bool)
-      → cond (isEmpty t) true (cond (not (isDrawn t)) false (cond (not c) false (cond (not d) false false))) ≡ isEmpty t
-  begin-11 Empty c d = refl
-  begin-11 (Loaded v e) c d = refl
-  begin-11 (Drawn v e k) false d = refl
-  begin-11 (Drawn v e k) true false = refl
-  begin-11 (Drawn v e k) true true = refl
+  begin-11 : (t : Stage) (c n d : Bool)
+      → cond (isEmpty t) true (cond (not (isDrawn t)) false (cond (not c) false (cond (not n) false (cond (not d) false false)))) ≡ isEmpty t
+  begin-11 Empty c n d = refl
+  begin-11 (Loaded v e) c n d = refl
+  begin-11 (Drawn v e k) false n d = refl
+  begin-11 (Drawn v e k) true false d = refl
+  begin-11 (Drawn v e k) true true false = refl
+  begin-11 (Drawn v e k) true true true = refl
 
-  begin-12 : (t : Stage) (c d : Bool)
-      → cond (isEmpty t) false (cond (not (isDrawn t)) true (cond (not c) false (cond (not d) false false))) ≡ isLoaded t
-  begin-12 Empty c d = refl
-  begin-12 (Loaded v e) c d = refl
-  begin-12 (Drawn v e k) false d = refl
-  begin-12 (Drawn v e k) true false = refl
-  begin-12 (Drawn v e k) true true = refl
+  begin-12 : (t : Stage) (c n d : Bool)
+      → cond (isEmpty t) false (cond (not (isDrawn t)) true (cond (not c) false (cond (not n) false (cond (not d) false false)))) ≡ isLoaded t
+  begin-12 Empty c n d = refl
+  begin-12 (Loaded v e) c n d = refl
+  begin-12 (Drawn v e k) false n d = refl
+  begin-12 (Drawn v e k) true false d = refl
+  begin-12 (Drawn v e k) true true false = refl
+  begin-12 (Drawn v e k) true true true = refl
 
-  begin-13 : (t : Stage) (c d : Bool)
-      → cond (isEmpty t) false (cond (not (isDrawn t)) false (cond (not c) true (cond (not d) true false))) ≡ (isDrawn t && not (c && d))
-  begin-13 Empty c d = refl
-  begin-13 (Loaded v e) c d = refl
-  begin-13 (Drawn v e k) false d = refl
-  begin-13 (Drawn v e k) true false = refl
-  begin-13 (Drawn v e k) true true = refl
+  begin-13 : (t : Stage) (c n d : Bool)
+      → cond (isEmpty t) false (cond (not (isDrawn t)) false (cond (not c) true (cond (not n) true (cond (not d) true false)))) ≡ (isDrawn t && not (c && n && d))
+  begin-13 Empty c n d = refl
+  begin-13 (Loaded v e) c n d = refl
+  begin-13 (Drawn v e k) false n d = refl
+  begin-13 (Drawn v e k) true false d = refl
+  begin-13 (Drawn v e k) true true false = refl
+  begin-13 (Drawn v e k) true true true = refl
 
-  begin-none : (t : Stage) (c d : Bool)
-      → cond (isEmpty t) false (cond (not (isDrawn t)) false (cond (not c) false (cond (not d) false true))) ≡ (isDrawn t && c && d)
-  begin-none Empty c d = refl
-  begin-none (Loaded v e) c d = refl
-  begin-none (Drawn v e k) false d = refl
-  begin-none (Drawn v e k) true false = refl
-  begin-none (Drawn v e k) true true = refl
+  begin-none : (t : Stage) (c n d : Bool)
+      → cond (isEmpty t) false (cond (not (isDrawn t)) false (cond (not c) false (cond (not n) false (cond (not d) false true)))) ≡ (isDrawn t && c && n && d)
+  begin-none Empty c n d = refl
+  begin-none (Loaded v e) c n d = refl
+  begin-none (Drawn v e k) false n d = refl
+  begin-none (Drawn v e k) true false d = refl
+  begin-none (Drawn v e k) true true false = refl
+  begin-none (Drawn v e k) true true true = refl
 
   shown : noneRefuses (showTests s) ≡ canShow s
   unfolding noneRefuses
-  shown = begin-none (s .header .stage) (holdsPlan s) (holdsDrawing s)
+  shown = begin-none (s .header .stage) (holdsPlan s) (holdsNumbers s) (holdsDrawing s)
 
   module _ (more : List Test) where
     pub shows-11 : lacks 11 more ≡ true → isFirst 11 (showTests s ++ more) ≡ isEmpty (s .header .stage)
     unfolding isFirst
-    shows-11 h = first-early 11 (showTests s) more h ∙ begin-11 (s .header .stage) (holdsPlan s) (holdsDrawing s)
+    shows-11 h = first-early 11 (showTests s) more h ∙ begin-11 (s .header .stage) (holdsPlan s) (holdsNumbers s) (holdsDrawing s)
 
     pub shows-12 : lacks 12 more ≡ true → isFirst 12 (showTests s ++ more) ≡ isLoaded (s .header .stage)
     unfolding isFirst
-    shows-12 h = first-early 12 (showTests s) more h ∙ begin-12 (s .header .stage) (holdsPlan s) (holdsDrawing s)
+    shows-12 h = first-early 12 (showTests s) more h ∙ begin-12 (s .header .stage) (holdsPlan s) (holdsNumbers s) (holdsDrawing s)
 
-    pub shows-13 : lacks 13 more ≡ true → isFirst 13 (showTests s ++ more) ≡ (isDrawn (s .header .stage) && not (holdsPlan s && holdsDrawing s))
+    pub shows-13 : lacks 13 more ≡ true → isFirst 13 (showTests s ++ more) ≡ (isDrawn (s .header .stage) && not (holdsPlan s && holdsNumbers s && holdsDrawing s))
     unfolding isFirst
-    shows-13 h = first-early 13 (showTests s) more h ∙ begin-13 (s .header .stage) (holdsPlan s) (holdsDrawing s)
+    shows-13 h = first-early 13 (showTests s) more h ∙ begin-13 (s .header .stage) (holdsPlan s) (holdsNumbers s) (holdsDrawing s)
 
     -- 7 and 14, and what is given
     pub shows-later : (m : ℕ) → lacks m (showTests s) ≡ true → isFirst m (showTests s ++ more) ≡ (canShow s && isFirst m more)
@@ -198,10 +216,14 @@ draw-kept s m = by (eqb (firstRefusal (drawTests s)) 0)
     by true e = never (cc)
     by false e = refl
 
+unread-kept : (f : PlanData → Sheet) (s : Sheet) (m : ℕ) (r : Reading) → loadOf f s r .result ≡ refuses m → loadOf f s r .sheet ≡ s
+unread-kept f s m (accepted p) e = never (cc)
+unread-kept f s m (refused n) e = refl
+
 pub load-kept : (s : Sheet) (text : List ℕ) (m : ℕ) → load s text .result ≡ refuses m → load s text .sheet ≡ s
 unfolding load
-load-kept s text m = by (reading text)
-  where
-    by : (r : Reading) → loadOf s r .result ≡ refuses m → loadOf s r .sheet ≡ s
-    by (accepted p) e = never (cc)
-    by (refused n) e = refl
+load-kept s text m = unread-kept loadedAsRead s m (reading text)
+
+pub tangled-kept : (s : Sheet) (text : List ℕ) (m : ℕ) → loadTangled s text .result ≡ refuses m → loadTangled s text .sheet ≡ s
+unfolding loadTangled
+tangled-kept s text m = unread-kept loadedUntangled s m (tangledReading text)

@@ -9,7 +9,8 @@ use lib.ListN.{length, drop}
 use lib.Ieee.{Float}
 use Rattle.ints.specs.Lists.{over}
 use Rattle.ints.specs.Refusals.{Test, firstRefusal}
-use Rattle.text.specs.Reading.{Reading, accepted, refused as unread, reading}
+use Rattle.plan.specs.Plan.{PlanData}
+use Rattle.text.specs.Reading.{Reading, accepted, refused as unread, reading, tangledReading}
 use Rattle.passes.specs.Drawing.{drawingOf}
 use Rattle.passes.specs.Demand3.{Demand3}
 use Rattle.marks.specs.declared.types.Mark.{Mark}
@@ -22,9 +23,9 @@ use Rattle.sheet.specs.declared.types.LineAnswer.{LineAnswer}
 use Rattle.sheet.specs.declared.types.LineAnswer.the-variants.{Written}
 use Rattle.sheet.specs.declared.types.MarkAnswer.{MarkAnswer}
 use Rattle.sheet.specs.declared.types.MarkAnswer.the-variants.{Given}
-use Rattle.sheet.specs.Sheet.{planIn, drawingIn, emptySheet, loadedSheet, drawnSheet}
+use Rattle.sheet.specs.Sheet.{planIn, drawingIn, emptySheet, loadedAsRead, loadedUntangled, drawnSheet}
 use Rattle.sheet.specs.Results.{Result, gives, refuses, resultOf, lineResultOf, markResultOf, resultAfter}
-use Rattle.sheet.specs.Tests.{test11, test12, test13Plan, test13Drawing, test7Line, marksIn, test7Mark, test14, lineOf, reportOf, numbersOf}
+use Rattle.sheet.specs.Tests.{test11, test12, test13Plan, test13Numbers, test13Drawing, test7Line, marksIn, test7Mark, test14, lineOf, reportOf, numbersOf}
 
 -- ---- load
 pub record SheetOut : Type 0 where
@@ -35,16 +36,20 @@ abbrev pub sheetOut : Result Unit → Sheet → SheetOut
 sheetOut r s = record { result = r; sheet = s }
 
 -- "Load replaces whatever was there"; "a refusal returns its number and changes nothing".
-abbrev pub loadOf : Sheet → Reading → SheetOut
-loadOf s (accepted p) = sheetOut (gives tt) (loadedSheet p)
-loadOf s (unread n) = sheetOut (refuses n) s
+abbrev pub loadOf : (PlanData → Sheet) → Sheet → Reading → SheetOut
+loadOf loaded s (accepted p) = sheetOut (gives tt) (loaded p)
+loadOf loaded s (unread n) = sheetOut (refuses n) s
 
 unfoldable pub load : Sheet → List ℕ → SheetOut
-load s text = loadOf s (reading text)
+load s text = loadOf loadedAsRead s (reading text)
+
+-- "A second way of loading", for plans that arrive tangled.
+unfoldable pub loadTangled : Sheet → List ℕ → SheetOut
+loadTangled s text = loadOf loadedUntangled s (tangledReading text)
 
 -- ---- draw
 abbrev pub drawTests : Sheet → List Test
-drawTests s = test11 s ∷ test13Plan s ∷ []
+drawTests s = test11 s ∷ test13Plan s ∷ test13Numbers s ∷ []
 
 unfoldable pub draw : Sheet → SheetOut
 draw s =
@@ -72,28 +77,28 @@ textAfter n text buffer = bufferAfter n (length text) text buffer
 
 abbrev pub lineTests : Sheet → ℕ → List ℕ → List Test
 lineTests s n buffer =
-    test11 s ∷ test12 s ∷ test13Plan s ∷ test13Drawing s ∷ test7Line s n ∷ test14 (lineOf s n) buffer ∷ []
+    test11 s ∷ test12 s ∷ test13Plan s ∷ test13Numbers s ∷ test13Drawing s ∷ test7Line s n ∷ test14 (lineOf s n) buffer ∷ []
 
 -- "Line n gives the n-th report line, its LF included".
 unfoldable pub line : Sheet → ℕ → List ℕ → TextOut
 line s n buffer = textAfter (firstRefusal (lineTests s n buffer)) (lineOf s n) buffer
 
 abbrev pub reportTests : Sheet → List ℕ → List Test
-reportTests s buffer = test11 s ∷ test12 s ∷ test13Plan s ∷ test13Drawing s ∷ test14 (reportOf s) buffer ∷ []
+reportTests s buffer = test11 s ∷ test12 s ∷ test13Plan s ∷ test13Numbers s ∷ test13Drawing s ∷ test14 (reportOf s) buffer ∷ []
 
 unfoldable pub report : Sheet → List ℕ → TextOut
 report s buffer = textAfter (firstRefusal (reportTests s buffer)) (reportOf s) buffer
 
 -- ---- mark, and all marks
 abbrev pub markTests : Sheet → ℕ → List Test
-markTests s n = test11 s ∷ test12 s ∷ test13Plan s ∷ test13Drawing s ∷ test7Mark s n ∷ []
+markTests s n = test11 s ∷ test12 s ∷ test13Plan s ∷ test13Numbers s ∷ test13Drawing s ∷ test7Mark s n ∷ []
 
 -- "Mark n gives the n-th mark."
 unfoldable pub mark : Sheet → ℕ → Result Mark
 mark s n = resultAfter (firstRefusal (markTests s n)) (markOf (planIn s) (drawingIn s .final) n)
 
 abbrev pub marksTests : Sheet → List Float → List Test
-marksTests s buffer = test11 s ∷ test12 s ∷ test13Plan s ∷ test13Drawing s ∷ test14 (numbersOf s) buffer ∷ []
+marksTests s buffer = test11 s ∷ test12 s ∷ test13Plan s ∷ test13Numbers s ∷ test13Drawing s ∷ test14 (numbersOf s) buffer ∷ []
 
 -- All marks in a lent buffer, five numbers each, with how many there are; later numbers stay.
 unfoldable pub marks : Sheet → List Float → BufferOut Float

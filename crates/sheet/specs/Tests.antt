@@ -7,11 +7,13 @@ use lib.ListN.{length, getD}
 use lib.Ieee.{Float}
 use Rattle.ints.specs.Lists.{concat}
 use Rattle.ints.specs.Refusals.{Test, test, check}
+use Rattle.plan_renumber.specs.Renumber.{ownNumbers}
 use Rattle.report.specs.Refusal13.{isStoredPlan, isDrawingIn}
 use Rattle.report.specs.Lines.{reportLines}
+use Rattle.report.specs.Numbers.{inNumbers}
 use Rattle.marks.specs.Marks.{allNumbers}
 use Rattle.sheet.specs.declared.types.Sheet.{Sheet}
-use Rattle.sheet.specs.Sheet.{isEmpty, isDrawn, verticesIn, segmentsIn, placingsIn, planIn, drawingIn}
+use Rattle.sheet.specs.Sheet.{isEmpty, isDrawn, verticesIn, segmentsIn, placingsIn, planIn, drawingIn, rememberedIn}
 
 -- 11: "Draw, line or mark on an empty sheet."
 abbrev pub test11 : Sheet → Test
@@ -27,6 +29,13 @@ holdsPlan s = isStoredPlan (s .plan) (verticesIn (s .header .stage)) (segmentsIn
 
 abbrev pub test13Plan : Sheet → Test
 test13Plan s = check 13 (holdsPlan s)
+
+-- "Remembered numbers that are not each level's own, once each, are refused with 13";
+abbrev pub holdsNumbers : Sheet → Bool
+holdsNumbers s = ownNumbers (planIn s) (rememberedIn s)
+
+abbrev pub test13Numbers : Sheet → Test
+test13Numbers s = check 13 (holdsNumbers s)
 
 -- "for line and mark also" what the drawing holds.
 abbrev pub holdsDrawing : Sheet → Bool
@@ -53,12 +62,15 @@ test7Mark s n = check 7 (ltb n (marksIn s))
 abbrev pub test14 : {A : Type 0} → List A → List A → Test
 test14 content buffer = test 14 (ltb (length buffer) (length content))
 
--- The n-th line, and all lines one after another.
+-- "Report lines use those numbers" that the sheet remembers: the n-th line, and all lines one after another.
+abbrev pub allLines : Sheet → List (List ℕ)
+allLines s = reportLines (planIn s) (inNumbers (rememberedIn s) (drawingIn s))
+
 unfoldable pub lineOf : Sheet → ℕ → List ℕ
-lineOf s n = getD (reportLines (planIn s) (drawingIn s)) n []
+lineOf s n = getD (allLines s) n []
 
 unfoldable pub reportOf : Sheet → List ℕ
-reportOf s = concat (reportLines (planIn s) (drawingIn s))
+reportOf s = concat (allLines s)
 
 -- The numbers of all marks, five each.
 unfoldable pub numbersOf : Sheet → List Float

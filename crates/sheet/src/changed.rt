@@ -16,11 +16,14 @@ pub fn with_drawing(sheet: Sheet, new: NewDrawing) -> Sheet
     let counts = counts_in(stage);
     let plan = sheet.plan;
     let drawing = new.drawing;
+    let remembered = sheet.remembered;
     Sheet {
         header: Header {
             stage: Stage::Drawn(counts.vertices, counts.segments, new.placings),
+            tangled: header.tangled,
         },
         plan,
         drawing,
+        remembered,
     }
 }

@@ -4,4 +4,5 @@ pub mod clear;
 pub mod load;
 pub mod printed;
 pub mod refusals;
+pub mod tangled;
 pub mod types;

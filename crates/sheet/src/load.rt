@@ -1,14 +1,31 @@
-// Load.
+// Load, by either way.
 use crate::types::Answer;
 use crate::types::Changed;
 use crate::types::Header;
 use crate::types::Sheet;
 use crate::types::Stage;
+use plan::data::Plan;
+use plan_untangle::order::count_up;
 use report::data::Drawing;
 use text_read::Answer as TextAnswer;
 use text_read::read;
+ghost use mathlib.Core.Path.{_≡_};
+ghost use Prim.Native.Nat.{_≤_};
+ghost use Rattle.plan.specs.Limits.{maxVertices};
+ghost use Rattle.plan.specs.Plan.{numbers};
 ghost use Rattle.sheet.specs.Calls as spec;
 ghost use Rattle.sheet.specs.Calls.{Leaves};
+ghost use Rattle.sheet.specs.Sheet.{rememberedOf};
+
+// The numbers of v vertices that are numbered as in the text.
+fn own(v: usize) -> [u16; Plan::MAX_VERTICES]
+    requires { ⌜ v ≤ maxVertices ⌝ }
+    ensures { λ r. ⌜ r ≡ rememberedOf (numbers 0 v) ⌝ }
+{
+    let mut remembered = [0u16; Plan::MAX_VERTICES];
+    count_up(&mut remembered[..v]);
+    remembered
+}
 
 // "Load replaces whatever was there." Refused 1 to 6, it changes nothing.
 pub fn load(sheet: Sheet, text: &[u8]) -> Changed
@@ -23,9 +40,11 @@ pub fn load(sheet: Sheet, text: &[u8]) -> Changed
             sheet: Sheet {
                 header: Header {
                     stage: Stage::Loaded(v, e),
+                    tangled: false,
                 },
                 plan,
                 drawing: Drawing::empty(),
+                remembered: own(v),
             },
         },
         TextAnswer::Refused(n) => Changed {

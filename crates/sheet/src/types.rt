@@ -12,14 +12,18 @@ pub enum Stage {
     Drawn(usize, usize, usize),
 }
 
+// The stage, and the way of loading: `tangled` if it was the second, which rearranges a plan.
 pub struct Header {
     pub stage: Stage,
+    pub tangled: bool,
 }
 
 pub struct Sheet {
     pub header: Header,
     pub plan: Plan,
     pub drawing: Drawing,
+    // "each vertex's number in the text"
+    pub remembered: [u16; Plan::MAX_VERTICES],
 }
 
 impl Sheet {
@@ -30,9 +34,11 @@ impl Sheet {
         Self {
             header: Header {
                 stage: Stage::Empty,
+                tangled: false,
             },
             plan: Plan::empty(),
             drawing: Drawing::empty(),
+            remembered: [0u16; Plan::MAX_VERTICES],
         }
     }
 }

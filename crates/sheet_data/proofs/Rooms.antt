@@ -1,5 +1,5 @@
--- What the lines and the marks of a drawing that is not refused ask for is there: the parts of its arrays that the counts cut off.
-use mathlib.Core.Path.{_≡_, refl, sym, _∙_, ap}
+-- What the marks of a drawing that is not refused ask for is there, and its parts in arrays: the parts of its arrays that the counts cut off.
+use mathlib.Core.Path.{_≡_, refl, sym, _∙_}
 use mathlib.Core.Bool.{true}
 use mathlib.Core.List.{List, [], _∷_, _++_}
 use Prim.Native.Nat.{ℕ, _*_, _≤_, _<_}
@@ -9,22 +9,20 @@ use lib.Dec.{leb}
 use lib.ListN.{length, take, drop}
 use lib.Seq.{length-take-le}
 use lib.Ieee.{Float}
-use Rattle.ints.specs.Lists.{sum, concat}
+use Rattle.ints.specs.Lists.{sum}
 use Rattle.ints.specs.Reach.{allWithin}
 use Rattle.plan.specs.Limits.{maxVertices, maxSegments}
 use Rattle.plan.specs.declared.data.Plan.{Plan}
 use Rattle.plan.specs.Acceptable.{acceptable}
 use Rattle.ints.proofs.Tests.{conj-at}
-use Rattle.text_write.specs.inner.Written.{Fronts}
 use Rattle.report_validity.proofs.Stored.{stored-of}
 use Rattle.passes.specs.Words.{maxListed}
-use Rattle.report.specs.Lines.{reportLines}
 use Rattle.report.specs.Refusal13.{isDrawing, isDrawingIn}
-use Rattle.report_lines.specs.inner.Stored.{planPart, lineOf, Stored, LineRoom, ReportRoom, maxLine, maxReport}
-use Rattle.report_lines.proofs.ByNumber.{HasPart, same-lines}
+use Rattle.report_lines.specs.inner.Stored.{Stored}
+use Rattle.report_lines.proofs.ByNumber.{HasPart}
 use Rattle.report_lines.proofs.Listed.{final-within}
 use Rattle.report_lines.proofs.Printable.{Printable, printable}
-use Rattle.report_lines.proofs.Rooms.{line-room, report-room, drawing-within}
+use Rattle.report_lines.proofs.Rooms.{drawing-within}
 use Rattle.marks.specs.Marks.{wholeMarkOf, markCount}
 use Rattle.marks.specs.Exact.{ExactMark, ExactFive}
 use Rattle.marks.specs.inner.Asked.{AskedAll, Asked, DataOf}
@@ -33,7 +31,7 @@ use Rattle.marks.proofs.Acceptable.{asked-all, marks-fit, marks-exact, numbers-
 use Rattle.marks.proofs.All.{all-long}
 use Rattle.report.specs.declared.data.Drawing.{Drawing as Arrays}
 use Rattle.report.specs.declared.data.Counts.{Counts}
-use Rattle.sheet_data.specs.inner.Parts.{planWith, drawingWith, isPlanWith, Holds, linesOf, lineWith, reportWith, marksOf, markWith, numbersWith}
+use Rattle.sheet_data.specs.inner.Parts.{planWith, drawingWith, isPlanWith, Holds, marksOf, markWith, numbersWith}
 use Rattle.sheet_data.proofs.Cuts.{PlanArrays, DrawingArrays, PlanCut, DrawingCut, plan-cut, drawing-cut}
 
 -- ---- as many vertices and segments as the counts say
@@ -123,22 +121,6 @@ module _ (p : Plan) (d : Arrays) (c : Counts) (h : Holds p d c) where
       ofPositions = omega (arith, parts .boxes, b .positions);
       within = drawing-within (planWith p c) (drawingWith d c) (parts .drawing);
     }
-
-    -- ---- lines
-    pub line-asked : {o : List ℕ} (n : ℕ) → n < linesOf c → maxLine ≤ length o
-        → LineRoom (p .spacing) (take (p .levels) (p .sizes)) (take (c .vertices) (d .preliminary)) (take (c .vertices) (d .finals)) (take (c .placings) (d .passes)) (take (c .placings) (d .levels)) (take (c .placings) (d .counts)) (d .vertices) (d .positions) n o
-    line-asked n l m = line-room has-part stored prints n (omega (arith, preliminary-long, passes-long)) m
-
-    pub line-fronts : {o out : List ℕ} {r : ℕ} (n : ℕ) → Fronts (lineOf (planPart (p .spacing) (take (p .levels) (p .sizes)) (length (take (c .vertices) (d .preliminary)))) (drawingWith d c) n) o r out
-        → Fronts (lineWith p d c n) o r out
-    line-fronts n f = rw (same-lines has-part (drawingWith d c)) f
-
-    pub report-asked : {o : List ℕ} → maxReport ≤ length o
-        → ReportRoom (p .spacing) (take (p .levels) (p .sizes)) (take (c .vertices) (d .preliminary)) (take (c .vertices) (d .finals)) (take (c .placings) (d .passes)) (take (c .placings) (d .levels)) (take (c .placings) (d .counts)) (d .vertices) (d .positions) o
-    report-asked m = report-room has-part stored prints m
-
-    pub report-same : reportWith p d c ≡ concat (reportLines (planPart (p .spacing) (take (p .levels) (p .sizes)) (length (take (c .vertices) (d .preliminary)))) (drawingWith d c))
-    report-same = ap concat (same-lines has-part (drawingWith d c))
 
     -- ---- marks
     pub marks-asked : AskedAll (p .spacing) (take (p .levels) (p .sizes)) (take (c .vertices) (p .vias)) (take (c .vertices) (p .halves)) (take (c .segments) (p .uppers)) (take (c .segments) (p .lowers)) (take (c .vertices) (d .finals))

@@ -18,7 +18,7 @@ use Rattle.sheet.specs.Calls.{sheetOut, drawTests, draw, Draws}
 use Rattle.sheet.specs.inner.Refusals.{countsIn, drawRefusal, withDrawing}
 use Rattle.sheet.proofs.LoadLaws.{leaves}
 
-module _ (s : Sheet) (m : ℕ) (e : m ≡ drawRefusal (s .header .stage) (s .plan)) where
+module _ (s : Sheet) (m : ℕ) (e : m ≡ drawRefusal (s .header .stage) (s .plan) (s .remembered)) where
   pub draws-not : (m ≡ 0 → ⊥) → Draws s (Refused m) s
   unfolding draw drawRefusal
   draws-not z = record { leaves = leaves s (rw (← e, ne-eqb m 0 z)) refl; demand3 = λ a. never (cc) }

@@ -15,7 +15,8 @@ pub fn draw(sheet: Sheet) -> Changed
     let header = sheet.header;
     let stage = header.stage;
     let plan = sheet.plan;
-    let refused = draw_refusal(stage, plan);
+    let remembered = sheet.remembered;
+    let refused = draw_refusal(stage, plan, remembered);
     if refused != 0 {
         return Changed {
             answer: Answer::Refused(refused),

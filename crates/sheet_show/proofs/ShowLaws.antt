@@ -16,60 +16,63 @@ use Rattle.plan.specs.declared.data.Plan.{Plan}
 use Rattle.text_write.specs.inner.Written.{Fronts}
 use Rattle.report.specs.declared.data.Drawing.{Drawing as Arrays}
 use Rattle.report.specs.declared.data.Counts.{Counts}
-use Rattle.sheet_data.specs.inner.Parts.{Holds, linesOf, lineWith, reportWith, marksOf, markWith}
+use Rattle.sheet_data.specs.inner.Parts.{Holds, areOwnWith, linesOf, lineWith, reportWith, marksOf, markWith}
 use Rattle.sheet.specs.declared.types.Sheet.{Sheet}
 use Rattle.sheet.specs.declared.types.LineAnswer.{LineAnswer}
 use Rattle.sheet.specs.declared.types.LineAnswer.the-variants.{Written}
 use Rattle.sheet.specs.Results.{gives, refuses}
-use Rattle.sheet.specs.Tests.{holdsPlan, holdsDrawing, test7Line, marksIn, test7Mark, test14, lineOf, reportOf, numbersOf}
+use Rattle.sheet.specs.Tests.{holdsPlan, holdsNumbers, holdsDrawing, test7Line, marksIn, test7Mark, test14, lineOf, reportOf, numbersOf}
 use Rattle.sheet.specs.Calls.{BufferOut, bufferAfter, line, report, mark, marks, Writes}
 use Rattle.sheet.specs.inner.Refusals.{countsIn, showRefusal}
 use Rattle.sheet.proofs.WhenRefused.{showTests}
 use Rattle.sheet_show.specs.inner.Shown.{fitted, fittedText, lineFrom, markFrom, marksFrom}
 
 -- ---- a sheet that they refuse
-module _ (s : Sheet) (m : ℕ) (e : m ≡ showRefusal (s .header .stage) (s .plan) (s .drawing)) (z : m ≡ 0 → ⊥) where
-  refusal : (more : List Test) → firstRefusal (showTests s ++ more) ≡ m
+module _ (s : Sheet) (k : ℕ) (e : k ≡ showRefusal (s .header .stage) (s .plan) (s .remembered) (s .drawing)) (z : k ≡ 0 → ⊥) where
+  refusal : (more : List Test) → firstRefusal (showTests s ++ more) ≡ k
   unfolding showRefusal
-  refusal more = sym (refusal-early m (showTests s) more e z)
+  refusal more = sym (refusal-early k (showTests s) more e z)
 
   buffer-refused : {A : Type 0} (more : List Test) (n : ℕ) (w b : List A)
-      → bufferAfter (firstRefusal (showTests s ++ more)) n w b ≡ record { result = refuses m; buffer = b }
-  buffer-refused more n w b = rw (refusal more, ne-eqb m 0 z)
+      → bufferAfter (firstRefusal (showTests s ++ more)) n w b ≡ record { result = refuses k; buffer = b }
+  buffer-refused more n w b = rw (refusal more, ne-eqb k 0 z)
 
-  pub line-refused : (n : ℕ) (b : List ℕ) → line s n b ≡ record { result = refuses m; buffer = b }
+  pub line-refused : (n : ℕ) (b : List ℕ) → line s n b ≡ record { result = refuses k; buffer = b }
   unfolding line
   line-refused n b = buffer-refused (test7Line s n ∷ test14 (lineOf s n) b ∷ []) (length (lineOf s n)) (lineOf s n) b
 
-  pub report-refused : (b : List ℕ) → report s b ≡ record { result = refuses m; buffer = b }
+  pub report-refused : (b : List ℕ) → report s b ≡ record { result = refuses k; buffer = b }
   unfolding report
   report-refused b = buffer-refused (test14 (reportOf s) b ∷ []) (length (reportOf s)) (reportOf s) b
 
-  pub mark-refused : (n : ℕ) → mark s n ≡ refuses m
+  pub mark-refused : (n : ℕ) → mark s n ≡ refuses k
   unfolding mark
-  mark-refused n = rw (refusal (test7Mark s n ∷ []), ne-eqb m 0 z)
+  mark-refused n = rw (refusal (test7Mark s n ∷ []), ne-eqb k 0 z)
 
-  pub marks-refused : (b : List Float) → marks s b ≡ record { result = refuses m; buffer = b }
+  pub marks-refused : (b : List Float) → marks s b ≡ record { result = refuses k; buffer = b }
   unfolding marks
   marks-refused b = buffer-refused (test14 (numbersOf s) b ∷ []) (marksIn s) (numbersOf s) b
 
 -- ---- a sheet that they do not refuse
-module _ (s : Sheet) (m : ℕ) (e : m ≡ showRefusal (s .header .stage) (s .plan) (s .drawing)) (z : m ≡ 0) where
+module _ (s : Sheet) (k : ℕ) (e : k ≡ showRefusal (s .header .stage) (s .plan) (s .remembered) (s .drawing)) (z : k ≡ 0) where
   none : noneRefuses (showTests s) ≡ true
   unfolding showRefusal
-  none = none-found m (showTests s) refl e z
+  none = none-found k (showTests s) refl e z
 
   pub holds : Holds (s .plan) (s .drawing) (countsIn (s .header .stage))
-  holds = record { plan = not-false (holdsPlan s) (none-at (showTests s) none 2); drawing = not-false (holdsDrawing s) (none-at (showTests s) none 3) }
+  holds = record { plan = not-false (holdsPlan s) (none-at (showTests s) none 2); drawing = not-false (holdsDrawing s) (none-at (showTests s) none 4) }
+
+  pub own : areOwnWith (s .plan) (s .remembered) (countsIn (s .header .stage)) ≡ true
+  own = not-false (holdsNumbers s) (none-at (showTests s) none 3)
 
   left : (more : List Test) → firstRefusal (showTests s ++ more) ≡ firstRefusal more
   left more = sym (refusal-late (firstRefusal more) (showTests s) more none refl)
 
-  pub line-shown : (n : ℕ) (b : List ℕ) → line s n b ≡ lineFrom (s .plan) (s .drawing) (countsIn (s .header .stage)) n b
+  pub line-shown : (n : ℕ) (b : List ℕ) → line s n b ≡ lineFrom (s .plan) (s .remembered) (s .drawing) (countsIn (s .header .stage)) n b
   unfolding line lineFrom lineOf
   line-shown n b = rw (left (test7Line s n ∷ test14 (lineOf s n) b ∷ []))
 
-  pub report-shown : (b : List ℕ) → report s b ≡ fittedText (reportWith (s .plan) (s .drawing) (countsIn (s .header .stage))) b
+  pub report-shown : (b : List ℕ) → report s b ≡ fittedText (reportWith (s .plan) (s .remembered) (s .drawing) (countsIn (s .header .stage))) b
   unfolding report reportOf
   report-shown b = rw (left (test14 (reportOf s) b ∷ []))
 
@@ -92,13 +95,13 @@ module _ {A : Type 0} (n : ℕ) (w b : List A) where
   fitted-long h = rw (le-ltb (length b) (length w) h)
 
 module _ (p : Plan) (d : Arrays) (c : Counts) (n : ℕ) where
-  pub no-line : (b : List ℕ) → linesOf c ≤ n → lineFrom p d c n b ≡ record { result = refuses 7; buffer = b }
+  pub no-line : (m b : List ℕ) → linesOf c ≤ n → lineFrom p m d c n b ≡ record { result = refuses 7; buffer = b }
   unfolding lineFrom firstRefusal
-  no-line b h = rw (le-ltb n (linesOf c) h)
+  no-line m b h = rw (le-ltb n (linesOf c) h)
 
-  pub a-line : (b : List ℕ) → n < linesOf c → lineFrom p d c n b ≡ fittedText (lineWith p d c n) b
+  pub a-line : (m b : List ℕ) → n < linesOf c → lineFrom p m d c n b ≡ fittedText (lineWith p m d c n) b
   unfolding lineFrom firstRefusal
-  a-line b h = rw (lt-ltb n (linesOf c) h)
+  a-line m b h = rw (lt-ltb n (linesOf c) h)
 
   pub no-mark : marksOf c ≤ n → markFrom p d c n ≡ refuses 7
   unfolding markFrom firstRefusal

@@ -45,8 +45,9 @@ pub fn marks(sheet: Sheet, out: &mut [f64]) -> LineAnswer
     let header = sheet.header;
     let stage = header.stage;
     let plan = sheet.plan;
+    let remembered = sheet.remembered;
     let drawing = sheet.drawing;
-    let refused = show_refusal(stage, plan, drawing);
+    let refused = show_refusal(stage, plan, remembered, drawing);
     if refused != 0 {
         return LineAnswer::Refused(refused);
     }

@@ -31,8 +31,9 @@ pub fn mark(sheet: Sheet, n: usize) -> MarkAnswer
     let header = sheet.header;
     let stage = header.stage;
     let plan = sheet.plan;
+    let remembered = sheet.remembered;
     let drawing = sheet.drawing;
-    let refused = show_refusal(stage, plan, drawing);
+    let refused = show_refusal(stage, plan, remembered, drawing);
     if refused != 0 {
         return MarkAnswer::Refused(refused);
     }

@@ -1,5 +1,5 @@
 // All report lines in one call.
-use crate::fit::fit_report;
+use crate::fit::fit_report_by;
 use plan::data::Plan;
 use plan::numbers::wide;
 use report::data::Counts;
@@ -8,15 +8,23 @@ use sheet::refusals::counts_in;
 use sheet::refusals::show_refusal;
 use sheet::types::LineAnswer;
 use sheet::types::Sheet;
-ghost use Rattle.sheet_data.specs.inner.Parts.{Holds, reportWith};
+ghost use mathlib.Core.Path.{_≡_};
+ghost use mathlib.Core.Bool.{true};
+ghost use Rattle.sheet_data.specs.inner.Parts.{Holds, areOwnWith, reportWith};
 ghost use Rattle.sheet.specs.Calls as spec;
 ghost use Rattle.sheet.specs.Calls.{Writes};
 ghost use Rattle.sheet_show.specs.inner.Shown.{fittedText};
 
 // 14, and the lines.
-fn report_of(plan: Plan, drawing: Drawing, counts: Counts, out: &mut [u8]) -> LineAnswer
-    requires { ⌜ Holds plan drawing counts ⌝ }
-    ensures { λ r. ⌜ Writes (fittedText (reportWith plan drawing counts) (now (out .entry))) r (now (out .exit)) ⌝ }
+fn report_of(
+    plan: Plan,
+    remembered: [u16; Plan::MAX_VERTICES],
+    drawing: Drawing,
+    counts: Counts,
+    out: &mut [u8],
+) -> LineAnswer
+    requires { ⌜ Holds plan drawing counts × (areOwnWith plan remembered counts ≡ true) ⌝ }
+    ensures { λ r. ⌜ Writes (fittedText (reportWith plan remembered drawing counts) (now (out .entry))) r (now (out .exit)) ⌝ }
 {
     let v = counts.vertices;
     let p = counts.placings;
@@ -29,7 +37,8 @@ fn report_of(plan: Plan, drawing: Drawing, counts: Counts, out: &mut [u8]) -> Li
     let boxes = drawing.counts;
     let vertices = drawing.vertices;
     let positions = drawing.positions;
-    fit_report(
+    fit_report_by(
+        &remembered[..v],
         plan.spacing,
         &sizes[..k],
         &preliminary[..v],
@@ -50,10 +59,11 @@ pub fn report(sheet: Sheet, out: &mut [u8]) -> LineAnswer
     let header = sheet.header;
     let stage = header.stage;
     let plan = sheet.plan;
+    let remembered = sheet.remembered;
     let drawing = sheet.drawing;
-    let refused = show_refusal(stage, plan, drawing);
+    let refused = show_refusal(stage, plan, remembered, drawing);
     if refused != 0 {
         return LineAnswer::Refused(refused);
     }
-    report_of(plan, drawing, counts_in(stage), out)
+    report_of(plan, remembered, drawing, counts_in(stage), out)
 }

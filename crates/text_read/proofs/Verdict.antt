@@ -13,17 +13,19 @@ use Rattle.ints.specs.Lists.{over}
 use Rattle.ints.specs.Refusals.{Test, check, firstRefusal}
 use Rattle.plan.specs.Plan.{PlanData}
 use Rattle.plan.specs.Stored.{storedPlan}
-use Rattle.plan.specs.Checks.{checksOf}
+use Rattle.plan.specs.Checks.{checksOf, tangledChecksOf}
 use Rattle.plan.specs.Acceptable.{acceptable}
 use Rattle.plan.specs.inner.Graph.{graphOf}
 use Rattle.plan.proofs.GraphLaws.{same-checks}
+use Rattle.plan.proofs.LimitLaws.{Limits}
 use Rattle.plan.proofs.Sound.{sound}
 use Rattle.text.specs.Form.{Lines, formOf}
-use Rattle.text.specs.Reading.{maxBytes, check2, stored, testsBy, testsOf, accepted, refused, readAs, reading}
+use Rattle.text.specs.Reading.{maxBytes, check2, stored, testsBy, testsOf, accepted, refused, readAs, reading, tangledReading}
 use Rattle.text_read.specs.inner.Filled.{isSome, Kept, Scans}
 use Rattle.text_read.specs.declared.form.Scanned.{Scanned}
 use Rattle.text.proofs.Words.{never}
-use Rattle.text.proofs.RoundTrip.{read-acceptable}
+use Rattle.text.proofs.RoundTrip.{Formed, formed-of, read-acceptable}
+use Rattle.text.proofs.WhenRefused.{tangled-passed}
 use Rattle.ints.proofs.Tests.{test}
 use Rattle.text_read.specs.Answer.{planOf, answerOf}
 use Rattle.text_read.specs.inner.Failed.{Fronts, checksIn}
@@ -70,6 +72,13 @@ module _ (s : List ℕ) where
     unfolding reading
     reads-passed z = rw (e, ← h, eq-eqb n 0 z)
 
+-- a text that passes checks 1 to 5 is not too long
+formed : (s : List ℕ) (p : PlanData) → tangledReading s ≡ accepted p → Formed s p
+formed s p e = formed-of tangledChecksOf s p (tangled-passed s p .0 e) .0
+
+pub not-long : {A : Type 0} (s : List ℕ) (p : PlanData) → maxBytes < length s → tangledReading s ≡ accepted p → A
+not-long s p h e = absurd (omega (arith, formed s p e .short))
+
 -- the lines of a text in the form
 some-lines : (o : Option Lines) → isSome o ≡ true → (l : Lines) × (o ≡ some l)
 some-lines none e = never e
@@ -79,22 +88,22 @@ some-lines (some l) e = (l, refl)
 front : {A : Type 0} (xs o ys : List A) (n : ℕ) → ys ≡ over xs o → n ≡ length xs → take n ys ≡ xs
 front xs o ys n e f = ap (take n) e ∙ take-at xs _ n (sym f)
 
-within : {A : Type 0} (xs o ys : List A) → ys ≡ over xs o → length xs ≤ length ys
+pub within : {A : Type 0} (xs o ys : List A) → ys ≡ over xs o → length xs ≤ length ys
 within xs o ys e = rw (e, length-append) (omega arith)
 
 -- ---- the arrays of a plan's data
 module _ (p : PlanData) (r : Scanned) (sizes : List ℕ) (vias : List Bool) (halves uppers lowers sizes′ : List ℕ) (vias′ : List Bool) (halves′ uppers′ lowers′ : List ℕ)
     (K : Kept p r sizes vias halves uppers lowers sizes′ vias′ halves′ uppers′ lowers′) where
-  sizes-front : take (r .levels) sizes′ ≡ p .sizes
+  pub sizes-front : take (r .levels) sizes′ ≡ p .sizes
   sizes-front = front (p .sizes) sizes sizes′ (r .levels) (K .sizes-kept) (K .level-lines)
 
-  vias-front : take (r .vertices) vias′ ≡ p .vias
+  pub vias-front : take (r .vertices) vias′ ≡ p .vias
   vias-front = front (p .vias) vias vias′ (r .vertices) (K .vias-kept) (K .vertices)
 
-  uppers-front : take (r .segments) uppers′ ≡ p .uppers
+  pub uppers-front : take (r .segments) uppers′ ≡ p .uppers
   uppers-front = front (p .uppers) uppers uppers′ (r .segments) (K .uppers-kept) (K .segments)
 
-  lowers-front : take (r .segments) lowers′ ≡ p .lowers
+  pub lowers-front : take (r .segments) lowers′ ≡ p .lowers
   lowers-front = front (p .lowers) lowers lowers′ (r .segments) (K .lowers-kept) (K .lower-ends)
 
   kept-fronts : length sizes′ ≡ 64 → length vias′ ≡ 1024 → length uppers′ ≡ 2048 → Fronts r sizes′ vias′ uppers′ lowers′
@@ -111,17 +120,22 @@ module _ (p : PlanData) (r : Scanned) (sizes : List ℕ) (vias : List Bool) (hal
   kept-checks : checksOf (graphOf (take (r .levels) sizes′) (take (r .vertices) vias′) (take (r .segments) uppers′) (take (r .segments) lowers′)) ≡ checksOf p
   kept-checks = (λ i. checksOf (graphOf (sizes-front i) (vias-front i) (uppers-front i) (lowers-front i))) ∙ sym (same-checks p)
 
-  in-fronts : acceptable p ≡ true → InFronts p r sizes′ vias′ halves′ uppers′ lowers′
+  halves-count : Limits p → r .vertices ≡ length (p .halves)
+  halves-count l = K .vertices ∙ sym (l .halves-long)
+
+  pub halves-front : Limits p → take (r .vertices) halves′ ≡ p .halves
+  halves-front l = front (p .halves) halves halves′ (r .vertices) (K .halves-kept) (halves-count l)
+
+  pub in-fronts : acceptable p ≡ true → InFronts p r sizes′ vias′ halves′ uppers′ lowers′
   in-fronts ok =
       let l = sound p ok .limits in
-      let h : r .vertices ≡ length (p .halves) = K .vertices ∙ sym (l .halves-long) in
       record {
         lists = record {
           levelsAre = sym (ap length sizes-front ∙ l .sizes-long);
           gapIs = sym (K .gap);
           sizesAre = sym sizes-front;
           viasAre = sym vias-front;
-          halvesAre = sym (front (p .halves) halves halves′ (r .vertices) (K .halves-kept) h);
+          halvesAre = sym (halves-front l);
           uppersAre = sym uppers-front;
           lowersAre = sym lowers-front;
           ok = ok;
@@ -129,7 +143,7 @@ module _ (p : PlanData) (r : Scanned) (sizes : List ℕ) (vias : List Bool) (hal
         spaced = sym (K .spacing);
         sizes-reach = omega (arith, K .level-lines, within (p .sizes) sizes sizes′ (K .sizes-kept));
         vias-reach = omega (arith, K .vertices, within (p .vias) vias vias′ (K .vias-kept));
-        halves-reach = omega (arith, h, within (p .halves) halves halves′ (K .halves-kept));
+        halves-reach = omega (arith, halves-count l, within (p .halves) halves halves′ (K .halves-kept));
         uppers-reach = omega (arith, K .segments, within (p .uppers) uppers uppers′ (K .uppers-kept));
         lowers-reach = omega (arith, K .lower-ends, within (p .lowers) lowers lowers′ (K .lowers-kept));
       }
@@ -152,6 +166,9 @@ module _ (p : PlanData) (r : Scanned) (sizes′ : List ℕ) (vias′ : List Bool
 -- ---- a scanned text, and what the program answers of it
 module _ (s : List ℕ) (r : Scanned) (sizes : List ℕ) (vias : List Bool) (halves uppers lowers sizes′ : List ℕ) (vias′ : List Bool) (halves′ uppers′ lowers′ : List ℕ)
     (S : Scans s r sizes vias halves uppers lowers sizes′ vias′ halves′ uppers′ lowers′) (short : length s ≤ maxBytes) where
+  pub reads-kept : (p : PlanData) → tangledReading s ≡ accepted p → Kept p r sizes vias halves uppers lowers sizes′ vias′ halves′ uppers′ lowers′
+  reads-kept p e = let f = formed s p e in rw (f .stores) at (S .kept (f .lines) (f .form) (f .two))
+
   no-form : r .form ≡ false → reading s ≡ refused 1
   no-form f = reads-no-form s (sym (S .form) ∙ f)
 

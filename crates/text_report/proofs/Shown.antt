@@ -4,32 +4,40 @@ use mathlib.Core.Bool.{Bool, true}
 use mathlib.Core.List.{List, map}
 use Prim.Native.Nat.{ℕ, _+_, _-_, _≤_}
 use native.Mathlib.Omega.{arith}
-use lib.ListN.{length, take, replicate, length-append, length-replicate, length-map}
+use lib.ListN.{length, take, drop, replicate, length-append, length-replicate, length-map}
 use lib.Seq.{take-at, length-take-le}
 use lib.IntN.{ℤ, pos}
-use Rattle.ints.specs.Lists.{sum, concat}
+use Rattle.ints.specs.Lists.{sum, concat, over}
 use Rattle.plan.specs.Limits.{maxVertices}
 use Rattle.plan.specs.Plan.{PlanData, vertexCount, dataOf}
 use Rattle.plan.specs.Acceptable.{acceptable}
 use Rattle.plan.specs.inner.Held.{heldPlan, HoldsPlan}
 use Rattle.plan.proofs.Sound.{sound}
-use Rattle.passes.specs.Drawing.{BoxAt, Placing, drawingOf}
+use Rattle.plan_renumber.specs.Renumber.{ownNumbers}
+use Rattle.plan_renumber.proofs.Own.{Own, own}
+use Rattle.plan_untangle.specs.Order.{order, untangled}
+use Rattle.plan_untangle.proofs.Untangled.{untangled-own}
+use Rattle.passes.specs.Drawing.{BoxAt, Placing, Drawing, drawingOf}
 use Rattle.passes.specs.Words.{boxesListed, maxListed}
 use Rattle.passes.specs.Stored.{padded}
 use Rattle.demand3.proofs.Theorem.{demand3}
 use Rattle.report.specs.Lines.{reportLines}
+use Rattle.report.specs.Numbers.{inNumbers}
 use Rattle.report_validity.proofs.Drawn.{drawn-valid}
 use Rattle.report_lines.specs.inner.Stored.{planPart, drawingFrom, Stored, ReportRoom, maxReport}
 use Rattle.report_lines.proofs.Listed.{few-placings, few-boxes, final-within}
 use Rattle.report_lines.proofs.ByNumber.{HasPart, same-lines}
-use Rattle.report_lines.proofs.Printable.{printable}
+use Rattle.report_lines.proofs.Printable.{Printable, printable}
 use Rattle.report_lines.proofs.Rooms.{report-room}
+use Rattle.report_numbers.specs.inner.Rooms.{reportBy, ReportRoomBy}
+use Rattle.report_numbers.proofs.Rooms.{report-room-by, report-by}
 use Rattle.marks.specs.inner.Asked.{AskedAll}
 use Rattle.marks.proofs.Acceptable.{asked-all}
 use Rattle.pass_list.proofs.Decoded.{decoded}
 use Rattle.pass_draw.specs.inner.Made.{Made}
 use Rattle.sheet_data.proofs.ReadBack.{boxes-sum, preliminary-long, final-long}
 use Rattle.text_report.specs.Positions.{bothOf}
+use Rattle.text_report.specs.inner.Numbered.{Remembers, reportNumbered}
 
 -- ---- a plan by its lists
 module _ {p : PlanData} {gap : ℕ} {sizes : List ℕ} {vias : List Bool} {halves uppers lowers : List ℕ} where
@@ -39,6 +47,20 @@ module _ {p : PlanData} {gap : ℕ} {sizes : List ℕ} {vias : List Bool} {halve
 pub holds-held : {gap spacing : ℕ} {sizes : List ℕ} {vias : List Bool} {halves uppers lowers : List ℕ} → acceptable (heldPlan gap spacing sizes vias halves uppers lowers) ≡ true
     → HoldsPlan (heldPlan gap spacing sizes vias halves uppers lowers) gap sizes vias halves uppers lowers
 holds-held ok = record { levelsAre = refl; gapIs = refl; sizesAre = refl; viasAre = refl; halvesAre = refl; uppersAre = refl; lowersAre = refl; ok = ok }
+
+-- ---- a plan that was rearranged, and the numbers of its vertices at the front of an array
+pub record NumbersFront (p : PlanData) (v : ℕ) (ns : List ℕ) : Type 0 where
+  pub front : take v ns ≡ order p
+  pub reach : v ≤ length ns
+
+module _ (p : PlanData) (ok : acceptable (untangled p) ≡ true) where
+  pub numbers-front : {v : ℕ} {ns : List ℕ} (o : List ℕ) → vertexCount (untangled p) ≡ v → ns ≡ over (order p) o → NumbersFront p v ns
+  numbers-front {v} o e f =
+      let l : length (order p) ≡ v = own (untangled p) (order p) (sound (untangled p) ok .limits .sizes-sum) (untangled-own p) .once .long ∙ e in
+      record { front = rw f (take-at (order p) (drop (length (order p)) o) v l); reach = omega (arith, ap length f, length-append (order p) (drop (length (order p)) o)) }
+
+  pub remembers : {q : PlanData} → untangled p ≡ q → Remembers q (order p)
+  remembers e = let r : Remembers (untangled p) (order p) = record { ok = ok; own = untangled-own p } in rw e at r
 
 module _ (p : PlanData) (ok : acceptable p ≡ true) where
   pub few-vertices : vertexCount p ≤ maxVertices
@@ -111,9 +133,24 @@ module _ (p : PlanData) (ok : acceptable p ≡ true) where
           within = rw drawing-is (demand3 p ok .within);
         }
 
+    prints : Printable p (drawingFrom preliminary finals (take n passes) (take n levels) (take n counts) vertices positions)
+    prints = rw drawing-is (printable p (drawingOf p) ok (drawn-valid p ok))
+
     pub report-asked : {o : List ℕ} → maxReport ≤ length o → ReportRoom (p .spacing) (p .sizes) preliminary finals (take n passes) (take n levels) (take n counts) vertices positions o
-    report-asked h = report-room has-part in-lists (rw drawing-is (printable p (drawingOf p) ok (drawn-valid p ok))) h
+    report-asked h = report-room has-part in-lists prints h
 
     pub report-is : concat (reportLines p (drawingOf p))
         ≡ concat (reportLines (planPart (p .spacing) (p .sizes) (length preliminary)) (drawingFrom preliminary finals (take n passes) (take n levels) (take n counts) vertices positions))
     report-is = rw drawing-is (ap concat (same-lines has-part (drawingOf p)))
+
+    -- in numbers that are its own
+    module _ (ns : List ℕ) (t : ownNumbers p ns ≡ true) where
+      its-own : Own p ns
+      its-own = own p ns (sound p ok .limits .sizes-sum) t
+
+      pub report-asked-by : {o : List ℕ} → maxReport ≤ length o
+          → ReportRoomBy ns (p .spacing) (p .sizes) preliminary finals (take n passes) (take n levels) (take n counts) vertices positions o
+      report-asked-by h = report-room-by its-own has-part in-lists prints h
+
+      pub report-is-by : reportNumbered p ns ≡ reportBy ns (p .spacing) (p .sizes) preliminary finals (take n passes) (take n levels) (take n counts) vertices positions
+      report-is-by = ap (λ (d : Drawing). concat (reportLines p (inNumbers ns d))) (sym drawing-is) ∙ sym (report-by its-own has-part in-lists prints)

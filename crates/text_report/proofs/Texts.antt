@@ -1,5 +1,5 @@
 -- What becomes of a text, as the programs meet it: by what reading it answered; what its report has at most, and what is printed.
-use mathlib.Core.Path.{_≡_, refl, _∙_, ap}
+use mathlib.Core.Path.{_≡_, refl, sym, _∙_, ap}
 use mathlib.Core.Bool.{Bool, true, false, cond}
 use mathlib.Core.List.{List, [], _∷_}
 use Prim.Native.Nat.{ℕ, _≤_}
@@ -12,20 +12,26 @@ use Rattle.ints.specs.Lists.{concat, over}
 use Rattle.ints.specs.Refusals.{firstRefusal}
 use Rattle.plan.specs.Plan.{PlanData, vertexCount}
 use Rattle.plan.proofs.Sound.{sound}
-use Rattle.text.specs.Reading.{Reading, accepted, refused, reading}
+use Rattle.plan_renumber.proofs.Own.{own}
+use Rattle.plan_untangle.specs.Order.{order, untangled}
+use Rattle.plan_untangle.proofs.Untangled.{order-is, untangled-stays, untangled-own}
+use Rattle.text.specs.Reading.{Reading, accepted, refused, reading, tangledReading}
+use Rattle.text.proofs.BothWays.{taken-both}
 use Rattle.text.proofs.RoundTrip.{read-acceptable}
 use Rattle.text.proofs.Words.{never}
+use Rattle.text_untangle.proofs.SecondWay.{untangled-ok}
 use Rattle.text_write.specs.Again.{refusedLine}
 use Rattle.text_write.specs.inner.Written.{Fronts}
-use Rattle.passes.specs.Drawing.{drawingOf}
+use Rattle.passes.specs.Drawing.{Drawing, drawingOf}
 use Rattle.report.specs.Lines.{reportLines}
 use Rattle.report.specs.Printed as report
 use Rattle.report.specs.Printed.{printedOf, printed}
 use Rattle.report_validity.proofs.Drawn.{drawn-valid}
 use Rattle.report_lines.specs.inner.Stored.{maxReport}
 use Rattle.report_lines.proofs.Lengths.{report-short}
-use Rattle.report_lines.proofs.Printable.{printable}
+use Rattle.report_lines.proofs.Printable.{printable, printable-by, stays-by}
 use Rattle.marks.specs.Marks.{markCount, allNumbers}
+use Rattle.sheet_data.proofs.ReadBack.{preliminary-long, final-long}
 use Rattle.sheet.specs.declared.types.LineAnswer.{LineAnswer}
 use Rattle.sheet.specs.declared.types.LineAnswer.the-variants.{Written, Refused}
 use Rattle.sheet.specs.Results.{gives, refuses, resultAfter}
@@ -35,6 +41,8 @@ use Rattle.sheet.specs.inner.Printed.{Prints}
 use Rattle.sheet_show.specs.inner.Shown.{fitted, fittedText}
 use Rattle.sheet_show.proofs.ShowLaws.{fitted-long}
 use Rattle.text_report.specs.Texts.{reportOf}
+use Rattle.text_report.specs.Tangled.{tangledReportOf}
+use Rattle.text_report.specs.inner.Numbered.{reportNumbered}
 use Rattle.text_report.specs.Marks.{marksOf}
 use Rattle.text_report.specs.Positions.{bothOf, positionsOf}
 
@@ -43,6 +51,10 @@ module _ (p : PlanData) where
   pub report-of : (b : List ℕ) → reportOf (accepted p) b ≡ fittedText (concat (reportLines p (drawingOf p))) b
   unfolding reportOf
   report-of b = refl
+
+  pub tangled-of : (b : List ℕ) → tangledReportOf (accepted p) b ≡ fittedText (reportNumbered (untangled p) (order p)) b
+  unfolding tangledReportOf
+  tangled-of b = refl
 
   pub marks-of : (b : List Float) → marksOf (accepted p) b ≡ fitted (markCount p) (allNumbers p (drawingOf p .final)) b
   unfolding marksOf
@@ -57,6 +69,10 @@ module _ (n : ℕ) where
   unfolding reportOf
   report-not b = record { answered = refl; left = refl }
 
+  pub tangled-not : (b : List ℕ) → Writes (tangledReportOf (refused n) b) (Refused n) b
+  unfolding tangledReportOf
+  tangled-not b = record { answered = refl; left = refl }
+
   pub marks-not : (b : List Float) → Writes (marksOf (refused n) b) (Refused n) b
   unfolding marksOf
   marks-not b = record { answered = refl; left = refl }
@@ -64,6 +80,16 @@ module _ (n : ℕ) where
   pub positions-not : (b : List ℤ) → Writes (positionsOf (refused n) b) (Refused n) b
   unfolding positionsOf
   positions-not b = record { answered = refl; left = refl }
+
+-- ---- a text that the first way takes has the same report both ways
+pub tangled-same : (s : List ℕ) (p : PlanData) → reading s ≡ accepted p → (b : List ℕ) → tangledReportOf (tangledReading s) b ≡ reportOf (reading s) b
+tangled-same s p e b =
+    let ok = read-acceptable s p e in
+    let d = drawingOf p in
+    ap (λ g. tangledReportOf g b) (taken-both s p e) ∙ tangled-of p b ∙ ap (λ (q : PlanData). fittedText (reportNumbered q (order p)) b) (untangled-stays p ok)
+    ∙ ap (λ m. fittedText (reportNumbered p m) b) (order-is p ok)
+    ∙ ap (λ (c : Drawing). fittedText (concat (reportLines p c)) b) (stays-by p d (printable p d ok (drawn-valid p ok)) (preliminary-long p ok) (final-long p ok))
+    ∙ sym (report-of p b) ∙ ap (λ g. reportOf g b) (sym e)
 
 -- ---- how much a call gives
 given : (k n c : ℕ) → resultAfter k c ≡ gives n → n ≡ c
@@ -85,6 +111,20 @@ module _ (text : List ℕ) where
       go (accepted p) e h =
           let w = concat (reportLines p (drawingOf p)) in
           omega (arith, short p e, given (firstRefusal (test14 w b ∷ [])) n (length w) h)
+      go (refused k) e h = never (cc)
+
+  pub tangled-few : (b : List ℕ) (n : ℕ) → tangledReportOf (tangledReading text) b .result ≡ gives n → n ≤ maxReport
+  unfolding tangledReportOf
+  tangled-few b n = go (tangledReading text) refl
+    where
+      go : (g : Reading) → tangledReading text ≡ g → tangledReportOf g b .result ≡ gives n → n ≤ maxReport
+      go (accepted p) e h =
+          let q = untangled p in
+          let a = untangled-ok text p e in
+          let w = reportNumbered q (order p) in
+          let o = own q (order p) (sound q a .limits .sizes-sum) (untangled-own p) in
+          let s = report-short (printable-by (o .once) (printable q (drawingOf q) a (drawn-valid q a))) in
+          omega (arith, s, given (firstRefusal (test14 w b ∷ [])) n (length w) h)
       go (refused k) e h = never (cc)
 
   pub marks-few : (b : List Float) (n : ℕ) → marksOf (reading text) b .result ≡ gives n → n ≤ 3072

@@ -1,4 +1,5 @@
 pub mod Texts
+pub mod Tangled
 pub mod Marks
 pub mod Positions
 pub mod inner

@@ -3,4 +3,5 @@ pub mod all_marks;
 pub mod drawn;
 pub mod positions;
 pub mod print;
+pub mod tangled;
 pub mod whole;

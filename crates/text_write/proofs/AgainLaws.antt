@@ -1,6 +1,6 @@
 -- A plan as it was read is stored with the very data of the reading, so its text is the reading's.
 use mathlib.Core.Path.{_≡_, refl, sym, _∙_, ap}
-use mathlib.Core.Bool.{false}
+use mathlib.Core.Bool.{true, false}
 use mathlib.Core.List.{List}
 use Prim.Native.Nat.{ℕ, _≤_, _<_, _^_}
 use native.Mathlib.Omega.{arith}
@@ -34,7 +34,7 @@ use Rattle.text_write.specs.inner.Stored.{StoredPlan}
 front : {A : Type 0} (xs o : List A) (n : ℕ) → length xs ≡ n → take n (over xs o) ≡ xs
 front xs o n e = take-at xs (drop (length xs) o) n e
 
-stored-data : (p : PlanData) → Limits p → planData (planOf p) (length (p .vias)) (length (p .uppers)) ≡ p
+pub stored-data : (p : PlanData) → Limits p → planData (planOf p) (length (p .vias)) (length (p .uppers)) ≡ p
 unfolding planOf
 stored-data p l =
     let s = front (p .sizes) (replicate maxLevels 0) (p .levels) (l .sizes-long) in
@@ -44,6 +44,12 @@ stored-data p l =
     let b = front (p .lowers) (replicate maxSegments 0) (length (p .uppers)) (l .ends-long) in
     rw (s, v, h, a, b)
 
+pub plan-stored : (p : PlanData) → acceptable p ≡ true → StoredPlan (planOf p) (length (p .vias)) (length (p .uppers))
+unfolding planOf
+plan-stored p a =
+    let l = sound p a .limits in
+    record { levels = l .levels-high; vertices = l .vertices; segments = l .segments; plan = ap acceptable (stored-data p l) ∙ a }
+
 -- a plan that was read, stored with the data of the reading, and its text
 pub record Again (s : List ℕ) (p : Plan) (v e : ℕ) : Type 0 where
   pub stored : StoredPlan p v e
@@ -52,13 +58,11 @@ pub record Again (s : List ℕ) (p : Plan) (v e : ℕ) : Type 0 where
   pub short : length (textOf (planData p v e)) ≤ maxText
 
 plan-again : (s : List ℕ) (p : PlanData) → reading s ≡ accepted p → Again s (planOf p) (length (p .vias)) (length (p .uppers))
-unfolding planOf
 plan-again s p e =
     let a = read-acceptable s p e in
-    let l = sound p a .limits in
-    let same = stored-data p l in
+    let same = stored-data p (sound p a .limits) in
     record {
-      stored = record { levels = l .levels-high; vertices = l .vertices; segments = l .segments; plan = ap acceptable same ∙ a };
+      stored = plan-stored p a;
       read = e ∙ ap accepted (sym same);
       same = ap textOf same ∙ written-read s p e;
       short = rw same (text-short p a);

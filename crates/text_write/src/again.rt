@@ -35,7 +35,7 @@ pub fn refuse(n: u32, out: &mut [u8]) -> usize
 
 // The text of a plan with these numbers of vertices and segments that is that of a text, at the front of a buffer that has
 // room for it.
-fn stored_text(plan: Plan, vertices: usize, segments: usize, out: &mut [u8]) -> usize
+pub fn stored_text(plan: Plan, vertices: usize, segments: usize, out: &mut [u8]) -> usize
     requires { ⌜ StoredPlan plan vertices segments × (length (textOf (planData plan vertices segments)) ≤ length (now out)) ⌝ }
     ensures { λ r. ⌜ Fronts (textOf (planData plan vertices segments)) (now (out .entry)) r (now (out .exit)) ⌝ }
 {

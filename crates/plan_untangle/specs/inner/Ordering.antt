@@ -53,8 +53,9 @@ pub record Turned (vias : List Bool) (upper level turn : List ℕ) : Type 0 wher
   pub each : (v : ℕ) → v < length level → getD turn v 0 ≡ cond (getD vias v false && getD vias (getD upper v 0) false) (getD level v 0) 0
 
 -- The tables of p, and its vertices in the order of the text.
-pub record Ordering (p : PlanData) (levels : ℕ) (turn upper order : List ℕ) : Type 0 where
-  pub levelsAre : p .levels ≡ levels
+pub record Ordering (p : PlanData) (sizes turn upper order : List ℕ) : Type 0 where
+  pub levelsAre : p .levels ≡ length sizes
+  pub sizesAre : p .sizes ≡ sizes
   pub limits : limitsHold p ≡ true
   pub three : check3 p ≡ true
   pub five : check5 p ≡ true
@@ -64,9 +65,9 @@ pub record Ordering (p : PlanData) (levels : ℕ) (turn upper order : List ℕ) 
   pub uppers-long : length upper ≡ vertexCount p
   pub uppers : (v : ℕ) → v < vertexCount p → getD upper v 0 ≡ upperEnd p v
 
-pub record SomeOrdering (levels : ℕ) (turn upper order : List ℕ) : Type 0 where
+pub record SomeOrdering (sizes turn upper order : List ℕ) : Type 0 where
   pub plan : PlanData
-  pub tables : Ordering plan levels turn upper order
+  pub tables : Ordering plan sizes turn upper order
 
 -- Room for the place of each vertex and for as many codes.
 pub record ShareRoom (order places codes : List ℕ) : Type 0 where

@@ -6,8 +6,8 @@ use Prim.Native.Nat.{ℕ, _≤_}
 use lib.ListN.{length, take}
 use Rattle.script_runs.specs.inner.Filled.{Buffers, requestWith, Within, shortened as shortenedRun}
 use Rattle.script_commands.specs.declared.types.Command.{Command as Found}
-use Rattle.script_commands.specs.declared.types.Command.the-variants.{Skip, Unknown, Load, Draw, Clear, Stage, Line, Lines, Mark, Marks, PlaceRun, Poke}
-use Rattle.script_commands.specs.Commands.{Command, skip, unknown, load, draw, clear, stage, line, lines, mark, marks, placeRun, poke}
+use Rattle.script_commands.specs.declared.types.Command.the-variants.{Skip, Unknown, Load, LoadTangled, Draw, Clear, Stage, Line, Lines, Mark, Marks, PlaceRun, Poke}
+use Rattle.script_commands.specs.Commands.{Command, skip, unknown, load, loadTangled, draw, clear, stage, line, lines, mark, marks, placeRun, poke}
 
 -- A buffer for the text of a load, and those for the lists of a run.
 pub record Lent : Type 0 where
@@ -21,6 +21,7 @@ abbrev pub commandIn : Found → Lent → Command
 commandIn Skip b = skip
 commandIn Unknown b = unknown
 commandIn (Load n) b = load (take n (b .text))
+commandIn (LoadTangled n) b = loadTangled (take n (b .text))
 commandIn Draw b = draw
 commandIn Clear b = clear
 commandIn Stage b = stage
@@ -36,6 +37,7 @@ abbrev pub shortened : Lent → Command → Command
 shortened b skip = skip
 shortened b unknown = unknown
 shortened b (load text) = load (take (length (b .text)) text)
+shortened b (loadTangled text) = loadTangled (take (length (b .text)) text)
 shortened b draw = draw
 shortened b clear = clear
 shortened b stage = stage
@@ -51,6 +53,7 @@ abbrev pub Inside : Lent → Found → Type 0
 Inside b Skip = Unit {0}
 Inside b Unknown = Unit {0}
 Inside b (Load n) = n ≤ length (b .text)
+Inside b (LoadTangled n) = n ≤ length (b .text)
 Inside b Draw = Unit {0}
 Inside b Clear = Unit {0}
 Inside b Stage = Unit {0}
@@ -72,6 +75,7 @@ abbrev pub isBare : Found → Bool
 isBare Skip = true
 isBare Unknown = true
 isBare (Load n) = false
+isBare (LoadTangled n) = false
 isBare Draw = true
 isBare Clear = true
 isBare Stage = true

@@ -3,16 +3,18 @@ use mathlib.Core.Bool.{Bool, true}
 use mathlib.Core.List.{List, []}
 use mathlib.Core.Path.{_≡_}
 use Prim.Native.Nat.{ℕ, _+_}
-use lib.ListN.{length, getD}
+use lib.ListN.{length, take, getD}
 use lib.Ieee.{Float}
 use Rattle.ints.specs.Lists.{concat}
 use Rattle.plan.specs.Plan.{PlanData}
 use Rattle.plan.specs.Stored.{planData}
 use Rattle.plan.specs.declared.data.Plan.{Plan}
+use Rattle.plan_renumber.specs.Renumber.{ownNumbers}
 use Rattle.report.specs.Refusal13.{isStoredPlan, isDrawingIn}
 use Rattle.passes.specs.Drawing.{Drawing, drawingOf}
 use Rattle.passes.specs.Demand3.{Demand3}
 use Rattle.report.specs.Lines.{reportLines}
+use Rattle.report.specs.Numbers.{inNumbers}
 use Rattle.marks.specs.declared.types.Mark.{Mark}
 use Rattle.marks.specs.Marks.{markOf, allNumbers}
 use Rattle.report.specs.declared.data.Drawing.{Drawing as Arrays}
@@ -30,6 +32,13 @@ drawingWith d c = drawingFrom d (c .vertices) (c .placings)
 abbrev pub isPlanWith : Plan → Counts → Bool
 isPlanWith p c = isStoredPlan p (c .vertices) (c .segments)
 
+-- The numbers of its vertices in the text, and 13 of them.
+abbrev pub numbersIn : List ℕ → Counts → List ℕ
+numbersIn m c = take (c .vertices) m
+
+abbrev pub areOwnWith : Plan → List ℕ → Counts → Bool
+areOwnWith p m c = ownNumbers (planWith p c) (numbersIn m c)
+
 abbrev pub isDrawingWith : Plan → Arrays → Counts → Bool
 isDrawingWith p d c = isDrawingIn p d (c .vertices) (c .segments) (c .placings)
 
@@ -42,11 +51,14 @@ pub record Holds (p : Plan) (d : Arrays) (c : Counts) : Type 0 where
 abbrev pub linesOf : Counts → ℕ
 linesOf c = c .vertices + c .placings + 2
 
-abbrev pub lineWith : Plan → Arrays → Counts → ℕ → List ℕ
-lineWith p d c n = getD (reportLines (planWith p c) (drawingWith d c)) n []
+abbrev pub linesWith : Plan → List ℕ → Arrays → Counts → List (List ℕ)
+linesWith p m d c = reportLines (planWith p c) (inNumbers (numbersIn m c) (drawingWith d c))
 
-abbrev pub reportWith : Plan → Arrays → Counts → List ℕ
-reportWith p d c = concat (reportLines (planWith p c) (drawingWith d c))
+abbrev pub lineWith : Plan → List ℕ → Arrays → Counts → ℕ → List ℕ
+lineWith p m d c n = getD (linesWith p m d c) n []
+
+abbrev pub reportWith : Plan → List ℕ → Arrays → Counts → List ℕ
+reportWith p m d c = concat (linesWith p m d c)
 
 abbrev pub marksOf : Counts → ℕ
 marksOf c = c .vertices + c .segments

@@ -22,9 +22,9 @@ fitted count content buffer = bufferAfter (firstRefusal (test14 content buffer �
 abbrev pub fittedText : List ℕ → List ℕ → TextOut
 fittedText text buffer = fitted (length text) text buffer
 
-unfoldable pub lineFrom : Plan → Arrays → Counts → ℕ → List ℕ → TextOut
-lineFrom p d c n buffer =
-    let text = lineWith p d c n in
+unfoldable pub lineFrom : Plan → List ℕ → Arrays → Counts → ℕ → List ℕ → TextOut
+lineFrom p m d c n buffer =
+    let text = lineWith p m d c n in
     textAfter (firstRefusal (check 7 (ltb n (linesOf c)) ∷ test14 text buffer ∷ [])) text buffer
 
 unfoldable pub markFrom : Plan → Arrays → Counts → ℕ → Result Mark

@@ -1,7 +1,7 @@
 -- `text_read::read_into` meets its contract: each way out is one of `reading`'s; `Verdict` says which check fails first.
 use native.Mathlib.Omega.{arith}
 use borrow.Author.Needs.{needs}
-use Rattle.text_read.proofs.Verdict.{reads-long, the-fronts, check-fails, all-pass}
+use Rattle.text_read.proofs.Verdict.{reads-long, not-long, the-fronts, reads-kept, check-fails, all-pass}
 use Rattle.text_read.proofs.read_into.Statement.{statement}
 use Rattle.text_read.proofs.read_into.Tie as tie
 
@@ -9,7 +9,9 @@ abbrev start : tie.After-scan → tie.Start
 start c = c .before .before .before .before .before .before .before .before .before .before .before .before .before
 
 returns : tie.Need-returns
-returns c = record { refuses = λ z. reads-long (c .before .before .before .before .before .before .before .args .text .now) (c .if1 .taken); accepts = λ z. absurd (omega arith) }
+returns c =
+    let text = c .before .before .before .before .before .before .before .args .text .now in
+    record { refuses = λ z. reads-long text (c .if1 .taken); accepts = λ z. absurd (omega arith); kept = λ p. not-long text p (c .if1 .taken) }
 
 scan-requires : tie.Need-scan-requires
 scan-requires c κs =
@@ -38,6 +40,7 @@ returns-2 c =
     record {
       refuses = λ z. check-fails text _ _ _ _ _ _ _ _ _ _ _ (s .scan .ensures) (s .before .before .before .before .before .before .if1 .left) _ (c .first-failed .ensures) z;
       accepts = λ z. all-pass text _ _ _ _ _ _ _ _ _ _ _ (s .scan .ensures) (s .before .before .before .before .before .before .if1 .left) _ (c .first-failed .ensures) z;
+      kept = reads-kept text _ _ _ _ _ _ _ _ _ _ _ (s .scan .ensures) (s .before .before .before .before .before .before .if1 .left);
     }
 
 pub read-into-spec : {M : Type 1} → statement M

@@ -7,7 +7,7 @@ use lib.ListN.{length, take}
 use Rattle.plan.specs.Plan.{PlanData}
 use Rattle.plan.specs.Limits.{maxLevels, maxVertices, maxSegments}
 use Rattle.plan.specs.inner.Held.{HoldsPlan}
-use Rattle.text.specs.Reading.{accepted, refused, reading}
+use Rattle.text.specs.Reading.{accepted, refused, reading, tangledReading}
 use Rattle.text_read.specs.inner.Filled.{Kept}
 use Rattle.text_read.specs.declared.form.Scanned.{Scanned}
 use Rattle.text_read.specs.declared.Found.{Found}
@@ -37,7 +37,8 @@ pub record Accepts (s : List ℕ) (r : Scanned) (sizes : List ℕ) (vias : List 
   pub kept : Kept plan r sizes vias halves uppers lowers sizes′ vias′ halves′ uppers′ lowers′
   pub fronts : InFronts plan r sizes′ vias′ halves′ uppers′ lowers′
 
--- Refused by the first check that fails, or accepted.
+-- Refused by the first check that fails, or accepted. What passes checks 1 to 5 is in the arrays, whether 6 refuses it or not.
 pub record Finds (s : List ℕ) (r : Found) (sizes : List ℕ) (vias : List Bool) (halves uppers lowers sizes′ : List ℕ) (vias′ : List Bool) (halves′ uppers′ lowers′ : List ℕ) : Type 0 where
   pub refuses : (r .failed ≡ 0 → ⊥) → reading s ≡ refused (r .failed)
   pub accepts : r .failed ≡ 0 → Accepts s (r .scanned) sizes vias halves uppers lowers sizes′ vias′ halves′ uppers′ lowers′
+  pub kept : (p : PlanData) → tangledReading s ≡ accepted p → Kept p (r .scanned) sizes vias halves uppers lowers sizes′ vias′ halves′ uppers′ lowers′

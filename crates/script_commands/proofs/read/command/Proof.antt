@@ -9,9 +9,10 @@ use Rattle.script_words.specs.Parts.{words}
 use Rattle.script_texts.specs.Texts.{unescaped}
 use Rattle.script_words.proofs.PartLaws.{rest}
 use Rattle.script_runs.specs.inner.Filled.{buffers}
-use Rattle.script_commands.specs.Table.{calls, planPokes, drawingPokes, saidBy, loading, placing}
+use Rattle.script_commands.specs.Commands.{load, loadTangled}
+use Rattle.script_commands.specs.Table.{calls, planPokes, loadingPokes, drawingPokes, saidBy, loading, placing}
 use Rattle.script_commands.specs.inner.Held.{lent, shortened}
-use Rattle.script_commands.proofs.TableLaws.{command-skip, command-load, command-place, command-said, bare-command}
+use Rattle.script_commands.proofs.TableLaws.{command-skip, command-load, command-tangled, command-place, command-said, bare-command}
 use Rattle.script_commands.proofs.read.command.Statement.{statement}
 use Rattle.script_commands.proofs.read.command.Tie as tie
 
@@ -38,17 +39,38 @@ returns-2 c =
     let l = a .line .now in
     let e = command-load l (sym (c9 .is-skipped .ensures) ∙ c8 .if1 .left) (drop 14 l)
     (has (c6 .word-at .ensures) (c .before .before .before .before .before .if2 .taken)) in
-    rw (e ∙ ap (λ s. loading (unescaped s)) (sym (rest 14 l)))
+    rw (e ∙ ap (λ s. loading load (unescaped s)) (sym (rest 14 l)))
     (c .before .before .load .ensures (buffers (a .old .now) (a .distances .now) (a .counts .now) (a .neighbours .now)))
 
-sub-place-run : tie.Need-sub-place-run
-sub-place-run c = c .before .word-at2 .ensures .inside (c .if3 .taken)
+sub-load-tangled : tie.Need-sub-load-tangled
+sub-load-tangled c = c .before .word-at2 .ensures .inside (c .if3 .taken)
 
-part-place-run-start : tie.Need-part-place-run-start
-part-place-run-start c = omega (arith, c .before .word-at2 .ensures .inside (c .if3 .taken))
+part-load-tangled-start : tie.Need-part-load-tangled-start
+part-load-tangled-start c = omega (arith, c .before .word-at2 .ensures .inside (c .if3 .taken))
 
 returns-3 : tie.Need-returns-3
 returns-3 c =
+    let c6 = c .before .before .before .before .before .before in
+    let c8 = c6 .before .before in
+    let c9 = c8 .before in
+    let c11 = c9 .before .before in
+    let c12 = c11 .before in
+    let c17 = c12 .before .before .before .before .before in
+    let a = c17 .args in
+    let l = a .line .now in
+    let e = command-tangled l (sym (c12 .is-skipped .ensures) ∙ c11 .if1 .left) (has-not (c9 .word-at .ensures) (c8 .if2 .left)) (drop 15 l)
+    (has (c6 .word-at2 .ensures) (c .before .before .before .before .before .if3 .taken)) in
+    rw (e ∙ ap (λ s. loading loadTangled (unescaped s)) (sym (rest 15 l)))
+    (c .before .before .load-tangled .ensures (buffers (a .old .now) (a .distances .now) (a .counts .now) (a .neighbours .now)))
+
+sub-place-run : tie.Need-sub-place-run
+sub-place-run c = c .before .word-at3 .ensures .inside (c .if4 .taken)
+
+part-place-run-start : tie.Need-part-place-run-start
+part-place-run-start c = omega (arith, c .before .word-at3 .ensures .inside (c .if4 .taken))
+
+returns-4 : tie.Need-returns-4
+returns-4 c =
     let c6 = c .before .before .before .before .before .before in
     let c12 = c6 .before .before .before .before .before .before in
     let c13 = c12 .before in
@@ -56,31 +78,38 @@ returns-3 c =
     let c16 = c15 .before in
     let c18 = c16 .before .before in
     let c19 = c18 .before in
-    let c24 = c19 .before .before .before .before .before in
-    let a = c24 .args in
+    let c21 = c19 .before .before in
+    let c22 = c21 .before in
+    let c27 = c22 .before .before .before .before .before in
+    let a = c27 .args in
     let l = a .line .now in
     let e =
-    command-place l (sym (c19 .is-skipped .ensures) ∙ c18 .if1 .left) (has-not (c16 .word-at .ensures) (c15 .if2 .left)) (drop 9 l)
-    (has (c13 .word-at2 .ensures) (c12 .if3 .taken)) in
+    command-place l (sym (c22 .is-skipped .ensures) ∙ c21 .if1 .left) (has-not (c19 .word-at .ensures) (c18 .if2 .left))
+    (has-not (c16 .word-at2 .ensures) (c15 .if3 .left)) (drop 9 l)
+    (has (c13 .word-at3 .ensures) (c12 .if4 .taken)) in
     rw (e ∙ ap (λ s. placing (words s)) (sym (rest 9 l))) (c6 .place-run .ensures (a .text .now))
 
-returns-4 : tie.Need-returns-4
-returns-4 c =
-    let c7 = c .before .before .before .before .before .before .before in
+returns-5 : tie.Need-returns-5
+returns-5 c =
+    let c5 = c .before .before .before .before .before in
+    let c7 = c5 .before .before in
     let c8 = c7 .before in
-    let c13 = c8 .before .before .before .before .before in
-    let a = c13 .args in
+    let c10 = c8 .before .before in
+    let c11 = c10 .before in
+    let c16 = c11 .before .before .before .before .before in
+    let a = c16 .args in
     let l = a .line .now in
     let b = lent (a .text .now) (buffers (a .old .now) (a .distances .now) (a .counts .now) (a .neighbours .now)) in
-    let e = command-said l (sym (c8 .is-skipped .ensures) ∙ c7 .if1 .left)
-    (has-not (c .before .before .before .before .before .word-at .ensures) (c .before .before .before .before .if2 .left))
-    (has-not (c .before .before .word-at2 .ensures) (c .before .if3 .left)) in
-    rw e (bare-command (saidBy (calls ++ planPokes ++ drawingPokes) l) (c .said .result) b (c .said .ensures))
+    let e = command-said l (sym (c11 .is-skipped .ensures) ∙ c10 .if1 .left)
+    (has-not (c8 .word-at .ensures) (c7 .if2 .left)) (has-not (c5 .word-at2 .ensures) (c .before .before .before .before .if3 .left))
+    (has-not (c .before .before .word-at3 .ensures) (c .before .if4 .left)) in
+    rw e (bare-command (saidBy (calls ++ planPokes ++ loadingPokes ++ drawingPokes) l) (c .said .result) b (c .said .ensures))
 
 pub command-spec : {M : Type 1} → statement M
 command-spec =
     tie.close
     (tie.spec (λ c κs. search needs) returns (λ c. search needs) (λ c κs. search needs) sub-load part-load-start (λ c. search needs)
-    (λ c κs. search needs) (λ c. search needs) returns-2 (λ c. search needs) (λ c κs. search needs) sub-place-run part-place-run-start
-    (λ c. search needs) (λ c κs. search needs) (λ c. search needs) (λ c. search needs) (λ c. search needs) (λ c. search needs) returns-3
-    (λ c κs. search needs) returns-4)
+    (λ c κs. search needs) (λ c. search needs) returns-2 (λ c. search needs) (λ c κs. search needs) sub-load-tangled part-load-tangled-start
+    (λ c. search needs) (λ c κs. search needs) (λ c. search needs) returns-3 (λ c. search needs) (λ c κs. search needs) sub-place-run
+    part-place-run-start (λ c. search needs) (λ c κs. search needs) (λ c. search needs) (λ c. search needs) (λ c. search needs)
+    (λ c. search needs) returns-4 (λ c κs. search needs) returns-5)

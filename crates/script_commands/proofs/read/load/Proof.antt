@@ -1,9 +1,10 @@
 -- `script_commands::read::load` meets its contract: what the text leaves in the buffer.
-use mathlib.Core.Path.{ap}
+use mathlib.Core.Path.{refl, ap}
 use native.Mathlib.Omega.{arith}
 use borrow.Author.Needs.{needs}
 use Rattle.script_texts.specs.Texts.{unescaped}
 use Rattle.script_texts.specs.inner.Units.{sizeIn}
+use Rattle.script_commands.specs.Commands.{load}
 use Rattle.script_commands.specs.inner.Held.{lent}
 use Rattle.script_commands.proofs.TableLaws.{load-text, load-bad}
 use Rattle.script_commands.proofs.read.load.Statement.{statement}
@@ -16,7 +17,7 @@ returns c = λ b.
     let u = c .before .before .before .before .before .unescape in
     let r = c .before .r .given in
     record {
-      says = load-text (lent (a .text .now) b) (unescaped (a .escaped .now)) (u .result) (u .last .1 .0) (u .ensures .holds) (r .0 .0) (r .1);
+      says = load-text (lent (a .text .now) b) load (λ t. refl) (unescaped (a .escaped .now)) (u .result) (u .last .1 .0) (u .ensures .holds) (r .0 .0) (r .1);
       inside = omega (arith, u .ensures .inside, ap sizeIn (r .1));
     }
 
@@ -26,7 +27,7 @@ returns-2 c = λ b.
     let a = c8 .args in
     let u = c .before .before .before .before .unescape in
     record {
-      says = load-bad (lent (a .text .now) b) (unescaped (a .escaped .now)) (u .result) (u .last .1 .0) (u .ensures .holds)
+      says = load-bad (lent (a .text .now) b) load (λ t. refl) (unescaped (a .escaped .now)) (u .result) (u .last .1 .0) (u .ensures .holds)
           (c .enum-told .given .1);
       inside = tt;
     }

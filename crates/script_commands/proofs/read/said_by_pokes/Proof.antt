@@ -1,9 +1,10 @@
 -- `script_commands::read::said_by_pokes` meets its contract: the arms of the match are the rows of the table.
 use mathlib.Core.Path.{_≡_, refl, sym, _∙_, ap}
+use mathlib.Core.List.{_++_}
 use native.Mathlib.Omega.{arith}
 use borrow.Author.Needs.{needs}
 use Rattle.script_forms.specs.inner.First.{firstForm}
-use Rattle.script_commands.specs.Table.{planPokes, drawingPokes}
+use Rattle.script_commands.specs.Table.{planPokes, loadingPokes, drawingPokes}
 use Rattle.script_commands.proofs.TableLaws.{formsOf, said-at, said-none, above, plan-forms}
 use Rattle.script_commands.proofs.read.said_by_pokes.Statement.{statement}
 use Rattle.script_commands.proofs.read.said_by_pokes.Tie as tie
@@ -15,7 +16,7 @@ found c = c .first-form .ensures ∙ ap (λ fs. firstForm fs (c .before .before 
 returns : tie.Need-returns
 unfolding planPokes
 returns c = record {
-  says = λ b. sym (said-at (c .before .before .before .before .before .args .line .now) planPokes drawingPokes 0
+  says = λ b. sym (said-at (c .before .before .before .before .before .args .line .now) planPokes (loadingPokes ++ drawingPokes) 0
       (sym (found (c .before)) ∙ c .match .keys1) (omega arith));
   bare = refl;
 }
@@ -26,7 +27,7 @@ returns-2 c =
     let c7 = c .before .before .before .before .before .before .before in
     record {
       says = λ b. rw (c .before .whole-at .ensures, c .whole-at2 .ensures)
-          (sym (said-at (c7 .args .line .now) planPokes drawingPokes 1 (sym (found (c .before .before .before)) ∙ c .before .before .match .keys2)
+          (sym (said-at (c7 .args .line .now) planPokes (loadingPokes ++ drawingPokes) 1 (sym (found (c .before .before .before)) ∙ c .before .before .match .keys2)
           (omega arith)));
       bare = refl;
     }
@@ -37,7 +38,7 @@ returns-3 c =
     let c8 = c .before .before .before .before .before .before .before .before in
     record {
       says = λ b. rw (c .before .before .whole-at3 .ensures, c .before .whole-at4 .ensures, c .whole-at5 .ensures)
-          (sym (said-at (c8 .args .line .now) planPokes drawingPokes 2
+          (sym (said-at (c8 .args .line .now) planPokes (loadingPokes ++ drawingPokes) 2
           (sym (found (c .before .before .before .before)) ∙ c .before .before .before .match .keys3) (omega arith)));
       bare = refl;
     }
@@ -47,7 +48,7 @@ unfolding planPokes
 returns-4 c =
     let c6 = c .before .before .before .before .before .before in
     record {
-      says = λ b. rw (c .whole-at6 .ensures) (sym (said-at (c6 .args .line .now) planPokes drawingPokes 3
+      says = λ b. rw (c .whole-at6 .ensures) (sym (said-at (c6 .args .line .now) planPokes (loadingPokes ++ drawingPokes) 3
           (sym (found (c .before .before)) ∙ c .before .match .keys4) (omega arith)));
       bare = refl;
     }
@@ -57,7 +58,7 @@ unfolding planPokes
 returns-5 c =
     let c6 = c .before .before .before .before .before .before in
     record {
-      says = λ b. rw (c .whole-at7 .ensures) (sym (said-at (c6 .args .line .now) planPokes drawingPokes 4
+      says = λ b. rw (c .whole-at7 .ensures) (sym (said-at (c6 .args .line .now) planPokes (loadingPokes ++ drawingPokes) 4
           (sym (found (c .before .before)) ∙ c .before .match .keys5) (omega arith)));
       bare = refl;
     }
@@ -67,7 +68,7 @@ unfolding planPokes
 returns-6 c =
     let c6 = c .before .before .before .before .before .before in
     record {
-      says = λ b. rw (c .whole-at8 .ensures) (sym (said-at (c6 .args .line .now) planPokes drawingPokes 5
+      says = λ b. rw (c .whole-at8 .ensures) (sym (said-at (c6 .args .line .now) planPokes (loadingPokes ++ drawingPokes) 5
           (sym (found (c .before .before)) ∙ c .before .match .keys6) (omega arith)));
       bare = refl;
     }
@@ -78,7 +79,7 @@ returns-7 c =
     let c7 = c .before .before .before .before .before .before .before in
     record {
       says = λ b. rw (c .before .whole-at9 .ensures, c .whole-at10 .ensures)
-          (sym (said-at (c7 .args .line .now) planPokes drawingPokes 6 (sym (found (c .before .before .before)) ∙ c .before .before .match .keys7)
+          (sym (said-at (c7 .args .line .now) planPokes (loadingPokes ++ drawingPokes) 6 (sym (found (c .before .before .before)) ∙ c .before .before .match .keys7)
           (omega arith)));
       bare = refl;
     }
@@ -89,7 +90,7 @@ returns-8 c =
     let c7 = c .before .before .before .before .before .before .before in
     record {
       says = λ b. rw (c .before .whole-at11 .ensures, c .whole-at12 .ensures)
-          (sym (said-at (c7 .args .line .now) planPokes drawingPokes 7 (sym (found (c .before .before .before)) ∙ c .before .before .match .keys8)
+          (sym (said-at (c7 .args .line .now) planPokes (loadingPokes ++ drawingPokes) 7 (sym (found (c .before .before .before)) ∙ c .before .before .match .keys8)
           (omega arith)));
       bare = refl;
     }
@@ -100,7 +101,7 @@ returns-9 c =
     let c7 = c .before .before .before .before .before .before .before in
     record {
       says = λ b. rw (c .before .whole-at13 .ensures, c .whole-at14 .ensures)
-          (sym (said-at (c7 .args .line .now) planPokes drawingPokes 8 (sym (found (c .before .before .before)) ∙ c .before .before .match .keys9)
+          (sym (said-at (c7 .args .line .now) planPokes (loadingPokes ++ drawingPokes) 8 (sym (found (c .before .before .before)) ∙ c .before .before .match .keys9)
           (omega arith)));
       bare = refl;
     }
@@ -111,7 +112,7 @@ returns-10 c =
     let c8 = c .before .before .before .before .before .before .before .before in
     record {
       says = λ b. rw (c .before .before .whole-at15 .ensures, c .before .whole-at16 .ensures, c .whole-at17 .ensures)
-          (sym (said-at (c8 .args .line .now) planPokes drawingPokes 9
+          (sym (said-at (c8 .args .line .now) planPokes (loadingPokes ++ drawingPokes) 9
           (sym (found (c .before .before .before .before)) ∙ c .before .before .before .match .keys10) (omega arith)));
       bare = refl;
     }
@@ -125,9 +126,9 @@ returns-11 c =
     (above 3 (above 2 (above 1 (above 0 (omega arith) (n .0 .0 .0 .0 .0 .0 .0 .0 .0 .1)) (n .0 .0 .0 .0 .0 .0 .0 .0 .1))
     (n .0 .0 .0 .0 .0 .0 .0 .1)) (n .0 .0 .0 .0 .0 .0 .1)) (n .0 .0 .0 .0 .0 .1)) (n .0 .0 .0 .0 .1)) (n .0 .0 .0 .1)) (n .0 .0 .1)) (n .0 .1))
     (n .1)) in
-    let s = c .said-by-drawing-pokes .ensures in
+    let s = c .said-by-loading-pokes .ensures in
     record {
-      says = λ b. s .says b ∙ sym (said-none (c6 .args .line .now) planPokes drawingPokes (omega (arith, h, found (c .before .before))));
+      says = λ b. s .says b ∙ sym (said-none (c6 .args .line .now) planPokes (loadingPokes ++ drawingPokes) (omega (arith, h, found (c .before .before))));
       bare = s .bare;
     }
 

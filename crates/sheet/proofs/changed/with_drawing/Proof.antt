@@ -4,7 +4,7 @@ use Rattle.sheet.proofs.changed.with_drawing.Statement.{statement}
 use Rattle.sheet.proofs.changed.with_drawing.Tie as tie
 
 returns : tie.Need-returns
-returns c = rw (c .before .before .counts-in .ensures)
+returns c = rw (c .before .before .before .counts-in .ensures)
 
 pub with-drawing-spec : {M : Type 1} → statement M
 with-drawing-spec = tie.close

@@ -12,18 +12,18 @@ plan-arrays c = record { sizes = search needs; vias = search needs; halves = sea
 
 returns : tie.Need-returns
 returns c =
-    let a = c .before .before .before .before .before .before .args in
-    writes-marks (a .sheet) (a .out .now) (plan-arrays (c .before .before .before .before .before .before))
+    let a = c .before .before .before .before .before .before .before .args in
+    writes-marks (a .sheet) (a .out .now) (plan-arrays (c .before .before .before .before .before .before .before))
     (writes (marks-refused (a .sheet) (c .before .show-refusal .result) (c .before .show-refusal .ensures) (c .if1 .taken) (a .out .now)) (record { answered = refl; left = refl }))
 
 marks-of-requires : tie.Need-marks-of-requires
 marks-of-requires c κs =
-    rw (c .before .counts-in .ensures) (holds (c .before .before .before .before .before .before .before .before .args .sheet) (c .before .before .before .show-refusal .result) (c .before .before .before .show-refusal .ensures) (c .before .before .if1 .left))
+    rw (c .before .counts-in .ensures) (holds (c .before .before .before .before .before .before .before .before .before .args .sheet) (c .before .before .before .show-refusal .result) (c .before .before .before .show-refusal .ensures) (c .before .before .if1 .left))
 
 returns-2 : tie.Need-returns-2
 returns-2 c =
-    let a = c .before .before .before .before .before .before .before .before .before .before .before .args in
-    writes-marks (a .sheet) (a .out .now) (plan-arrays (c .before .before .before .before .before .before .before .before .before .before .before))
+    let a = c .before .before .before .before .before .before .before .before .before .before .before .before .args in
+    writes-marks (a .sheet) (a .out .now) (plan-arrays (c .before .before .before .before .before .before .before .before .before .before .before .before))
     (writes (marks-shown (a .sheet) (c .before .before .before .before .before .before .show-refusal .result) (c .before .before .before .before .before .before .show-refusal .ensures) (c .before .before .before .before .before .if1 .left) (a .out .now)) (rw (c .before .before .before .before .counts-in .ensures) at (c .before .before .marks-of .ensures)))
 
 pub marks-spec : {M : Type 1} → statement M

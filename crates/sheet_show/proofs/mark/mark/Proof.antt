@@ -8,16 +8,16 @@ use Rattle.sheet_show.proofs.mark.mark.Tie as tie
 
 returns : tie.Need-returns
 returns c =
-    let a = c .before .before .before .before .before .args in
+    let a = c .before .before .before .before .before .before .args in
     gives-mark (a .sheet) (a .n) (sym (mark-refused (a .sheet) (c .before .show-refusal .result) (c .before .show-refusal .ensures) (c .if1 .taken) (a .n)))
 
 mark-of-requires : tie.Need-mark-of-requires
 mark-of-requires c κs =
-    rw (c .counts-in .ensures) (holds (c .before .before .before .before .before .before .args .sheet) (c .before .before .show-refusal .result) (c .before .before .show-refusal .ensures) (c .before .if1 .left))
+    rw (c .counts-in .ensures) (holds (c .before .before .before .before .before .before .before .args .sheet) (c .before .before .show-refusal .result) (c .before .before .show-refusal .ensures) (c .before .if1 .left))
 
 returns-2 : tie.Need-returns-2
 returns-2 c =
-    let a = c .before .before .before .before .before .before .before .args in
+    let a = c .before .before .before .before .before .before .before .before .args in
     gives-mark (a .sheet) (a .n)
     (rw (c .before .counts-in .ensures) at (c .mark-of .ensures) ∙ sym (mark-shown (a .sheet) (c .before .before .before .show-refusal .result) (c .before .before .before .show-refusal .ensures) (c .before .before .if1 .left) (a .n)))
 

@@ -1,0 +1,3 @@
+pub mod SecondWay
+pub mod Ways
+pub mod TextLaws

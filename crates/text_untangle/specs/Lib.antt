@@ -1,0 +1,3 @@
+pub mod Untangled
+pub mod Text
+pub mod inner

@@ -1,0 +1,3 @@
+-- Words of inner contracts: which arrays hold what. No public promise rests on them.
+pub mod Fronts
+pub mod Held
