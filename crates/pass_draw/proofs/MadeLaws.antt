@@ -16,11 +16,11 @@ use Rattle.plan.specs.inner.Held.{HoldsPlan}
 use Rattle.pass_tables.specs.inner.Moments.{Some}
 use Rattle.pass_list.specs.inner.Listing.{columns}
 use Rattle.pass_draw.specs.inner.Drawn.{Wanted, Drawn, Unlisted, planLists, Outset}
-use Rattle.pass_draw.specs.inner.Made.{Blank, Made, Room, Done, drawingAt}
+use Rattle.pass_draw.specs.inner.Made.{Blank, Made, BlankIfWanted, MadeIfWanted, drawingAt}
 
 -- The arrays of an empty list.
 pub room : {gap : ℕ} {ns : List ℕ} {vias : List Bool} {halves uppers lowers : List ℕ} {xs ys : List ℤ} {passes levels counts vertices : List ℕ} {positions : List ℤ}
-    → Blank gap ns vias halves uppers lowers xs ys passes levels counts vertices positions → Room gap ns vias halves uppers lowers xs ys passes levels counts vertices positions
+    → Blank gap ns vias halves uppers lowers xs ys passes levels counts vertices positions → BlankIfWanted gap ns vias halves uppers lowers xs ys passes levels counts vertices positions
 room b = record {
   some = b .some;
   preliminaryRoom = b .preliminaryRoom;
@@ -30,7 +30,7 @@ room b = record {
 
 -- With the preliminary positions in place the three passes can begin.
 pub ready : {gap : ℕ} {ns : List ℕ} {vias : List Bool} {halves uppers lowers : List ℕ} {xs ys at : List ℤ} {passes levels counts vertices : List ℕ} {positions : List ℤ}
-    → (b : Room gap ns vias halves uppers lowers xs ys passes levels counts vertices positions)
+    → (b : BlankIfWanted gap ns vias halves uppers lowers xs ys passes levels counts vertices positions)
     → at ≡ spec.preliminary (b .some .plan)
     → Some (Outset (planLists gap ns vias halves uppers lowers) at) × (Wanted (columns passes levels counts vertices positions) → Unlisted (columns passes levels counts vertices positions))
 ready b e = (
@@ -60,5 +60,5 @@ module _ {p : PlanData} {n b : ℕ} {xs ys : List ℤ} {passes levels counts ver
     demand3 = subst (Demand3 p) (sym (drawing-is w)) (theorem.demand3 p (l .ok));
   }
 
-  pub done : {gap : ℕ} {ns : List ℕ} {vias : List Bool} {halves uppers lowers : List ℕ} → HoldsPlan p gap ns vias halves uppers lowers → Done p n xs ys passes levels counts vertices positions
+  pub done : {gap : ℕ} {ns : List ℕ} {vias : List Bool} {halves uppers lowers : List ℕ} → HoldsPlan p gap ns vias halves uppers lowers → MadeIfWanted p n xs ys passes levels counts vertices positions
   done l = record { started = from ∙ sym (preliminary-of p); ended = d .final; made = made l }

@@ -5,7 +5,7 @@ ghost use mathlib.Core.Path.{_≡_};
 ghost use lib.ListN.{length};
 ghost use Rattle.plan.specs.Plan.{PlanData};
 ghost use Rattle.plan.specs.inner.Held.{HoldsPlan};
-ghost use Rattle.pass_draw.specs.inner.Made.{Blank, Made, Room, Done};
+ghost use Rattle.pass_draw.specs.inner.Made.{Blank, Made, BlankIfWanted, MadeIfWanted};
 
 pub fn copy_positions(from: &[i64], to: &mut [i64])
     requires { ⌜ length (now to) ≡ length (now from) ⌝ }
@@ -34,10 +34,10 @@ pub fn make_drawing(
     vertices: &mut [u16],
     positions: &mut [i64],
 ) -> usize
-    requires { ⌜ Room gap (now lengths) (now vias) (now halves) (now uppers) (now lowers) (now preliminary) (now finals)
+    requires { ⌜ BlankIfWanted gap (now lengths) (now vias) (now halves) (now uppers) (now lowers) (now preliminary) (now finals)
         (now passes) (now levels) (now counts) (now vertices) (now positions) ⌝ }
     ensures { λ r. ⌜ ((p : PlanData) → HoldsPlan p gap (now (lengths .entry)) (now (vias .entry)) (now (halves .entry)) (now (uppers .entry)) (now (lowers .entry))
-        → Done p r (now (preliminary .exit)) (now (finals .exit)) (now (passes .exit)) (now (levels .exit)) (now (counts .exit)) (now (vertices .exit)) (now (positions .exit))) ⌝ }
+        → MadeIfWanted p r (now (preliminary .exit)) (now (finals .exit)) (now (passes .exit)) (now (levels .exit)) (now (counts .exit)) (now (vertices .exit)) (now (positions .exit))) ⌝ }
 {
     preliminary_positions(gap, lengths, vias, halves, uppers, lowers, preliminary);
     copy_positions(preliminary, finals);

@@ -18,7 +18,7 @@ use Rattle.pass_tables.specs.inner.Moments.{stateAfter, AtVisit}
 use Rattle.pass_tables.proofs.RunEnds.{left-on}
 use Rattle.pass_tables.proofs.Due.{InOrder, left-none, left-some, right-none, right-some, in-order, due-left, due-right, due-third, due-ready}
 use Rattle.pass_tables.proofs.ReadyLaws.{left-inside, right-inside, before-inside, after-inside, ready-is}
-use Rattle.pass_visits.specs.inner.Visits.{Work, Asks, Visiting}
+use Rattle.pass_visits.specs.inner.Visits.{Work, AsksReadiness, Visiting}
 
 module _ {q start from end to : ℕ} {k : Work} {m : AtVisit} (v : Visiting q start from end to k m) where
   abbrev p : PlanData
@@ -79,7 +79,7 @@ module _ {q start from end to : ℕ} {k : Work} {m : AtVisit} (v : Visiting q st
     pub due-in-third : getD marks (from - 1) false ≡ true → q ≡ 3 → eqb q 3 ≡ isDue p q (stateAfter p past) (w .run)
     due-in-third e z = eq-eqb q 3 z ∙ sym e ∙ sym (due-third (v .held .unsettled) (v .run .is) (from - 1) end left-is right-is q z)
 
-    asks : getD marks (from - 1) false ≡ true → (q ≡ 3 → ⊥) → Asks p q (w .run .level) marks
+    asks : getD marks (from - 1) false ≡ true → (q ≡ 3 → ⊥) → AsksReadiness p q (w .run .level) marks
     asks e n = record { notThird = n; via = from - 1; on = left-on (v .run .is) (from - 1) left-is; unsettled = e }
 
     pub due-if-ready : getD marks (from - 1) false ≡ true → (q ≡ 3 → ⊥) → readyBy before after counts (from - 1) end ≡ isDue p q (stateAfter p past) (w .run)

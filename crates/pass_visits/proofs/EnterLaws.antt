@@ -12,7 +12,7 @@ use Rattle.pass_tables.specs.inner.Joins.{Joinable}
 use Rattle.pass_tables.proofs.Near.{joinable}
 use Rattle.pass_tables.specs.inner.Moments.{AtLevel}
 use Rattle.pass_visits.specs.inner.Visits.{work, Levelling}
-use Rattle.pass_visits.specs.inner.Passing.{PassWork, Made, LevelNext}
+use Rattle.pass_visits.specs.inner.Passing.{PassWork, TablesMade, LevelNext}
 
 module _ {q low high start to : ℕ} {vias : List Bool} {w : PassWork} {m : AtLevel} (k : LevelNext q low high start to vias w m) where
   abbrev p : PlanData
@@ -47,7 +47,7 @@ module _ {q low high start to : ℕ} {vias : List Bool} {w : PassWork} {m : AtLe
 
   -- the tables once made
   pub made : {before after counts : List ℕ} → length before ≡ 1024 → length after ≡ 1024 → length counts ≡ 1024
-      → ((q ≡ 3 → ⊥) → (u : ℕ) → start ≤ u → u < to → getD marks u false ≡ true → Made low high start to vias first ends before after counts marks)
+      → ((q ≡ 3 → ⊥) → (u : ℕ) → start ≤ u → u < to → getD marks u false ≡ true → TablesMade low high start to vias first ends before after counts marks)
       → Levelling q start to vias (work first ends before after counts (w .at) (w .apart) marks) m
   made {before} {after} {counts} e f g tables = record {
     enter = k .enter;

@@ -17,7 +17,7 @@ use Rattle.passes.proofs.RunsOn.{runs-are}
 use Rattle.passes.specs.inner.Schedule.{Visit, visitOf}
 use Rattle.pass_tables.specs.inner.Tables.{nextVia}
 use Rattle.pass_tables.specs.inner.Moments.{Held, RunIs, Tables, AtVisit, AtLevel}
-use Rattle.pass_visits.specs.inner.Visits.{Work, worked, Asks, Visiting, Visited, Levelling, LevelDone}
+use Rattle.pass_visits.specs.inner.Visits.{Work, worked, AsksReadiness, Visiting, Visited, Levelling, LevelDone}
 use Rattle.pass_tables.proofs.RunsAhead.{Ahead, all-ahead, NextRun, next-run, none-left}
 
 pub record Midway (q from : ℕ) (k : Work) (m : AtLevel) : Type 0 where
@@ -26,7 +26,7 @@ pub record Midway (q from : ℕ) (k : Work) (m : AtLevel) : Type 0 where
   pub split : runsOn (m .plan) (m .level) ≡ done ++ rest
   pub runs : Ahead (m .plan) (m .level) from rest
   pub held : Held (m .plan) (m .past ++ map (visitOf q) done) (map (visitOf q) rest ++ m .coming) (k .at) (k .apart) (k .marks)
-  pub tables : Asks (m .plan) q (m .level) (k .marks) → Tables (m .plan) q (m .level) (k .first) (k .ends) (k .before) (k .after) (k .counts) (k .marks)
+  pub tables : AsksReadiness (m .plan) q (m .level) (k .marks) → Tables (m .plan) q (m .level) (k .first) (k .ends) (k .before) (k .after) (k .counts) (k .marks)
 
 module _ {q start to : ℕ} {vias : List Bool} {k : Work} {x : AtLevel} (t : Levelling q start to vias k x) where
   abbrev p : PlanData
@@ -102,7 +102,7 @@ module _ {q start to : ℕ} {vias : List Bool} {k : Work} {x : AtLevel} (t : Lev
         pass = refl;
         run = stands;
         near = t .enter .near;
-        tables = subst (λ (n : ℕ). Asks p q n marks → Tables p q n first ends before after counts marks) (sym (next .level)) (m .tables);
+        tables = subst (λ (n : ℕ). AsksReadiness p q n marks → Tables p q n first ends before after counts marks) (sym (next .level)) (m .tables);
       }
 
       -- ---- and after it
@@ -117,7 +117,7 @@ module _ {q start to : ℕ} {vias : List Bool} {k : Work} {x : AtLevel} (t : Lev
         split = m .split ∙ ap (λ (rs : List Run). m .done ++ rs) (next .is) ∙ sym (append-assoc (m .done) (next .run ∷ []) (next .more));
         runs = subst (λ (i : ℕ). Ahead p l i (next .more)) f (next .later);
         held = subst (λ (vs : List Visit). Held p vs coming-then at′ apart′ marks′) past-then (v .held);
-        tables = subst (λ (n : ℕ). Asks p q n marks′ → Tables p q n first ends before after counts marks′) (next .level) (v .tables);
+        tables = subst (λ (n : ℕ). AsksReadiness p q n marks′ → Tables p q n first ends before after counts marks′) (next .level) (v .tables);
       }
 
     -- ---- all are visited

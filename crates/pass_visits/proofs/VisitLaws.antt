@@ -16,7 +16,7 @@ use Rattle.pass_tables.proofs.RunEnds.{left-on}
 use Rattle.pass_tables.proofs.Due.{and-no, left-none, left-some, right-none, open-left, open-right}
 use Rattle.pass_tables.proofs.Settle.{whole-next, held-skipped, open-kept, bounded-settled}
 use Rattle.pass_tables.proofs.TablesKept.{tables-settled}
-use Rattle.pass_visits.specs.inner.Visits.{Work, worked, Asks, Visiting, Asking, Visited, isDueAt, settled}
+use Rattle.pass_visits.specs.inner.Visits.{Work, worked, AsksReadiness, Visiting, Asking, Visited, isDueAt, settled}
 use Rattle.pass_visits.proofs.DueLaws.{order, not-due, is-due}
 
 -- ---- the marks
@@ -45,7 +45,7 @@ unset (t ∷ ts) zero (suc v) e = e
 unset (t ∷ ts) (suc i) zero e = e
 unset (t ∷ ts) (suc i) (suc v) e = unset ts i v e
 
-asked-before : {p : PlanData} {q l : ℕ} {marks : List Bool} (i : ℕ) → Asks p q l (set marks i false) → Asks p q l marks
+asked-before : {p : PlanData} {q l : ℕ} {marks : List Bool} (i : ℕ) → AsksReadiness p q l (set marks i false) → AsksReadiness p q l marks
 asked-before {marks = marks} i a = record { notThird = a .notThird; via = a .via; on = a .on; unsettled = unset marks i (a .via) (a .unsettled) }
 
 pub asking : {q start from end to : ℕ} {k : Work} {m : AtVisit} → Visiting q start from end to k m → Asking q start from end to (k .before) (k .after) (k .counts) (k .marks) m
@@ -99,7 +99,7 @@ module _ {q start from end to : ℕ} {k : Work} {m : AtVisit} (v : Visiting q st
     -- the marks then
     record Kept (marks′ : List Bool) : Type 0 where
       pub unsettled : Unsettled p (stateAfter p (past ++ w ∷ [])) marks′
-      pub tables : Asks p q (w .run .level) marks′ → Tables p q (w .run .level) first ends before after counts marks′
+      pub tables : AsksReadiness p q (w .run .level) marks′ → Tables p q (w .run .level) first ends before after counts marks′
 
     kept : Kept (settled start from end to marks)
     kept = cases from start

@@ -14,7 +14,7 @@ ghost use Rattle.plan.specs.Limits.{maxVertices};
 ghost use Rattle.pass_tables.specs.inner.Joins.{Joinable};
 ghost use Rattle.pass_tables.specs.inner.Moments.{Some, Leaves};
 ghost use Rattle.pass_visits.specs.inner.Visits.{LevelDone};
-ghost use Rattle.pass_visits.specs.inner.Passing.{PassWork, passWork, TableRoom, Made, LevelNext, PassNext, PassDone};
+ghost use Rattle.pass_visits.specs.inner.Passing.{PassWork, passWork, TableRoom, TablesMade, LevelNext, PassNext, PassDone};
 
 // Whether a vertex from `from` up to `to` is marked.
 fn any_marked(marks: &[bool], from: usize, to: usize) -> bool
@@ -50,7 +50,7 @@ fn make_tables(
     requires { ⌜ (to ≤ length (now vias)) × (to ≤ length (now before)) × (to ≤ length (now after)) × (to ≤ length (now marks))
         × (high ≤ length (now marks)) × (high ≤ length (now counts)) × (length (now marks) ≤ maxVertices) × Joinable (now vias) (now first) (now ends) ⌝ }
     ensures { λ _. ⌜ ((q ≡ 3 → ⊥) → (u : ℕ) → start ≤ u → u < to → getD (now (marks .entry)) u false ≡ true
-        → Made low high start to (now (vias .entry)) (now (first .entry)) (now (ends .entry)) (now (before .exit)) (now (after .exit)) (now (counts .exit)) (now (marks .entry))) ⌝ }
+        → TablesMade low high start to (now (vias .entry)) (now (first .entry)) (now (ends .entry)) (now (before .exit)) (now (after .exit)) (now (counts .exit)) (now (marks .entry))) ⌝ }
 {
     if q == 3 {
         return;

@@ -43,14 +43,14 @@ pub record Made (p : PlanData) (n : ℕ) (preliminary finals : List ℤ) (passes
   pub demand3 : Demand3 p (drawingAt n preliminary finals passes levels counts vertices positions)
 
 -- The same where the list may not be wanted.
-pub record Room (gap : ℕ) (ns : List ℕ) (vias : List Bool) (halves uppers lowers : List ℕ) (preliminary finals : List ℤ)
+pub record BlankIfWanted (gap : ℕ) (ns : List ℕ) (vias : List Bool) (halves uppers lowers : List ℕ) (preliminary finals : List ℤ)
     (passes levels counts vertices : List ℕ) (positions : List ℤ) : Type 0 where
   pub some : SomePlan gap ns vias halves uppers lowers
   pub preliminaryRoom : length preliminary ≡ length vias
   pub finalRoom : length finals ≡ length vias
   pub noList : Wanted (columns passes levels counts vertices positions) → Unlisted (columns passes levels counts vertices positions)
 
-pub record Done (p : PlanData) (n : ℕ) (preliminary finals : List ℤ) (passes levels counts vertices : List ℕ) (positions : List ℤ) : Type 0 where
+pub record MadeIfWanted (p : PlanData) (n : ℕ) (preliminary finals : List ℤ) (passes levels counts vertices : List ℕ) (positions : List ℤ) : Type 0 where
   pub started : preliminary ≡ drawingOf p .preliminary
   pub ended : finals ≡ drawingOf p .final
   pub made : Wanted (columns passes levels counts vertices positions) → Made p n preliminary finals passes levels counts vertices positions

@@ -31,7 +31,7 @@ pub record TableRoom (before after counts : List ℕ) : Type 0 where
   pub numbers : length counts ≡ maxVertices
 
 -- The tables of the level from `start` up to `to`; the level that precedes it stands from `low` up to `high`.
-pub record Made (low high start to : ℕ) (vias : List Bool) (first ends before after counts : List ℕ) (marks : List Bool) : Type 0 where
+pub record TablesMade (low high start to : ℕ) (vias : List Bool) (first ends before after counts : List ℕ) (marks : List Bool) : Type 0 where
   pub lefts : (v : ℕ) → start ≤ v → v < to → getD before v 0 ≡ lastIn (joinedAt vias first ends) start (v + 1 - start)
   pub rights : (v : ℕ) → start ≤ v → v < to → getD after v 0 ≡ firstIn (joinedAt vias first ends) v (to - v)
   pub numbers : (v : ℕ) → low ≤ v → v < high → getD counts v 0 ≡ markedIn marks low (v - low)

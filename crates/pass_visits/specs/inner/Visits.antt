@@ -41,7 +41,7 @@ abbrev pub worked : Work → List ℤ → List ℕ → List Bool → Work
 worked k at apart marks = work (k .first) (k .ends) (k .before) (k .after) (k .counts) at apart marks
 
 -- On level l some bounded run may have to be ready to be placed by pass q: one is unsettled, and the pass is not the third.
-pub record Asks (p : PlanData) (q l : ℕ) (marks : List Bool) : Type 0 where
+pub record AsksReadiness (p : PlanData) (q l : ℕ) (marks : List Bool) : Type 0 where
   pub notThird : q ≡ 3 → ⊥
   pub via : ℕ
   pub on : On p l via
@@ -53,7 +53,7 @@ pub record Visiting (q start from end to : ℕ) (k : Work) (m : AtVisit) : Type 
   pub pass : m .visit .pass ≡ q
   pub run : RunIs (m .plan) (m .visit .run) start from end to
   pub near : Neighbouring (m .plan) q (k .first) (k .ends)
-  pub tables : Asks (m .plan) q (m .visit .run .level) (k .marks) → Tables (m .plan) q (m .visit .run .level) (k .first) (k .ends) (k .before) (k .after) (k .counts) (k .marks)
+  pub tables : AsksReadiness (m .plan) q (m .visit .run .level) (k .marks) → Tables (m .plan) q (m .visit .run .level) (k .first) (k .ends) (k .before) (k .after) (k .counts) (k .marks)
 
 -- It is, whatever its neighbours, positions and distances.
 pub record Asking (q start from end to : ℕ) (before after counts : List ℕ) (marks : List Bool) (m : AtVisit) : Type 0 where
@@ -74,7 +74,7 @@ settled start from end to marks = cond (ltb start from && ltb end to) (set marks
 -- What a visit leaves.
 pub record Visited (q : ℕ) (k : Work) (m : AtVisit) : Type 0 where
   pub held : Held (m .plan) (m .past ++ m .visit ∷ []) (m .coming) (k .at) (k .apart) (k .marks)
-  pub tables : Asks (m .plan) q (m .visit .run .level) (k .marks) → Tables (m .plan) q (m .visit .run .level) (k .first) (k .ends) (k .before) (k .after) (k .counts) (k .marks)
+  pub tables : AsksReadiness (m .plan) q (m .visit .run .level) (k .marks) → Tables (m .plan) q (m .visit .run .level) (k .first) (k .ends) (k .before) (k .after) (k .counts) (k .marks)
 
 -- The visits of pass q to the runs of a level, which stands from `start` up to `to`, come next.
 pub record Entering (q start to : ℕ) (vias : List Bool) (first ends : List ℕ) (at : List ℤ) (apart : List ℕ) (marks : List Bool)
@@ -90,7 +90,7 @@ pub record Entering (q start to : ℕ) (vias : List Bool) (first ends : List ℕ
 -- They do, and these tables tell which runs are ready, if any asks.
 pub record Levelling (q start to : ℕ) (vias : List Bool) (k : Work) (m : AtLevel) : Type 0 where
   pub enter : Entering q start to vias (k .first) (k .ends) (k .at) (k .apart) (k .marks) m
-  pub tables : Asks (m .plan) q (m .level) (k .marks) → Tables (m .plan) q (m .level) (k .first) (k .ends) (k .before) (k .after) (k .counts) (k .marks)
+  pub tables : AsksReadiness (m .plan) q (m .level) (k .marks) → Tables (m .plan) q (m .level) (k .first) (k .ends) (k .before) (k .after) (k .counts) (k .marks)
 
 -- They are made.
 abbrev pub LevelDone : ℕ → List ℤ → List ℕ → List Bool → AtLevel → Type 0
