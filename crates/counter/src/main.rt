@@ -1,7 +1,7 @@
 // Reads a plan text from standard input and prints all report lines, or the one line `(refused N)`.
 use libc::STDIN_FILENO;
 use libc::STDOUT_FILENO;
-use sheet_show::fit::blank;
+use sheet_fit::fit::blank;
 use text_report::print::print;
 
 fn main() {

@@ -7,7 +7,7 @@ use crate::inputs::NO_MORE;
 use crate::inputs::next_length;
 use libc::STDIN_FILENO;
 use libc::STDOUT_FILENO;
-use sheet_show::fit::MAX_REPORT;
+use sheet_fit::fit::MAX_REPORT;
 use text_report::print::print;
 use text_write::again::Rewritten;
 use text_write::again::rewrite;

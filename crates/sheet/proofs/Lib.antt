@@ -1,4 +1,4 @@
-pub mod LoadLaws
+pub mod Leaves
 pub mod DataLaws
 pub mod WhenRefused
 pub mod Refusal13

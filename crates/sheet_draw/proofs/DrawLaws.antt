@@ -16,7 +16,7 @@ use Rattle.sheet.specs.Results.{gives}
 use Rattle.sheet.specs.Tests.{holdsPlan}
 use Rattle.sheet.specs.Calls.{sheetOut, drawTests, draw, Draws}
 use Rattle.sheet.specs.inner.Refusals.{countsIn, drawRefusal, withDrawing}
-use Rattle.sheet.proofs.LoadLaws.{leaves}
+use Rattle.sheet.proofs.Leaves.{leaves}
 
 module _ (s : Sheet) (m : ℕ) (e : m ≡ drawRefusal (s .header .stage) (s .plan) (s .remembered)) where
   pub draws-not : (m ≡ 0 → ⊥) → Draws s (Refused m) s

@@ -1,31 +1,26 @@
 -- What line, report, mark and marks give, as the program meets it: after the tests 11, 12 and 13, which are the same for all, and
--- after 7 and 14.
-use mathlib.Core.Path.{_≡_, refl, sym, ap}
+-- after 7.
+use mathlib.Core.Path.{_≡_, refl, sym}
 use mathlib.Core.Bool.{true}
 use mathlib.Core.List.{List, [], _∷_, _++_}
 use Prim.Native.Nat.{ℕ, _≤_, _<_}
-use native.Mathlib.Omega.{arith}
 use borrow.Author.Tests.{lt-ltb, le-ltb, ne-eqb, not-false}
-use lib.ListN.{length, take, drop, length-append}
-use lib.Seq.{take-at}
+use lib.ListN.{length}
 use lib.Ieee.{Float}
-use Rattle.ints.specs.Lists.{over}
 use Rattle.ints.specs.Refusals.{Test, firstRefusal, noneRefuses}
 use Rattle.ints.proofs.Refusals.{none-at, none-found, refusal-early, refusal-late}
 use Rattle.plan.specs.declared.data.Plan.{Plan}
-use Rattle.text_write.specs.inner.Written.{Fronts}
 use Rattle.report.specs.declared.data.Drawing.{Drawing as Arrays}
 use Rattle.report.specs.declared.data.Counts.{Counts}
 use Rattle.sheet_data.specs.inner.Parts.{Holds, areOwnWith, linesOf, lineWith, reportWith, marksOf, markWith}
 use Rattle.sheet.specs.declared.types.Sheet.{Sheet}
-use Rattle.sheet.specs.declared.types.LineAnswer.{LineAnswer}
-use Rattle.sheet.specs.declared.types.LineAnswer.the-variants.{Written}
 use Rattle.sheet.specs.Results.{gives, refuses}
 use Rattle.sheet.specs.Tests.{holdsPlan, holdsNumbers, holdsDrawing, test7Line, marksIn, test7Mark, test14, lineOf, reportOf, numbersOf}
-use Rattle.sheet.specs.Calls.{BufferOut, bufferAfter, line, report, mark, marks, Writes}
+use Rattle.sheet.specs.Calls.{bufferAfter, line, report, mark, marks}
 use Rattle.sheet.specs.inner.Refusals.{countsIn, showRefusal}
 use Rattle.sheet.proofs.WhenRefused.{showTests}
-use Rattle.sheet_show.specs.inner.Shown.{fitted, fittedText, lineFrom, markFrom, marksFrom}
+use Rattle.sheet_fit.specs.inner.Fitted.{fittedText}
+use Rattle.sheet_show.specs.inner.Shown.{lineFrom, markFrom, marksFrom}
 
 -- ---- a sheet that they refuse
 module _ (s : Sheet) (k : ℕ) (e : k ≡ showRefusal (s .header .stage) (s .plan) (s .remembered) (s .drawing)) (z : k ≡ 0 → ⊥) where
@@ -84,16 +79,7 @@ module _ (s : Sheet) (k : ℕ) (e : k ≡ showRefusal (s .header .stage) (s .pla
   unfolding marks numbersOf
   marks-shown b = rw (left (test14 (numbersOf s) b ∷ []))
 
--- ---- 7 and 14
-module _ {A : Type 0} (n : ℕ) (w b : List A) where
-  pub fitted-short : length b < length w → fitted n w b ≡ record { result = refuses 14; buffer = b }
-  unfolding firstRefusal
-  fitted-short h = rw (lt-ltb (length b) (length w) h)
-
-  pub fitted-long : length w ≤ length b → fitted n w b ≡ record { result = gives n; buffer = over w b }
-  unfolding firstRefusal
-  fitted-long h = rw (le-ltb (length b) (length w) h)
-
+-- ---- 7
 module _ (p : Plan) (d : Arrays) (c : Counts) (n : ℕ) where
   pub no-line : (m b : List ℕ) → linesOf c ≤ n → lineFrom p m d c n b ≡ record { result = refuses 7; buffer = b }
   unfolding lineFrom firstRefusal
@@ -110,22 +96,3 @@ module _ (p : Plan) (d : Arrays) (c : Counts) (n : ℕ) where
   pub a-mark : n < marksOf c → markFrom p d c n ≡ gives (markWith p d c n)
   unfolding markFrom firstRefusal
   a-mark h = rw (lt-ltb n (marksOf c) h)
-
--- ---- what is written into a lent buffer
-pub writes : {A : Type 0} {o q : BufferOut A} {a : LineAnswer} {b : List A} → o ≡ q → Writes q a b → Writes o a b
-writes e h = rw e h
-
-pub wrote : {w o out : List ℕ} {n : ℕ} → Fronts w o n out → Writes (record { result = gives (length w); buffer = over w o }) (Written n) out
-wrote f = record { answered = ap gives (f .count); left = f .bytes }
-
--- what stands at the front of a buffer
-module _ {w o out : List ℕ} {n : ℕ} (f : Fronts w o n out) where
-  pub front-long : n ≤ length out
-  front-long = omega (arith, f .count, ap length (f .bytes), length-append w (drop (length w) o))
-
-  pub front-is : take n out ≡ w
-  front-is = rw (f .bytes) (take-at w (drop (length w) o) n (sym (f .count)))
-
--- what was made at the front of a buffer with room for it fits that
-pub wrote-all : {w o out : List ℕ} {n : ℕ} → Fronts w o n out → length out ≡ length o → Writes (fittedText w o) (Written n) out
-wrote-all {w} {o} f e = writes (fitted-long (length w) w o (omega (arith, f .count, front-long f))) (wrote f)

@@ -1,5 +1,4 @@
 // All marks in one call.
-use crate::fit::fit_marks;
 use plan::data::Plan;
 use plan::numbers::wide;
 use report::data::Counts;
@@ -8,6 +7,7 @@ use sheet::refusals::counts_in;
 use sheet::refusals::show_refusal;
 use sheet::types::LineAnswer;
 use sheet::types::Sheet;
+use sheet_fit::fit::fit_marks;
 ghost use Rattle.sheet_data.specs.inner.Parts.{Holds};
 ghost use Rattle.sheet.specs.Calls.{Writes, WritesMarks};
 ghost use Rattle.sheet_show.specs.inner.Shown.{marksFrom};

@@ -1,5 +1,4 @@
 // Line.
-use crate::fit::fit;
 use plan::data::Plan;
 use report::data::Counts;
 use report::data::Drawing;
@@ -9,6 +8,7 @@ use sheet::types::LineAnswer;
 use sheet::types::Sheet;
 use sheet_data::printed::MAX_LINE;
 use sheet_data::printed::put_line;
+use sheet_fit::fit::fit;
 ghost use mathlib.Core.Path.{_≡_};
 ghost use mathlib.Core.Bool.{true};
 ghost use Rattle.sheet_data.specs.inner.Parts.{Holds, areOwnWith};

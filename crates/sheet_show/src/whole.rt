@@ -1,5 +1,4 @@
 // All report lines in one call.
-use crate::fit::fit_report_by;
 use plan::data::Plan;
 use plan::numbers::wide;
 use report::data::Counts;
@@ -8,12 +7,13 @@ use sheet::refusals::counts_in;
 use sheet::refusals::show_refusal;
 use sheet::types::LineAnswer;
 use sheet::types::Sheet;
+use sheet_fit::fit::fit_report_by;
 ghost use mathlib.Core.Path.{_≡_};
 ghost use mathlib.Core.Bool.{true};
 ghost use Rattle.sheet_data.specs.inner.Parts.{Holds, areOwnWith, reportWith};
 ghost use Rattle.sheet.specs.Calls as spec;
 ghost use Rattle.sheet.specs.Calls.{Writes};
-ghost use Rattle.sheet_show.specs.inner.Shown.{fittedText};
+ghost use Rattle.sheet_fit.specs.inner.Fitted.{fittedText};
 
 // 14, and the lines.
 fn report_of(

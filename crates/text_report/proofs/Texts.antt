@@ -38,8 +38,8 @@ use Rattle.sheet.specs.Results.{gives, refuses, resultAfter}
 use Rattle.sheet.specs.Tests.{test14}
 use Rattle.sheet.specs.Calls.{TextOut, Writes}
 use Rattle.sheet.specs.inner.Printed.{Prints}
-use Rattle.sheet_show.specs.inner.Shown.{fitted, fittedText}
-use Rattle.sheet_show.proofs.ShowLaws.{fitted-long}
+use Rattle.sheet_fit.specs.inner.Fitted.{fitted, fittedText}
+use Rattle.sheet_fit.proofs.FitLaws.{fitted-long}
 use Rattle.text_report.specs.Texts.{reportOf}
 use Rattle.text_report.specs.Tangled.{tangledReportOf}
 use Rattle.text_report.specs.inner.Numbered.{reportNumbered}

@@ -3,7 +3,7 @@ use crate::drawn::draw_positions;
 use plan::data::Plan;
 use plan::numbers::wide;
 use sheet::types::LineAnswer;
-use sheet_show::fit::fit_marks;
+use sheet_fit::fit::fit_marks;
 use text_read::read_into;
 ghost use mathlib.Core.Path.{_≡_};
 ghost use mathlib.Core.Bool.{true};

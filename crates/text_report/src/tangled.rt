@@ -4,12 +4,12 @@ use plan::data::Plan;
 use plan::numbers::wide;
 use report::data::Drawing;
 use sheet::types::LineAnswer;
-use sheet_show::fit::fit_report_by;
+use sheet_fit::fit::fit_report_by;
 use text_untangle::read_tangled_into;
 ghost use Rattle.plan.specs.inner.Held.{heldPlan};
 ghost use Rattle.text.specs.Reading.{tangledReading};
 ghost use Rattle.sheet.specs.Calls.{Writes};
-ghost use Rattle.sheet_show.specs.inner.Shown.{fittedText};
+ghost use Rattle.sheet_fit.specs.inner.Fitted.{fittedText};
 ghost use Rattle.text_report.specs.Tangled.{tangledReportOf};
 ghost use Rattle.text_report.specs.inner.Numbered.{Remembers, reportNumbered};
 

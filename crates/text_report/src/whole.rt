@@ -4,7 +4,7 @@ use plan::data::Plan;
 use plan::numbers::wide;
 use report::data::Drawing;
 use sheet::types::LineAnswer;
-use sheet_show::fit::fit_report;
+use sheet_fit::fit::fit_report;
 use text_read::read_into;
 ghost use mathlib.Core.Path.{_≡_};
 ghost use mathlib.Core.Bool.{true};

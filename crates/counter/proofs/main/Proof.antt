@@ -2,7 +2,7 @@
 use mathlib.Core.Path.{sym}
 use lib.Seq.{length-take-le}
 use borrow.Author.Needs.{needs}
-use Rattle.sheet_show.proofs.ShowLaws.{front-long}
+use Rattle.sheet_fit.proofs.FitLaws.{front-long}
 use Rattle.counter.proofs.main.Statement.{statement}
 use Rattle.counter.proofs.main.Tie as tie
 

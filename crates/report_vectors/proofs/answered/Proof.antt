@@ -5,7 +5,7 @@ use Prim.Native.Nat.{ℕ, _≤_}
 use native.Mathlib.Omega.{arith}
 use lib.ListN.{length, drop, length-append}
 use lib.Seq.{length-take-le}
-use Rattle.sheet_show.proofs.ShowLaws.{front-long}
+use Rattle.sheet_fit.proofs.FitLaws.{front-long}
 use borrow.Author.Needs.{needs}
 use Rattle.report_vectors.proofs.answered.Statement.{statement}
 use Rattle.report_vectors.proofs.answered.Tie as tie

@@ -2,7 +2,6 @@
 use mathlib.Core.List.{List, [], _∷_}
 use Prim.Native.Nat.{ℕ}
 use lib.Dec.{ltb}
-use lib.ListN.{length}
 use lib.Ieee.{Float}
 use Rattle.ints.specs.Refusals.{check, firstRefusal}
 use Rattle.plan.specs.declared.data.Plan.{Plan}
@@ -12,16 +11,10 @@ use Rattle.report.specs.declared.data.Counts.{Counts}
 use Rattle.sheet_data.specs.inner.Parts.{linesOf, lineWith, marksOf, markWith, numbersWith}
 use Rattle.sheet.specs.Results.{Result, resultAfter}
 use Rattle.sheet.specs.Tests.{test14}
-use Rattle.sheet.specs.Calls.{BufferOut, TextOut, bufferAfter, textAfter}
+use Rattle.sheet.specs.Calls.{BufferOut, TextOut, textAfter}
+use Rattle.sheet_fit.specs.inner.Fitted.{fitted}
 
 -- What is left of line, report, mark and marks where they are not refused from the state.
--- Elements with a count, if the buffer has room for them; a text, with its length.
-abbrev pub fitted : {A : Type 0} → ℕ → List A → List A → BufferOut A
-fitted count content buffer = bufferAfter (firstRefusal (test14 content buffer ∷ [])) count content buffer
-
-abbrev pub fittedText : List ℕ → List ℕ → TextOut
-fittedText text buffer = fitted (length text) text buffer
-
 unfoldable pub lineFrom : Plan → List ℕ → Arrays → Counts → ℕ → List ℕ → TextOut
 lineFrom p m d c n buffer =
     let text = lineWith p m d c n in

@@ -3,7 +3,8 @@ use mathlib.Core.Path.{refl}
 use borrow.Author.Needs.{needs}
 use Rattle.sheet_data.proofs.Cuts.{PlanArrays}
 use Rattle.sheet.proofs.Exactly.{writes-marks}
-use Rattle.sheet_show.proofs.ShowLaws.{holds, marks-refused, marks-shown, writes}
+use Rattle.sheet_fit.proofs.FitLaws.{writes}
+use Rattle.sheet_show.proofs.ShowLaws.{holds, marks-refused, marks-shown}
 use Rattle.sheet_show.proofs.all_marks.marks.Statement.{statement}
 use Rattle.sheet_show.proofs.all_marks.marks.Tie as tie
 

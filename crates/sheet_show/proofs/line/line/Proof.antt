@@ -1,7 +1,8 @@
 -- `sheet_show::line::line` meets its contract: refused or not by 11 to 13.
 use mathlib.Core.Path.{refl}
 use borrow.Author.Needs.{needs}
-use Rattle.sheet_show.proofs.ShowLaws.{holds, own, line-refused, line-shown, writes}
+use Rattle.sheet_fit.proofs.FitLaws.{writes}
+use Rattle.sheet_show.proofs.ShowLaws.{holds, own, line-refused, line-shown}
 use Rattle.sheet_show.proofs.line.line.Statement.{statement}
 use Rattle.sheet_show.proofs.line.line.Tie as tie
 

@@ -4,7 +4,8 @@ use mathlib.Core.Path.{refl, sym}
 use native.Mathlib.Omega.{arith}
 use borrow.Author.Needs.{needs}
 use lib.Seq.{length-take-le}
-use Rattle.sheet_show.proofs.ShowLaws.{no-line, a-line, writes, front-long, front-is}
+use Rattle.sheet_fit.proofs.FitLaws.{writes, front-long, front-is}
+use Rattle.sheet_show.proofs.ShowLaws.{no-line, a-line}
 use Rattle.sheet_data.specs.inner.Parts.{lineWith}
 use Rattle.sheet_data.proofs.Rooms.{Few, few}
 use Rattle.sheet_show.proofs.line.line_of.Statement.{statement}

@@ -1,7 +1,8 @@
 -- `sheet_show::whole::report` meets its contract: refused or not by 11 to 13.
 use mathlib.Core.Path.{refl}
 use borrow.Author.Needs.{needs}
-use Rattle.sheet_show.proofs.ShowLaws.{holds, own, report-refused, report-shown, writes}
+use Rattle.sheet_fit.proofs.FitLaws.{writes}
+use Rattle.sheet_show.proofs.ShowLaws.{holds, own, report-refused, report-shown}
 use Rattle.sheet_show.proofs.whole.report.Statement.{statement}
 use Rattle.sheet_show.proofs.whole.report.Tie as tie
 

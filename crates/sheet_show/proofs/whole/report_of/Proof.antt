@@ -9,8 +9,8 @@ use Rattle.sheet_data.proofs.Remembered.{report-asked-by, report-same-by}
 use Rattle.sheet_data.specs.inner.Parts.{numbersIn}
 use Rattle.plan.specs.Limits.{maxVertices}
 use lib.ListN.{length}
-use Rattle.sheet_show.specs.inner.Shown.{fittedText}
-use Rattle.sheet_show.proofs.ShowLaws.{writes}
+use Rattle.sheet_fit.specs.inner.Fitted.{fittedText}
+use Rattle.sheet_fit.proofs.FitLaws.{writes}
 use Rattle.sheet_show.proofs.whole.report_of.Statement.{statement}
 use Rattle.sheet_show.proofs.whole.report_of.Tie as tie
 

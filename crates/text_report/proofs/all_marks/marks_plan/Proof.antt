@@ -10,7 +10,7 @@ use Rattle.ints.proofs.FrontLaws.{first-fit, first-is, first-count}
 use Rattle.plan.specs.Plan.{PlanData}
 use Rattle.plan.specs.inner.Held.{heldPlan}
 use Rattle.passes.specs.Drawing.{drawingOf}
-use Rattle.sheet_show.proofs.ShowLaws.{writes}
+use Rattle.sheet_fit.proofs.FitLaws.{writes}
 use Rattle.text_report.proofs.Shown.{holds-held, few-vertices, marks-asked}
 use Rattle.text_report.proofs.Texts.{marks-of}
 use Rattle.text_report.proofs.all_marks.marks_plan.Statement.{statement}

@@ -11,7 +11,7 @@ use Rattle.ints.proofs.FrontLaws.{first-fit, first-is, first-count}
 use Rattle.plan.specs.Plan.{vertexCount}
 use Rattle.plan.proofs.HeldLaws.{held-bounds}
 use Rattle.sheet.specs.Results.{gives}
-use Rattle.sheet_show.proofs.ShowLaws.{fitted-short, fitted-long, writes}
+use Rattle.sheet_fit.proofs.FitLaws.{fitted-short, fitted-long, writes}
 use Rattle.text_report.specs.Positions.{bothOf}
 use Rattle.text_report.proofs.Shown.{both-long}
 use Rattle.text_report.proofs.Texts.{positions-of}

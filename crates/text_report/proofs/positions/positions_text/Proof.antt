@@ -5,7 +5,7 @@ use borrow.Author.Needs.{needs}
 use lib.Seq.{length-take-le}
 use Rattle.plan.specs.Plan.{PlanData}
 use Rattle.text_read.specs.inner.Taken.{InFronts}
-use Rattle.sheet_show.proofs.ShowLaws.{writes}
+use Rattle.sheet_fit.proofs.FitLaws.{writes}
 use Rattle.text_report.specs.Positions.{positionsOf}
 use Rattle.text_report.proofs.Texts.{positions-not}
 use Rattle.text_report.proofs.positions.positions_text.Statement.{statement}

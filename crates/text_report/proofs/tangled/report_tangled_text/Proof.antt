@@ -7,8 +7,8 @@ use lib.Seq.{length-take-le}
 use Rattle.plan.specs.Plan.{PlanData}
 use Rattle.plan_untangle.specs.Order.{order, untangled}
 use Rattle.text_read.specs.inner.Taken.{InFronts}
-use Rattle.sheet_show.specs.inner.Shown.{fittedText}
-use Rattle.sheet_show.proofs.ShowLaws.{writes}
+use Rattle.sheet_fit.specs.inner.Fitted.{fittedText}
+use Rattle.sheet_fit.proofs.FitLaws.{writes}
 use Rattle.text_report.specs.Tangled.{tangledReportOf}
 use Rattle.text_report.specs.inner.Numbered.{reportNumbered}
 use Rattle.text_report.proofs.Shown.{held-is, NumbersFront, numbers-front, remembers}

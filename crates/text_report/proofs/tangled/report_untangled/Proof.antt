@@ -10,8 +10,8 @@ use Rattle.ints.proofs.FrontLaws.{first-fit, first-is, first-count}
 use Rattle.plan.specs.Plan.{PlanData}
 use Rattle.plan.specs.inner.Held.{heldPlan}
 use Rattle.pass_draw.specs.inner.Made.{Made}
-use Rattle.sheet_show.specs.inner.Shown.{fittedText}
-use Rattle.sheet_show.proofs.ShowLaws.{writes}
+use Rattle.sheet_fit.specs.inner.Fitted.{fittedText}
+use Rattle.sheet_fit.proofs.FitLaws.{writes}
 use Rattle.text_report.proofs.Shown.{holds-held, few-vertices, in-passes, in-levels, in-counts, report-asked-by, report-is-by}
 use Rattle.text_report.proofs.tangled.report_untangled.Statement.{statement}
 use Rattle.text_report.proofs.tangled.report_untangled.Tie as tie

@@ -7,7 +7,7 @@ use Rattle.plan.specs.Plan.{PlanData}
 use Rattle.plan.specs.Acceptable.{acceptable}
 use Rattle.text.specs.Reading.{accepted}
 use Rattle.text_read.specs.inner.Taken.{InFronts}
-use Rattle.sheet_show.proofs.ShowLaws.{writes}
+use Rattle.sheet_fit.proofs.FitLaws.{writes}
 use Rattle.text_report.specs.Texts.{reportOf}
 use Rattle.text_report.proofs.Shown.{held-is}
 use Rattle.text_report.proofs.Texts.{report-not}

@@ -1,10 +1,11 @@
--- `sheet::load::load` meets its contract: by what reading the text answered.
+-- `sheet_load::load::load` meets its contract: by what reading the text answered.
 use mathlib.Core.Path.{refl}
 use borrow.Author.Needs.{needs}
 use Rattle.text_write.proofs.AgainLaws.{read-accepted}
-use Rattle.sheet.proofs.LoadLaws.{load-accepted, load-refused, leaves}
-use Rattle.sheet.proofs.load.load.Statement.{statement}
-use Rattle.sheet.proofs.load.load.Tie as tie
+use Rattle.sheet.proofs.Leaves.{leaves}
+use Rattle.sheet_load.proofs.LoadLaws.{load-accepted, load-refused}
+use Rattle.sheet_load.proofs.load.load.Statement.{statement}
+use Rattle.sheet_load.proofs.load.load.Tie as tie
 
 own-requires : tie.Need-own-requires
 own-requires c κs =

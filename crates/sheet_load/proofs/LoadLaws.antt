@@ -1,5 +1,5 @@
 -- What load gives, by either way, as the program meets it: by what reading the text answered.
-use mathlib.Core.Path.{_≡_, refl, ap}
+use mathlib.Core.Path.{_≡_, ap}
 use mathlib.Core.Bool.{Bool, true, false}
 use mathlib.Core.List.{List, _++_}
 use Prim.Native.Nat.{ℕ, _≤_}
@@ -19,13 +19,12 @@ use Rattle.text_untangle.specs.Untangled.{untangledAnswer}
 use Rattle.text_untangle.specs.declared.ReadTangled.{ReadTangled}
 use Rattle.text.proofs.Words.{never}
 use Rattle.plan.specs.declared.data.Plan.{Plan}
 use Rattle.sheet.specs.declared.types.Sheet.{Sheet}
-use Rattle.sheet.specs.declared.types.Answer.{Answer}
 use Rattle.sheet.specs.declared.types.Stage.the-variants.{Loaded}
 use Rattle.report.specs.Arrays.{arraysOf, noDrawing}
 use Rattle.sheet.specs.Sheet.{rememberedOf, loadedSheet, loadedAsRead, loadedUntangled}
-use Rattle.sheet.specs.Results.{gives, refuses, resultOf}
-use Rattle.sheet.specs.Calls.{SheetOut, sheetOut, loadOf, load, loadTangled, Leaves}
+use Rattle.sheet.specs.Results.{gives, refuses}
+use Rattle.sheet.specs.Calls.{sheetOut, loadOf, load, loadTangled}
 
 -- A plan with its counts and the numbers of its vertices, and no drawing.
 abbrev pub loadedWith : Bool → ℕ → ℕ → Plan → List ℕ → Sheet
@@ -93,7 +92,3 @@ own-few o v h k = omega (arith, length-take-le v o k)
 
 pub own-array : (o : List ℕ) (v : ℕ) → v ≤ length o → {w : List ℕ} → w ≡ numbers 0 (length (take v o)) → w ++ drop v o ≡ over (numbers 0 v) o
 own-array o v h e = rw (e, length-take-le v o h, length-numbers 0 v)
-
--- What a call leaves that is known by an equation.
-pub leaves : {o : SheetOut} {a : Answer} {s : Sheet} (t : Sheet) → o ≡ sheetOut (resultOf a) t → s ≡ t → Leaves o a s
-leaves t e h = rw e (record { answered = refl; left = h })

@@ -1,4 +1,4 @@
--- `sheet_show::fit::fit_marks` meets its contract: by the buffer's length; the marks have five numbers each.
+-- `sheet_fit::fit::fit_marks` meets its contract: by the buffer's length; the marks have five numbers each.
 use mathlib.Core.Path.{refl, sym, ap}
 use native.Mathlib.Omega.{arith}
 use borrow.Author.Needs.{needs}
@@ -6,9 +6,9 @@ use Rattle.marks.specs.Marks.{markCount, allNumbers}
 use Rattle.marks.proofs.All.{all-long}
 use Rattle.marks.proofs.Laws.{count-is}
 use Rattle.sheet.specs.Results.{gives}
-use Rattle.sheet_show.proofs.ShowLaws.{fitted-short, fitted-long, writes}
-use Rattle.sheet_show.proofs.fit.fit_marks.Statement.{statement}
-use Rattle.sheet_show.proofs.fit.fit_marks.Tie as tie
+use Rattle.sheet_fit.proofs.FitLaws.{fitted-short, fitted-long, writes}
+use Rattle.sheet_fit.proofs.fit.fit_marks.Statement.{statement}
+use Rattle.sheet_fit.proofs.fit.fit_marks.Tie as tie
 
 returns : tie.Need-returns
 returns c = λ p d.

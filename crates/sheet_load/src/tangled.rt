@@ -1,14 +1,14 @@
 // The second way of loading.
-use crate::types::Answer;
-use crate::types::Changed;
-use crate::types::Header;
-use crate::types::Sheet;
-use crate::types::Stage;
 use report::data::Drawing;
+use sheet::types::Answer;
+use sheet::types::Changed;
+use sheet::types::Header;
+use sheet::types::Sheet;
+use sheet::types::Stage;
 use text_read::Answer as TextAnswer;
 use text_untangle::read_tangled;
 ghost use Rattle.sheet.specs.Calls as spec;
 ghost use Rattle.sheet.specs.Calls.{Leaves};
 
 // "A second way of loading takes" tangled plans. Refused 1 to 5, it changes nothing.
 pub fn load_tangled(sheet: Sheet, text: &[u8]) -> Changed

@@ -1,4 +1,4 @@
--- `sheet_show::fit::fit_report_by` meets its contract: what `in_numbers` wrote holds the drawing in the numbers, and the report is that of these lists.
+-- `sheet_fit::fit::fit_report_by` meets its contract: what `in_numbers` wrote holds the drawing in the numbers, and the report is that of these lists.
 use mathlib.Core.Path.{_≡_, sym, _∙_}
 use Prim.Native.Nat.{ℕ}
 use native.Mathlib.Omega.{arith}
@@ -8,8 +8,8 @@ use lib.Seq.{length-take-le, take-at}
 use Rattle.report_lines.specs.inner.Stored.{maxReport}
 use Rattle.report_numbers.specs.inner.Rooms.{HasNumbers}
 use Rattle.report_numbers.proofs.Rooms.{numberable, report-asked, report-is}
-use Rattle.sheet_show.proofs.fit.fit_report_by.Statement.{statement}
-use Rattle.sheet_show.proofs.fit.fit_report_by.Tie as tie
+use Rattle.sheet_fit.proofs.fit.fit_report_by.Statement.{statement}
+use Rattle.sheet_fit.proofs.fit.fit_report_by.Tie as tie
 
 numbered : (c : tie.Start) → HasNumbers (c .args .m .now) (c .args .sizes .now) (c .args .preliminary .now) (c .args .finals .now) (c .args .passes .now)
     (c .args .levels .now) (c .args .boxes .now) (c .args .vertices .now) (c .args .positions .now)

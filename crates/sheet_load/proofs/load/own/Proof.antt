@@ -1,10 +1,10 @@
--- `sheet::load::own` meets its contract: the numbers stand at the front of an array of zeros.
+-- `sheet_load::load::own` meets its contract: the numbers stand at the front of an array of zeros.
 use mathlib.Core.Path.{sym}
 use borrow.Author.Needs.{needs}
 use lib.Seq.{length-take-le}
-use Rattle.sheet.proofs.LoadLaws.{own-few, own-array}
-use Rattle.sheet.proofs.load.own.Statement.{statement}
-use Rattle.sheet.proofs.load.own.Tie as tie
+use Rattle.sheet_load.proofs.LoadLaws.{own-few, own-array}
+use Rattle.sheet_load.proofs.load.own.Statement.{statement}
+use Rattle.sheet_load.proofs.load.own.Tie as tie
 
 slice-aggregate-count-up : tie.Need-slice-aggregate-count-up
 slice-aggregate-count-up c = sym (length-take-le _ _ (c .before .pre))

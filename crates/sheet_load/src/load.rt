@@ -1,21 +1,21 @@
-// Load, by either way.
-use crate::types::Answer;
-use crate::types::Changed;
-use crate::types::Header;
-use crate::types::Sheet;
-use crate::types::Stage;
+// The first way of loading.
 use plan::data::Plan;
 use plan_untangle::order::count_up;
 use report::data::Drawing;
+use sheet::types::Answer;
+use sheet::types::Changed;
+use sheet::types::Header;
+use sheet::types::Sheet;
+use sheet::types::Stage;
 use text_read::Answer as TextAnswer;
 use text_read::read;
 ghost use mathlib.Core.Path.{_≡_};
 ghost use Prim.Native.Nat.{_≤_};
 ghost use Rattle.plan.specs.Limits.{maxVertices};
 ghost use Rattle.plan.specs.Plan.{numbers};
 ghost use Rattle.sheet.specs.Calls as spec;
 ghost use Rattle.sheet.specs.Calls.{Leaves};
 ghost use Rattle.sheet.specs.Sheet.{rememberedOf};
 
 // The numbers of v vertices that are numbered as in the text.
 fn own(v: usize) -> [u16; Plan::MAX_VERTICES]

@@ -1,12 +1,12 @@
--- `sheet_show::fit::fit_report` meets its contract: no report is longer than its own buffer, and what stands there is the report; what
+-- `sheet_fit::fit::fit_report` meets its contract: no report is longer than its own buffer, and what stands there is the report; what
 -- was written at the front of the lent buffer fits it.
 use mathlib.Core.Path.{sym}
 use native.Mathlib.Omega.{arith}
 use borrow.Author.Needs.{needs}
 use lib.Seq.{length-take-le}
-use Rattle.sheet_show.proofs.ShowLaws.{front-long, front-is, wrote-all}
-use Rattle.sheet_show.proofs.fit.fit_report.Statement.{statement}
-use Rattle.sheet_show.proofs.fit.fit_report.Tie as tie
+use Rattle.sheet_fit.proofs.FitLaws.{front-long, front-is, wrote-all}
+use Rattle.sheet_fit.proofs.fit.fit_report.Statement.{statement}
+use Rattle.sheet_fit.proofs.fit.fit_report.Tie as tie
 
 slice-aggregate-put-report : tie.Need-slice-aggregate-put-report
 slice-aggregate-put-report c = search needs

@@ -1,9 +1,10 @@
--- `sheet::tangled::load_tangled` meets its contract: by what reading the text answered.
+-- `sheet_load::tangled::load_tangled` meets its contract: by what reading the text answered.
 use mathlib.Core.Path.{refl}
 use borrow.Author.Needs.{needs}
-use Rattle.sheet.proofs.LoadLaws.{tangled-accepted, tangled-refused, leaves}
-use Rattle.sheet.proofs.tangled.load_tangled.Statement.{statement}
-use Rattle.sheet.proofs.tangled.load_tangled.Tie as tie
+use Rattle.sheet.proofs.Leaves.{leaves}
+use Rattle.sheet_load.proofs.LoadLaws.{tangled-accepted, tangled-refused}
+use Rattle.sheet_load.proofs.tangled.load_tangled.Statement.{statement}
+use Rattle.sheet_load.proofs.tangled.load_tangled.Tie as tie
 
 returns : tie.Need-returns
 returns c =

@@ -1,11 +1,11 @@
--- `sheet_show::fit::fit` meets its contract: by the buffer's length.
+-- `sheet_fit::fit::fit` meets its contract: by the buffer's length.
 use mathlib.Core.Path.{refl}
 use native.Mathlib.Omega.{arith}
 use borrow.Author.Needs.{needs}
 use Rattle.text_write.proofs.Written.{front-of}
-use Rattle.sheet_show.proofs.ShowLaws.{fitted-short, fitted-long, writes, wrote}
-use Rattle.sheet_show.proofs.fit.fit.Statement.{statement}
-use Rattle.sheet_show.proofs.fit.fit.Tie as tie
+use Rattle.sheet_fit.proofs.FitLaws.{fitted-short, fitted-long, writes, wrote}
+use Rattle.sheet_fit.proofs.fit.fit.Statement.{statement}
+use Rattle.sheet_fit.proofs.fit.fit.Tie as tie
 
 returns : tie.Need-returns
 returns c =

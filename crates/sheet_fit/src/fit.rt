@@ -11,8 +11,8 @@ ghost use Rattle.marks.specs.Marks.{markCount, allNumbers};
 ghost use Rattle.marks.specs.inner.Asked.{AskedAll, DataOf};
 ghost use Rattle.report_numbers.specs.inner.Rooms.{reportBy};
 ghost use Rattle.sheet.specs.Calls.{Writes};
-ghost use Rattle.sheet_show.specs.inner.Shown.{fitted, fittedText};
-ghost use Rattle.sheet_show.specs.inner.Fit.{reportIn, FitsRoom, FitsRoomBy};
+ghost use Rattle.sheet_fit.specs.inner.Fitted.{fitted, fittedText};
+ghost use Rattle.sheet_fit.specs.inner.Fit.{reportIn, FitsRoom, FitsRoomBy};
 
 // No report is longer.
 pub const MAX_REPORT: usize = 119834;

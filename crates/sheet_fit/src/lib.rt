@@ -1,0 +1,2 @@
+// What is shown in a lent buffer, if it has room.
+pub mod fit;

@@ -1,0 +1,3 @@
+// Load, by either way.
+pub mod load;
+pub mod tangled;
