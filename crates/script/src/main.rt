@@ -15,7 +15,7 @@ ghost use Rattle.script_runs.specs.inner.Filled.{buffers};
 ghost use Rattle.script_commands.specs.Table.{commandOf};
 ghost use Rattle.script_commands.specs.inner.Held.{lent, commandIn, Inside};
 ghost use Rattle.script_answers.specs.inner.Lengths.{maxAnswer};
-ghost use Rattle.script_turn.specs.Turns.{turnOf};
+ghost use Rattle.script_told.specs.Turns.{turnOf};
 
 // The room for one line: a load of 65,536 bytes, each written as an escape, takes an eighth of it. A line that fills it is no command.
 const LINE_ROOM: usize = 2097152;

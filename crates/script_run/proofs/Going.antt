@@ -16,9 +16,9 @@ use Rattle.script_commands.specs.declared.types.Command.{Command as Found}
 use Rattle.script_commands.specs.inner.Held.{Lent, commandIn, Inside}
 use Rattle.script_answers.specs.Answers.{Said, lineOf}
 use Rattle.script_answers.specs.inner.Lengths.{maxAnswer}
-use Rattle.script_turn.specs.Turns.{Turn, turnOf, bytesOf}
+use Rattle.script_told.specs.Turns.{Turn, turnOf, bytesOf}
 use Rattle.script_turn.specs.inner.One.{Asked, Answers}
-use Rattle.script_turn.proofs.Unchanged.{several-leave}
+use Rattle.script_told.proofs.Unchanged.{several-leave}
 use Rattle.script_run.specs.inner.Laid.{Lays, InRoom, Turned}
 use Rattle.script_run.proofs.LayLaws.{lays-not, lays-in, lays-then, front}
 

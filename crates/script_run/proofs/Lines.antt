@@ -11,7 +11,7 @@ use Rattle.sheet.specs.Sheet.{emptySheet}
 use Rattle.script_words.specs.Parts.{parts}
 use Rattle.script_words.specs.inner.Ends.{between, PartEnds}
 use Rattle.script_commands.specs.Table.{commandOf}
-use Rattle.script_turn.specs.Turns.{Turn, turnOf, bytesOf}
+use Rattle.script_told.specs.Turns.{Turn, turnOf, bytesOf}
 use Rattle.script_run.specs.Scripts.{answersTo, scriptAnswers}
 use Rattle.script_run.specs.inner.Laid.{Lays, InRoom, Turned}
 use Rattle.script_run.proofs.LayLaws.{lays-not, lays-in, lays-then}

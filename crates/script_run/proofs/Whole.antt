@@ -20,7 +20,7 @@ use Rattle.script_commands.specs.inner.Held.{Lent, lent, commandIn, Inside, Com
 use Rattle.script_commands.proofs.Whole.{reading-cut, tangled-cut, same-answer}
 use Rattle.script_answers.specs.inner.Lengths.{maxAnswer}
 use Rattle.script_calls.specs.Said.{callSaid, runSaid}
-use Rattle.script_turn.specs.Turns.{saying, turnOf}
+use Rattle.script_told.specs.Turns.{saying, turnOf}
 use Rattle.script_run.specs.inner.Laid.{Turned}
 
 module _ (b : Lent) (long : maxBytes < length (b .text)) (roomy : Roomy (b .run)) (s : Sheet) where

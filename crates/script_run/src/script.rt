@@ -15,7 +15,7 @@ ghost use Rattle.sheet.specs.Calls.{Writes};
 ghost use Rattle.script_runs.specs.inner.Filled.{buffers};
 ghost use Rattle.script_commands.specs.Table.{commandOf};
 ghost use Rattle.script_commands.specs.inner.Held.{lent, commandIn};
-ghost use Rattle.script_turn.specs.Turns.{turnOf};
+ghost use Rattle.script_told.specs.Turns.{turnOf};
 ghost use Rattle.script_run.specs.Scripts.{maxLength, scriptAnswers, scriptOf};
 ghost use Rattle.script_run.specs.inner.Laid as laid;
 ghost use Rattle.script_run.specs.inner.Laid.{Lays, InRoom, Answering};

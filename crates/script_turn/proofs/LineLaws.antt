@@ -33,7 +33,7 @@ use Rattle.calls.specs.Step.{Lent, step}
 use Rattle.script_commands.specs.Table.{longEnough}
 use Rattle.script_answers.specs.Answers.{refused, text}
 use Rattle.script_calls.specs.Said.{resultSaid, callSaid}
-use Rattle.script_turn.specs.Turns.{lending}
+use Rattle.script_told.specs.Turns.{lending}
 
 -- ---- buffers of zeros
 abbrev pub zeros : ℕ → List ℕ

@@ -1,8 +1,8 @@
 -- One answer of a turn, from what the functions promised that give it: the only one, or the n-th of those up to a refusal.
 use mathlib.Core.Path.{_≡_, refl, _∙_, ap}
-use mathlib.Core.Bool.{Bool, true, false}
+use mathlib.Core.Bool.{Bool, false}
 use mathlib.Core.List.{List, []}
-use Prim.Native.Nat.{ℕ, _-_, _<_, min}
+use Prim.Native.Nat.{ℕ, _<_, min}
 use native.Mathlib.Omega.{arith}
 use lib.IntN.{pos}
 use lib.ListN.{length, take, replicate}
@@ -20,15 +20,14 @@ use Rattle.script_commands.specs.declared.types.Command.the-variants.{Skip, Unk
 use Rattle.script_commands.specs.declared.types.Poke.{Poke as Altering}
 use Rattle.script_commands.specs.inner.Held.{Lent, commandIn}
 use Rattle.script_commands.specs.Table.{longEnough}
-use Rattle.script_poke.specs.declared.types.Poked.{Poked}
 use Rattle.script_poke.specs.Poked as pokes
-use Rattle.script_answers.specs.Answers.{Said, unknown as notKnown, done, stage as standing, lineOf}
+use Rattle.script_answers.specs.Answers.{Said, unknown as notKnown, stage as standing, lineOf}
 use Rattle.script_calls.specs.Said.{runSaid}
-use Rattle.script_calls.specs.inner.Answered.{Fitted}
-use Rattle.script_turn.specs.Turns.{Turn, turn, saying, lending, calling, upToRefusal, mostAnswers, lineSaid, markSaid, pokeSaid, turnOf}
-use Rattle.script_turn.specs.inner.One.{Single, Nth, Asked, Answers}
+use Rattle.script_told.specs.Turns.{Turn, turn, saying, lending, calling, upToRefusal, mostAnswers, lineSaid, markSaid, pokeSaid, turnOf}
+use Rattle.script_told.specs.inner.One.{Single}
+use Rattle.script_turn.specs.inner.One.{Nth, Asked, Answers}
 use Rattle.script_turn.proofs.LineLaws.{long-enough}
-use Rattle.script_turn.proofs.Goes.{some, most, nth, goes-on}
+use Rattle.script_told.proofs.Goes.{some, most, nth, goes-on}
 
 module _ {c : Found} {b : Lent} {s : Sheet} {n : ℕ} {o : List ℕ} (asked : Asked c b s n o) where
   -- no answer
@@ -62,15 +61,6 @@ module _ {c : Found} {b : Lent} {s : Sheet} {n : ℕ} {o : List ℕ} (asked : As
         left = h .left ∙ z;
         further = h .further ∙ goes-on f n mostAnswers l;
       })
-
--- ---- a poke
-module _ {r p : Poked} (e : r ≡ p) {o out : List ℕ} {count : ℕ} where
-  pub alters : r .known ≡ true → Fitted (lineOf done) o 0 count out → Single (pokeSaid p) (p .sheet) o (r .sheet) count false out
-  alters h w = rw (← e) (record { wrote = rw h w; left = refl; last = refl })
-
-  pub misses : {s : Sheet} {more : Bool} → r .known ≡ false → Single notKnown (r .sheet) o s count more out
-      → Single (pokeSaid p) (p .sheet) o s count more out
-  misses h w = rw (← e, h) w
 
 -- ---- the turn of each command
 module _ {c : Found} (b : Lent) (s : Sheet) where

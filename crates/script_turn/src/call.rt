@@ -1,8 +1,8 @@
 // Commands that are calls: an answer at the front of a lent buffer.
 use crate::made::Answered;
 use crate::made::answer_call;
-use crate::types::OneAnswer;
 use calls::types::Call;
+use script_told::types::OneAnswer;
 use sheet::types::Sheet;
 ghost use mathlib.Core.Path.{_≡_};
 ghost use mathlib.Core.Bool.{false, cond};
@@ -14,8 +14,9 @@ ghost use Rattle.calls.specs.Step.{step};
 ghost use Rattle.script_commands.specs.Table.{longEnough};
 ghost use Rattle.script_answers.specs.inner.Lengths.{maxAnswer};
 ghost use Rattle.script_calls.specs.Said.{callSaid};
-ghost use Rattle.script_turn.specs.Turns.{lending, mostAnswers};
-ghost use Rattle.script_turn.specs.inner.One.{Tells, Single, Nth};
+ghost use Rattle.script_told.specs.Turns.{lending, mostAnswers};
+ghost use Rattle.script_told.specs.inner.One.{Single};
+ghost use Rattle.script_turn.specs.inner.One.{Tells, Nth};
 
 // No line has more bytes.
 pub const LONG_ENOUGH: usize = 1421;

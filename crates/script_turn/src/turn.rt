@@ -2,18 +2,18 @@
 use crate::call::LONG_ENOUGH;
 use crate::call::next_call;
 use crate::call::one_call;
-use crate::other::alter;
-use crate::other::at_most;
-use crate::other::place;
-use crate::other::show_stage;
-use crate::other::unknown;
-use crate::types::OneAnswer;
 use calls::types::Call;
 use script_commands::types::Command;
+use script_told::other::alter;
+use script_told::other::at_most;
+use script_told::other::place;
+use script_told::other::show_stage;
+use script_told::other::unknown;
+use script_told::types::OneAnswer;
 use sheet::types::Sheet;
 ghost use Rattle.script_runs.specs.inner.Filled.{buffers};
 ghost use Rattle.script_commands.specs.inner.Held.{lent, commandIn};
-ghost use Rattle.script_turn.specs.Turns.{turnOf};
+ghost use Rattle.script_told.specs.Turns.{turnOf};
 ghost use Rattle.script_turn.specs.inner.One.{Asked, Answers};
 
 // Answer n of a command, at the front of `out`; the text of a load and the lists of a run lie in lent buffers.

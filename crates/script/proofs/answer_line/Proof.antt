@@ -4,7 +4,7 @@ use borrow.Author.Needs.{needs}
 use Rattle.script_runs.specs.inner.Filled.{buffers}
 use Rattle.script_commands.specs.Table.{commandOf}
 use Rattle.script_commands.specs.inner.Held.{lent}
-use Rattle.script_turn.specs.Turns.{Turn}
+use Rattle.script_told.specs.Turns.{Turn}
 use Rattle.script_run.proofs.Whole.{inside-after, rooms, answer-long, rooms-turn}
 use Rattle.script.proofs.answer_line.Statement.{statement}
 use Rattle.script.proofs.answer_line.Tie as tie

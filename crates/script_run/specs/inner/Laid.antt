@@ -10,7 +10,7 @@ use Rattle.sheet.specs.declared.types.Sheet.{Sheet}
 use Rattle.script_commands.specs.declared.types.Command.{Command as Found}
 use Rattle.script_commands.specs.inner.Held.{Lent, Inside}
 use Rattle.script_answers.specs.inner.Lengths.{maxAnswer}
-use Rattle.script_turn.specs.Turns.{Turn, bytesOf}
+use Rattle.script_told.specs.Turns.{Turn, bytesOf}
 
 -- Whether the text w ends within the room; `to` is the position past it.
 pub record Lays (w : List ℕ) (write : Bool) (room : ℕ) (o : List ℕ) (at : ℕ) (fits : Bool) (to : ℕ) (out : List ℕ) : Type 0 where

@@ -11,19 +11,13 @@ use Rattle.script_commands.specs.inner.Held.{Lent, commandIn, Inside}
 use Rattle.script_answers.specs.Answers.{Said, lineOf}
 use Rattle.script_answers.specs.inner.Lengths.{maxAnswer}
 use Rattle.script_calls.specs.inner.Answered.{Fitted}
-use Rattle.script_turn.specs.Turns.{Turn, turnOf, isRefused, mostAnswers, bytesOf}
+use Rattle.script_told.specs.Turns.{Turn, turnOf, isRefused, mostAnswers, bytesOf}
 
 -- An answer, whether it is a refusal, and the sheet afterwards.
 pub record Tells (a : Said) (t : Sheet) (o : List ℕ) (n : ℕ) (refused : Bool) (s : Sheet) (out : List ℕ) : Type 0 where
   pub wrote : Fitted (lineOf a) o 0 n out
   pub ends : refused ≡ isRefused a
   pub left : s ≡ t
-
--- The only answer of a command.
-pub record Single (a : Said) (t : Sheet) (o : List ℕ) (s : Sheet) (n : ℕ) (more : Bool) (out : List ℕ) : Type 0 where
-  pub wrote : Fitted (lineOf a) o 0 n out
-  pub left : s ≡ t
-  pub last : more ≡ false
 
 -- Answer k of a command that goes on up to a refusal.
 pub record Nth (a : Said) (k : ℕ) (t : Sheet) (o : List ℕ) (s : Sheet) (n : ℕ) (more : Bool) (out : List ℕ) : Type 0 where

@@ -10,8 +10,8 @@ use lib.Seq.{length-take-le}
 use Rattle.script_runs.specs.inner.Filled.{buffers}
 use Rattle.script_commands.specs.inner.Held.{lent, commandIn}
 use Rattle.script_answers.specs.inner.Lengths.{maxAnswer}
-use Rattle.script_turn.specs.Turns.{turnOf}
-use Rattle.script_turn.proofs.Enough.{few-answers}
+use Rattle.script_told.specs.Turns.{turnOf}
+use Rattle.script_told.proofs.Enough.{few-answers}
 use Rattle.script_run.proofs.Going.{Going, starts, asked, stops, ends, below, again}
 use Rattle.script_run.proofs.script.each_answer.Statement.{statement}
 use Rattle.script_run.proofs.script.each_answer.Tie as tie

@@ -4,7 +4,7 @@ use mathlib.Core.Bool.{Bool, false, cond}
 use Prim.Native.Nat.{_+_}
 use lib.Dec.{ltb}
 use borrow.Author.Needs.{needs}
-use Rattle.script_turn.specs.Turns.{mostAnswers}
+use Rattle.script_told.specs.Turns.{mostAnswers}
 use Rattle.script_turn.proofs.call.next_call.Statement.{statement}
 use Rattle.script_turn.proofs.call.next_call.Tie as tie
 

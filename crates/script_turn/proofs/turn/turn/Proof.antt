@@ -5,7 +5,7 @@ use lib.Seq.{length-take-le}
 use borrow.Author.Needs.{needs}
 use Rattle.script_runs.specs.inner.Filled.{buffers}
 use Rattle.script_commands.specs.inner.Held.{lent}
-use Rattle.script_turn.specs.Turns.{lineSaid, markSaid}
+use Rattle.script_told.specs.Turns.{lineSaid, markSaid}
 use Rattle.script_turn.proofs.TurnLaws.{none, only, within, further, is-skip, is-unknown, is-load, is-tangled, is-draw, is-clear, is-stage, is-line, is-lines, is-mark, is-marks, is-place, is-poke, line-leaves, mark-leaves}
 use Rattle.script_turn.proofs.turn.turn.Statement.{statement}
 use Rattle.script_turn.proofs.turn.turn.Tie as tie

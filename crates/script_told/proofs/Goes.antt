@@ -10,7 +10,7 @@ use lib.ListN.{length, take, drop, length-drop}
 use Rattle.ints.proofs.Tests.{test}
 use Rattle.ints.proofs.Laws.{cases}
 use Rattle.script_answers.specs.Answers.{Said}
-use Rattle.script_turn.specs.Turns.{isRefused, upToRefusal}
+use Rattle.script_told.specs.Turns.{isRefused, upToRefusal}
 
 module _ (f : ℕ → Said) where
   pub first : (k m : ℕ) → 0 < m → upToRefusal f k m ≡ f k ∷ cond (isRefused (f k)) [] (upToRefusal f (suc k) (m - 1))

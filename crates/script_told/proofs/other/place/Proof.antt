@@ -1,10 +1,10 @@
--- `script_turn::other::place` meets its contract: an answer buffer of 65 positions is refused as every longer one is.
+-- `script_told::other::place` meets its contract: an answer buffer of 65 positions is refused as every longer one is.
 use mathlib.Core.Path.{sym}
 use lib.Seq.{length-take-le}
 use borrow.Author.Needs.{needs}
-use Rattle.script_turn.proofs.CallLaws.{placed, places-cut}
-use Rattle.script_turn.proofs.other.place.Statement.{statement}
-use Rattle.script_turn.proofs.other.place.Tie as tie
+use Rattle.script_told.proofs.Single.{placed, places-cut}
+use Rattle.script_told.proofs.other.place.Statement.{statement}
+use Rattle.script_told.proofs.other.place.Tie as tie
 
 at-most-requires : tie.Need-at-most-requires
 at-most-requires c κs = search needs

@@ -1,11 +1,11 @@
--- `script_turn::other::tell_stage` meets its contract: its numbers are within 64 bits, so there is room for them.
+-- `script_told::other::tell_stage` meets its contract: its numbers are within 64 bits, so there is room for them.
 use native.Mathlib.Omega.{arith}
 use borrow.Author.Needs.{needs}
 use Rattle.sheet.specs.declared.types.Stage.the-variants.{Empty, Loaded, Drawn}
 use Rattle.script_answers.specs.Answers.{stage}
-use Rattle.script_turn.proofs.CallLaws.{fits}
-use Rattle.script_turn.proofs.other.tell_stage.Statement.{statement}
-use Rattle.script_turn.proofs.other.tell_stage.Tie as tie
+use Rattle.script_told.proofs.Single.{fits}
+use Rattle.script_told.proofs.other.tell_stage.Statement.{statement}
+use Rattle.script_told.proofs.other.tell_stage.Tie as tie
 
 say-stage-requires : tie.Need-say-stage-requires
 say-stage-requires c κs = omega arith

@@ -1,11 +1,11 @@
--- `script_turn::other::unknown` meets its contract: by what is written.
+-- `script_told::other::unknown` meets its contract: by what is written.
 use mathlib.Core.Path.{refl}
 use native.Mathlib.Omega.{arith}
 use borrow.Author.Needs.{needs}
 use Rattle.script_answers.specs.Answers.{unknown}
-use Rattle.script_turn.proofs.CallLaws.{said-room, fits}
-use Rattle.script_turn.proofs.other.unknown.Statement.{statement}
-use Rattle.script_turn.proofs.other.unknown.Tie as tie
+use Rattle.script_told.proofs.Single.{said-room, fits}
+use Rattle.script_told.proofs.other.unknown.Statement.{statement}
+use Rattle.script_told.proofs.other.unknown.Tie as tie
 
 say-unknown-requires : tie.Need-say-unknown-requires
 say-unknown-requires c κs = said-room unknown (c .before .before .args .out .now) tt (omega arith)

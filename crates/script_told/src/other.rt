@@ -20,8 +20,8 @@ ghost use Rattle.script_answers.specs.Answers.{unknown as notKnown, stage as st
 ghost use Rattle.script_answers.specs.inner.Lengths.{maxAnswer};
 ghost use Rattle.script_calls.specs.Said.{runSaid};
 ghost use Rattle.script_calls.specs.inner.Answered.{Fitted};
-ghost use Rattle.script_turn.specs.Turns.{pokeSaid};
-ghost use Rattle.script_turn.specs.inner.One.{Single};
+ghost use Rattle.script_told.specs.Turns.{pokeSaid};
+ghost use Rattle.script_told.specs.inner.One.{Single};
 
 // A run's answer buffer of this length is too long, as every longer one is.
 const TOO_MANY: usize = 65;

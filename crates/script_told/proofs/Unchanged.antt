@@ -24,7 +24,7 @@ use Rattle.script_commands.specs.declared.types.Poke.the-variants.{Empty, Loade
 use Rattle.script_poke.specs.Poked as pokes
 use Rattle.script_answers.specs.Answers.{unknown as notKnown, refused, done}
 use Rattle.script_calls.specs.Said.{resultSaid, callSaid}
-use Rattle.script_turn.specs.Turns.{lending, pokeSaid, turnOf}
+use Rattle.script_told.specs.Turns.{lending, pokeSaid, turnOf}
 
 -- ---- a call that is refused
 said-refused : (w : WholeMark) (b : List ℕ) (r : Result Value) {n : ℕ} → resultSaid w b r ≡ refused n → r ≡ refuses n

@@ -6,12 +6,13 @@ use mathlib.Core.List.{List, [], _∷_}
 use Prim.Native.Nat.{ℕ, zero, suc, _+_, _≤_, _<_}
 use native.Mathlib.Omega.{arith}
 use borrow.Author.Tests.{le-ltb}
-use lib.ListN.{length}
+use lib.ListN.{length, replicate}
 use Rattle.ints.specs.Refusals.{Test, noneRefuses}
 use Rattle.ints.proofs.Laws.{cases}
 use Rattle.ints.proofs.Tests.{test, conj-at, and-false}
 use Rattle.ints.proofs.Refusals.{none-0}
 use Rattle.text.proofs.Words.{never}
+use Rattle.marks.specs.Marks.{WholeMark}
 use Rattle.sheet_data.specs.inner.Parts.{Holds}
 use Rattle.sheet_data.proofs.Rooms.{few}
 use Rattle.sheet.specs.declared.types.Sheet.{Sheet}
@@ -21,16 +22,34 @@ use Rattle.sheet.specs.Calls as sheet
 use Rattle.sheet.specs.Calls.{lineTests, markTests}
 use Rattle.sheet.specs.inner.Refusals.{countsIn}
 use Rattle.sheet.proofs.WhenRefused.{canShow, shows-given}
+use Rattle.sheet.specs.Results.{Result, gives, refuses}
+use Rattle.calls.specs.declared.types.Call.{Call}
 use Rattle.calls.specs.declared.types.Call.the-variants.{Line, Mark}
-use Rattle.calls.specs.Step.{step}
+use Rattle.calls.specs.Replies as value
+use Rattle.calls.specs.Replies.{Value, written, marked}
+use Rattle.calls.specs.Step.{Lent, step}
 use Rattle.script_commands.specs.Commands.{Command, skip, unknown, load, loadTangled, draw, clear, stage, line, lines, mark, marks, placeRun, poke}
 use Rattle.script_commands.specs.Table.{longEnough}
 use Rattle.script_answers.specs.Answers.{Said}
-use Rattle.script_turn.specs.Turns.{lending, isRefused, upToRefusal, mostAnswers, lineSaid, markSaid, turnOf}
-use Rattle.script_turn.proofs.Goes.{most}
-use Rattle.script_turn.proofs.LineLaws.{zeros}
-use Rattle.script_turn.proofs.CallLaws.{refused-said}
+use Rattle.script_calls.specs.Said.{valueSaid, resultSaid, callSaid, isRefusal}
+use Rattle.script_told.specs.Turns.{lending, isRefused, upToRefusal, mostAnswers, lineSaid, markSaid, turnOf}
+use Rattle.script_told.proofs.Goes.{most}
 
+-- ---- an answer is a refusal where the call refuses
+refused-value : (w : WholeMark) (b : List ℕ) (v : Value) → isRefused (valueSaid w b v) ≡ false
+refused-value w b value.done = refl
+refused-value w b (written n) = refl
+refused-value w b (marked m) = refl
+
+refused-result : (w : WholeMark) (b : List ℕ) (r : Result Value) → isRefused (resultSaid w b r) ≡ isRefusal r
+refused-result w b (gives v) = refused-value w b v
+refused-result w b (refuses n) = refl
+
+pub refused-said : (q : Call) (l : Lent) (s : Sheet) → isRefused (callSaid q l s) ≡ isRefusal (step q l s .result)
+unfolding callSaid
+refused-said q l s = refused-result _ (step q l s .buffer) (step q l s .result)
+
+-- ---- up to a refusal
 -- The last is a refusal, and none before it.
 unfoldable pub endsRefused : List Said → Bool
 endsRefused [] = false
@@ -59,13 +78,13 @@ module _ (s : Sheet) where
 
   -- ---- lines
   abbrev lineMore : ℕ → List Test
-  lineMore n = test7Line s n ∷ test14 (lineOf s n) (zeros longEnough) ∷ []
+  lineMore n = test7Line s n ∷ test14 (lineOf s n) (replicate longEnough 0) ∷ []
 
   line-stops : (n : ℕ) → (canShow s && noneRefuses (lineMore n)) ≡ false → isRefused (lineSaid s n) ≡ true
   unfolding step sheet.line
   line-stops n h =
       let none = shows-given s (lineMore n) ∙ h in
-      refused-said (Line n) (lending [] longEnough) s ∙ rw (none-0 (lineTests s n (zeros longEnough)) refl, none)
+      refused-said (Line n) (lending [] longEnough) s ∙ rw (none-0 (lineTests s n (replicate longEnough 0)) refl, none)
 
   past-lines : noneRefuses (lineMore (linesIn s)) ≡ false
   unfolding noneRefuses

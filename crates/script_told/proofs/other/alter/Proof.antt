@@ -1,12 +1,11 @@
--- `script_turn::other::alter` meets its contract: by whether the record has the entry.
+-- `script_told::other::alter` meets its contract: by whether the record has the entry.
 use native.Mathlib.Omega.{arith}
 use borrow.Author.Needs.{needs}
 use borrow.Author.Tests.{not-true, not-false}
 use Rattle.script_answers.specs.Answers.{done}
-use Rattle.script_turn.proofs.CallLaws.{said-room, fits}
-use Rattle.script_turn.proofs.TurnLaws.{alters, misses}
-use Rattle.script_turn.proofs.other.alter.Statement.{statement}
-use Rattle.script_turn.proofs.other.alter.Tie as tie
+use Rattle.script_told.proofs.Single.{said-room, fits, alters, misses}
+use Rattle.script_told.proofs.other.alter.Statement.{statement}
+use Rattle.script_told.proofs.other.alter.Tie as tie
 
 returns : tie.Need-returns
 returns c = misses (c .before .before .before .before .before .before .before .poke .ensures) (not-true _ (c .before .before .before .before .if1 .taken)) (c .before .before .unknown .ensures)

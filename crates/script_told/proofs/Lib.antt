@@ -1,0 +1,4 @@
+pub mod Single
+pub mod Goes
+pub mod Unchanged
+pub mod Enough

@@ -1,0 +1,2 @@
+-- Words of inner contracts: the only answer of a command in a buffer. No public promise rests on them.
+pub mod One
