@@ -16,7 +16,7 @@ use text_write::again::rewrite;
 ghost use Rattle.run.specs.Call.{callOf};
 ghost use Rattle.text.specs.Reading.{reading, tangledReading};
 ghost use Rattle.text_write.specs.Again.{rewritten};
-ghost use Rattle.script_run.specs.Scripts.{scriptOf};
+ghost use Rattle.script_told.specs.Scripts.{scriptOf};
 ghost use Rattle.text_report.specs.Marks.{marksOf};
 ghost use Rattle.text_report.specs.Positions.{positionsOf};
 ghost use Rattle.text_report.specs.Tangled.{tangledReportOf};

@@ -19,8 +19,9 @@ use Rattle.script_answers.specs.inner.Lengths.{maxAnswer}
 use Rattle.script_told.specs.Turns.{Turn, turnOf, bytesOf}
 use Rattle.script_turn.specs.inner.One.{Asked, Answers}
 use Rattle.script_told.proofs.Unchanged.{several-leave}
-use Rattle.script_run.specs.inner.Laid.{Lays, InRoom, Turned}
-use Rattle.script_run.proofs.LayLaws.{lays-not, lays-in, lays-then, front}
+use Rattle.script_told.specs.inner.Laid.{Lays, InRoom}
+use Rattle.script_told.proofs.LayLaws.{lays-not, lays-in, lays-then, front}
+use Rattle.script_run.specs.inner.Laid.{Turned}
 
 -- ---- the answers from the n-th on
 one-more : (l : List Said) → bytesOf l ≡ bytesOf (take 1 l) ++ bytesOf (drop 1 l)

@@ -12,9 +12,10 @@ use Rattle.script_words.specs.Parts.{parts}
 use Rattle.script_words.specs.inner.Ends.{between, PartEnds}
 use Rattle.script_commands.specs.Table.{commandOf}
 use Rattle.script_told.specs.Turns.{Turn, turnOf, bytesOf}
-use Rattle.script_run.specs.Scripts.{answersTo, scriptAnswers}
-use Rattle.script_run.specs.inner.Laid.{Lays, InRoom, Turned}
-use Rattle.script_run.proofs.LayLaws.{lays-not, lays-in, lays-then}
+use Rattle.script_told.specs.Scripts.{answersTo, scriptAnswers}
+use Rattle.script_told.specs.inner.Laid.{Lays, InRoom}
+use Rattle.script_told.proofs.LayLaws.{lays-not, lays-in, lays-then}
+use Rattle.script_run.specs.inner.Laid.{Turned}
 
 abbrev pub Rest : List ℕ → Bool → ℕ → List ℕ → ℕ → Sheet → List ℕ → ℕ → Type 0
 Rest script write room o from s out at =

@@ -1,2 +1,2 @@
--- Words of inner contracts: what is laid into a buffer, answer by answer. No public promise rests on them.
+-- Words of inner contracts: what the answers of a command leave in a buffer. No public promise rests on them.
 pub mod Laid

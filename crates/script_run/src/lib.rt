@@ -1,4 +1,3 @@
 // Whole scripts: their answers in a lent buffer.
-pub mod lay;
 pub mod script;
 pub mod types;

@@ -1,9 +1,9 @@
 // The answers of a script.
-use crate::lay::lay;
-use crate::types::Laid;
 use crate::types::Turned;
 use script_commands::read::command;
 use script_commands::types::Command;
+use script_told::lay::lay;
+use script_told::types::Laid;
 use script_turn::turn::turn;
 use script_words::parts::end_of;
 use sheet::types::LineAnswer;
@@ -16,9 +16,10 @@ ghost use Rattle.script_runs.specs.inner.Filled.{buffers};
 ghost use Rattle.script_commands.specs.Table.{commandOf};
 ghost use Rattle.script_commands.specs.inner.Held.{lent, commandIn};
 ghost use Rattle.script_told.specs.Turns.{turnOf};
-ghost use Rattle.script_run.specs.Scripts.{maxLength, scriptAnswers, scriptOf};
+ghost use Rattle.script_told.specs.Scripts.{maxLength, scriptAnswers, scriptOf};
+ghost use Rattle.script_told.specs.inner.Laid.{Lays, InRoom};
 ghost use Rattle.script_run.specs.inner.Laid as laid;
-ghost use Rattle.script_run.specs.inner.Laid.{Lays, InRoom, Answering};
+ghost use Rattle.script_run.specs.inner.Laid.{Answering};
 
 // A length is told in 63 bits.
 const MAX_LENGTH: usize = 9223372036854775807;

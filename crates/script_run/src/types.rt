@@ -1,13 +1,8 @@
-// How far answers were laid.
+// What was carried out.
+use script_told::types::Laid;
 use sheet::types::Sheet;
 
-// Whether they end within the room, and the position past them if they do.
-pub struct Laid {
-    pub fits: bool,
-    pub at: usize,
-}
-
-// The same, beside the sheet afterwards.
+// How far the answers were laid, beside the sheet afterwards.
 pub struct Turned {
     pub sheet: Sheet,
     pub laid: Laid,

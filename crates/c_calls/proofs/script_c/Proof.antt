@@ -2,7 +2,7 @@
 use mathlib.Core.Path.{_∙_}
 use borrow.Author.Needs.{needs}
 use Rattle.ints.proofs.Laws.{back′}
-use Rattle.script_run.proofs.Twice.{answers-few}
+use Rattle.script_told.proofs.Twice.{answers-few}
 use Rattle.c_codes.proofs.CodeLaws.{codes, few}
 use Rattle.c_calls.proofs.script_c.Statement.{statement}
 use Rattle.c_calls.proofs.script_c.Tie as tie

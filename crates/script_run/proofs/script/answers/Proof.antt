@@ -1,7 +1,7 @@
 -- `script_run::script::answers` meets its contract: the second run finds the buffer as it was, and room for all.
 use borrow.Author.Needs.{needs}
 use borrow.Author.Tests.{not-true, not-false}
-use Rattle.script_run.proofs.Twice.{too-short, all-written}
+use Rattle.script_told.proofs.Twice.{too-short, all-written}
 use Rattle.script_run.proofs.script.answers.Statement.{statement}
 use Rattle.script_run.proofs.script.answers.Tie as tie
 

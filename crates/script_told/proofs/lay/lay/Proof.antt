@@ -1,9 +1,9 @@
--- `script_run::lay::lay` meets its contract: by the room and by what is asked for.
+-- `script_told::lay::lay` meets its contract: by the room and by what is asked for.
 use borrow.Author.Needs.{needs}
 use borrow.Author.Tests.{not-true, not-false}
-use Rattle.script_run.proofs.LayLaws.{lays-none, lays-counted, lays-written}
-use Rattle.script_run.proofs.lay.lay.Statement.{statement}
-use Rattle.script_run.proofs.lay.lay.Tie as tie
+use Rattle.script_told.proofs.LayLaws.{lays-none, lays-counted, lays-written}
+use Rattle.script_told.proofs.lay.lay.Statement.{statement}
+use Rattle.script_told.proofs.lay.lay.Tie as tie
 
 returns : tie.Need-returns
 returns c = lays-none (c .before .before .before .pre) (c .if1 .taken)

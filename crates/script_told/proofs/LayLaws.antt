@@ -12,7 +12,7 @@ use Rattle.text.proofs.Words.{never}
 use Rattle.text_scan.proofs.Stores.{sets-append, sets-over}
 use Rattle.text_write.specs.inner.Written.{Wrote}
 use Rattle.script_calls.specs.inner.Answered.{Fitted}
-use Rattle.script_run.specs.inner.Laid.{Lays, InRoom}
+use Rattle.script_told.specs.inner.Laid.{Lays, InRoom}
 
 -- ---- one text
 module _ {w o : List ℕ} {room at : ℕ} (p : InRoom room at o) where

@@ -1,7 +1,7 @@
 // Answers laid into a buffer from a position on, as far as a room goes: counted, and written if that is asked for.
 use crate::types::Laid;
 use text_write::number::put_word;
-ghost use Rattle.script_run.specs.inner.Laid.{Lays, InRoom};
+ghost use Rattle.script_told.specs.inner.Laid.{Lays, InRoom};
 
 // One answer.
 pub fn lay(answer: &[u8], out: &mut [u8], at: usize, room: usize, write: bool) -> Laid

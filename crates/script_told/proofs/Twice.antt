@@ -13,8 +13,8 @@ use Rattle.text_scan.proofs.Stores.{sets-over}
 use Rattle.sheet.specs.declared.types.LineAnswer.the-variants.{Written, Refused}
 use Rattle.sheet.specs.Results.{gives, resultAfter}
 use Rattle.sheet.specs.Calls.{Writes}
-use Rattle.script_run.specs.Scripts.{scriptAnswers, maxLength, scriptOf}
-use Rattle.script_run.specs.inner.Laid.{Lays}
+use Rattle.script_told.specs.Scripts.{scriptAnswers, maxLength, scriptOf}
+use Rattle.script_told.specs.inner.Laid.{Lays}
 
 module _ (script o : List ℕ) {room : ℕ} (e : room ≡ min maxLength (length o)) {f : Bool} {z : ℕ} {p : List ℕ}
     (h : Lays (scriptAnswers script) false room o 0 f z p) where
