@@ -6,7 +6,8 @@ use Rattle.text.specs.Bytes.{bytes}
 use Rattle.text.specs.Decimal.{digits, decimal, signed}
 use Rattle.marks.specs.Marks.{box, bend, line}
 use Rattle.sheet.specs.declared.types.Stage.the-variants.{Empty, Loaded, Drawn}
-use Rattle.script_answers.specs.Answers.{unknown, refused, done, stage, text, mark, positions, halfSteps, signedHalfSteps, markWords, stageWords, positionWords, lineOf}
+use Rattle.script_marks.specs.Marks.{halfSteps, signedHalfSteps, markWords}
+use Rattle.script_answers.specs.Answers.{unknown, refused, done, stage, text, mark, positions, stageWords, positionWords, lineOf}
 
 words : map lineOf (unknown ∷ refused 13 ∷ done ∷ stage Empty ∷ stage (Loaded 5 4) ∷ stage (Drawn 5 4 9) ∷ [])
     ≡ bytes "unknown\n" ∷ bytes "refused 13\n" ∷ bytes "ok\n" ∷ bytes "ok empty\n" ∷ bytes "ok loaded 5 4\n" ∷ bytes "ok drawn 5 4 9\n" ∷ []

@@ -1,65 +1,29 @@
 -- No answer has more than 1,500 bytes. The longest are a report line with its length, and 64 positions of at most 17 bytes with a space
--- before each. What the program writes of an f64 has at most 23 bytes, whatever it is.
-use mathlib.Core.Bool.{true, false, cond}
-use mathlib.Core.List.{List, [], _∷_, _++_}
-use Prim.Native.Nat.{ℕ, suc, _+_, _*_, _/_, _%_, _^_, _≤_, _<_}
+-- before each.
+use mathlib.Core.List.{List, [], _∷_}
+use Prim.Native.Nat.{ℕ, suc, _+_, _*_, _^_, _≤_, _<_}
 use native.Mathlib.Omega.{arith}
-use lib.Dec.{eqb}
 use lib.ListN.{length, length-append}
-use lib.IntN.{ℤ, pos, negsuc, natAbs}
-use lib.Ieee.{Float, fin, binary64, lt, mul, toUnsigned}
-use lib.Ieee.Casts.{toUnsigned-lt}
+use lib.IntN.{ℤ, pos, negsuc}
 use Rattle.ints.specs.Ints.{size, SizedTo}
-use Rattle.ints.proofs.Laws.{if-ind}
 use Rattle.ints.proofs.Reach.{sized-tail}
 use Rattle.run.specs.Call.{maxBoxes}
-use Rattle.text.specs.Bytes.{bytes}
-use Rattle.text.specs.Decimal.{decimal, signed}
+use Rattle.text.specs.Decimal.{signed}
 use Rattle.text.proofs.DecimalLaws.{decimal-length}
 use Rattle.text_write.specs.inner.Written.{Room}
-use Rattle.marks.specs.declared.types.Point.{Point}
 use Rattle.marks.specs.declared.types.Mark.{Mark}
 use Rattle.marks.specs.declared.types.Mark.the-variants.{Box, Bend, Line}
-use Rattle.marks.specs.Marks.{WholeMark, box, bend, line}
 use Rattle.marks.proofs.Exact.{Fits}
 use Rattle.sheet.specs.declared.types.Stage.{Stage}
 use Rattle.sheet.specs.declared.types.Stage.the-variants.{Empty, Loaded, Drawn}
 use Rattle.report_lines.specs.inner.Stored.{maxLine}
-use Rattle.script_answers.specs.Answers.{Said, unknown, refused, done, stage, text, mark, positions, halfSteps, signedHalfSteps, markWords, stageWords, positionWords, lineOf}
-use Rattle.script_answers.specs.inner.Floats.{wholeIn, acrossIn, pointIn, markIn, markLineIn}
+use Rattle.script_marks.specs.inner.Floats.{wholeIn, markIn}
+use Rattle.script_marks.proofs.Lengths.{number-short, whole-low, point-in-short, mark-short}
+use Rattle.script_answers.specs.Answers.{Said, unknown, refused, done, stage, text, mark, positions, stageWords, positionWords, lineOf}
+use Rattle.script_answers.specs.inner.MarkLine.{markLineIn}
 use Rattle.script_answers.specs.inner.Lengths.{maxAnswer, maxPosition, maxStage}
 
--- ---- numbers
-number-short : (n : ℕ) → n < 2 ^ 64 → length (decimal n) ≤ 20
-number-short n h = decimal-length 19 n (omega arith)
-
-half-short : (n : ℕ) → n < 2 ^ 64 → length (halfSteps n) ≤ 22
-unfolding halfSteps
-half-short n h =
-    let w = number-short (n / 2) (omega arith) in
-    simp length-append (if-ind (eqb (n % 2) 0) (bytes ".0") (bytes ".5") (λ (l : List ℕ). length (decimal (n / 2)) + length l ≤ 22) (λ e. omega arith) (λ e. omega arith))
-
--- ---- f64
-whole-low : (x : Float) → wholeIn x < 2 ^ 64
-unfolding wholeIn
-whole-low x =
-    if-ind (lt (fin true 1 (pos 0)) x) (cond (lt x (fin false 1 (pos 64))) (toUnsigned 64 x) 0) 0 (λ n. n < 2 ^ 64)
-    (λ e. if-ind (lt x (fin false 1 (pos 64))) (toUnsigned 64 x) 0 (λ n. n < 2 ^ 64) (λ f. toUnsigned-lt 64 x) (λ f. omega arith))
-    (λ e. omega arith)
-
-across-in-short : (x : Float) → length (acrossIn x) ≤ 23
-unfolding acrossIn
-across-in-short x =
-    let a = wholeIn (mul binary64 x (fin true 1 (pos 1))) in let b = wholeIn (mul binary64 x (fin false 1 (pos 1))) in
-    if-ind (lt x (fin false 0 (pos 0))) (bytes "-" ++ halfSteps a) (halfSteps b) (λ (l : List ℕ). length l ≤ 23)
-    (λ e. omega (arith, half-short a (whole-low (mul binary64 x (fin true 1 (pos 1))))))
-    (λ e. omega (arith, half-short b (whole-low (mul binary64 x (fin false 1 (pos 1))))))
-
-point-in-short : (q : Point) → length (pointIn q) ≤ 44
-point-in-short q =
-    let w = number-short (wholeIn (q .y)) (whole-low (q .y)) in
-    simp length-append (omega (arith, across-in-short (q .x)))
-
+-- ---- marks as the program writes them
 pub mark-in-short : (m : Mark) → length (markLineIn m) ≤ 98
 unfolding markLineIn markIn
 mark-in-short (Box q w) =
@@ -67,25 +31,6 @@ mark-in-short (Box q w) =
     simp length-append (omega (arith, simp length-append at (point-in-short q)))
 mark-in-short (Bend q) = simp length-append (omega (arith, simp length-append at (point-in-short q)))
 mark-in-short (Line q r) = simp length-append (omega (arith, simp length-append at (point-in-short q), simp length-append at (point-in-short r)))
-
--- ---- marks in whole numbers
-across-short : (x : ℤ) → natAbs x ≤ 2 ^ 40 → length (signedHalfSteps x) ≤ 23
-unfolding signedHalfSteps
-across-short (pos n) h = omega (arith, half-short n (omega arith))
-across-short (negsuc n) h = omega (arith, half-short (suc n) (omega arith))
-
-mark-short : (m : WholeMark) → Fits m → length (markWords m) ≤ 94
-unfolding markWords
-mark-short (box x y w) f =
-    let a = across-short x (f .0) in let b = number-short y (omega (arith, f .1)) in let c = number-short w (omega (arith, f .2)) in
-    simp length-append (omega arith)
-mark-short (bend x y) f =
-    let a = across-short x (f .0) in let b = number-short y (omega (arith, f .1)) in
-    simp length-append (omega arith)
-mark-short (line x y u v) f =
-    let a = across-short x (f .0) in let b = number-short y (omega (arith, f .1)) in
-    let c = across-short u (f .2) in let d = number-short v (omega (arith, f .3)) in
-    simp length-append (omega arith)
 
 -- ---- stages
 abbrev pub SmallStage : Stage → Type 0

@@ -1,4 +1,4 @@
 pub mod ByCase
-pub mod Back
+pub mod MarkLine
 pub mod Lengths
 pub mod Cases

@@ -1,15 +1,14 @@
 -- The answers to a script's commands, a line each with its LF, as lists of bytes.
-use mathlib.Core.Bool.{cond}
 use mathlib.Core.List.{List, [], _∷_, _++_}
-use Prim.Native.Nat.{ℕ, suc, _/_, _%_}
-use lib.Dec.{eqb}
+use Prim.Native.Nat.{ℕ}
 use lib.ListN.{length}
-use lib.IntN.{ℤ, pos, negsuc}
+use lib.IntN.{ℤ}
 use Rattle.text.specs.Bytes.{bytes}
 use Rattle.text.specs.Decimal.{decimal, signed}
-use Rattle.marks.specs.Marks.{WholeMark, box, bend, line}
+use Rattle.marks.specs.Marks.{WholeMark}
 use Rattle.sheet.specs.declared.types.Stage.{Stage}
 use Rattle.sheet.specs.declared.types.Stage.the-variants.{Empty, Loaded, Drawn}
+use Rattle.script_marks.specs.Marks.{markWords}
 
 -- What is answered to a command.
 pub data Said : Type 0 where
@@ -27,24 +26,6 @@ pub data Said : Type 0 where
   mark : WholeMark → Said
   -- the positions of a run
   positions : List ℤ → Said
-
--- Half steps as steps, "with one decimal".
-unfoldable pub halfSteps : ℕ → List ℕ
-halfSteps n = decimal (n / 2) ++ cond (eqb (n % 2) 0) (bytes ".0") (bytes ".5")
-
-unfoldable pub signedHalfSteps : ℤ → List ℕ
-signedHalfSteps (pos n) = halfSteps n
-signedHalfSteps (negsuc n) = bytes "-" ++ halfSteps (suc n)
-
--- "x y"
-abbrev pub pointWords : ℤ → ℕ → List ℕ
-pointWords x y = signedHalfSteps x ++ bytes " " ++ decimal y
-
--- "box x y hw", "bend x y", "line x1 y1 x2 y2"
-unfoldable pub markWords : WholeMark → List ℕ
-markWords (box x y w) = bytes "box " ++ pointWords x y ++ bytes " " ++ decimal w
-markWords (bend x y) = bytes "bend " ++ pointWords x y
-markWords (line x y u v) = bytes "line " ++ pointWords x y ++ bytes " " ++ pointWords u v
 
 -- "empty", "loaded V E", "drawn V E P"
 unfoldable pub stageWords : Stage → List ℕ

@@ -1,8 +1,8 @@
 // The line of each answer, written from a position of a lent buffer on. Each answers the position past what it wrote.
-use crate::mark_words::put_mark;
 use crate::words::put_positions;
 use crate::words::put_stage;
 use marks::types::Mark;
+use script_marks::mark_words::put_mark;
 use sheet::types::Stage;
 use text_write::number::put_then;
 use text_write::number::put_word;
@@ -10,7 +10,7 @@ ghost use Prim.Native.Nat.{_+_, _≤_};
 ghost use lib.ListN.{length};
 ghost use Rattle.text_write.specs.inner.Written.{Room, Wrote};
 ghost use Rattle.script_answers.specs.Answers.{unknown, refused, done, stage as staged, text, positions, lineOf};
-ghost use Rattle.script_answers.specs.inner.Floats.{markLineIn};
+ghost use Rattle.script_answers.specs.inner.MarkLine.{markLineIn};
 ghost use Rattle.script_answers.specs.inner.Lengths.{maxAnswer};
 
 // No answer is longer.

@@ -1,5 +1,3 @@
 // The answers to a script's commands, a line each in a lent buffer: see specs/.
 pub mod answers;
-pub mod mark_words;
-pub mod numbers;
 pub mod words;

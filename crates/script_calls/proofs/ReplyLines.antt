@@ -23,8 +23,8 @@ use Rattle.calls.specs.Replies as value
 use Rattle.calls.specs.Replies.{Value, written, marked, replyOf, each}
 use Rattle.calls.specs.Step.{Lent, step, Steps}
 use Rattle.script_answers.specs.Answers.{text, refused, done, mark, lineOf}
-use Rattle.script_answers.specs.inner.Floats.{markLineIn}
-use Rattle.script_answers.proofs.Back.{mark-line}
+use Rattle.script_answers.specs.inner.MarkLine.{markLineIn}
+use Rattle.script_answers.proofs.MarkLine.{mark-line}
 use Rattle.script_answers.proofs.Lengths.{said-short, mark-in-short}
 use Rattle.script_calls.specs.Said.{markAsked, callSaid, isRefusal}
 use Rattle.script_calls.specs.inner.Answered.{replyLine, isRefused, AnswerRoom, Fitted, AnswersCall}

@@ -15,7 +15,7 @@ use Rattle.calls.specs.declared.types.Reply.{Reply}
 use Rattle.calls.specs.declared.types.Reply.the-variants.{Done, Written, Given, Refused}
 use Rattle.calls.specs.Step.{Lent, step}
 use Rattle.script_answers.specs.Answers.{refused, done, text, lineOf}
-use Rattle.script_answers.specs.inner.Floats.{markLineIn}
+use Rattle.script_answers.specs.inner.MarkLine.{markLineIn}
 use Rattle.script_answers.specs.inner.Lengths.{maxAnswer}
 use Rattle.script_calls.specs.Said.{callSaid, isRefusal, runSaid}
 

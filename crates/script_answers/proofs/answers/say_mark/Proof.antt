@@ -4,7 +4,8 @@ use lib.ListN.{length-append}
 use borrow.Author.Needs.{needs}
 use Rattle.text.specs.Bytes.{bytes}
 use Rattle.text_write.proofs.Written.{wrote-none, and-then, room-after}
-use Rattle.script_answers.specs.inner.Floats.{markIn, markLineIn}
+use Rattle.script_marks.specs.inner.Floats.{markIn}
+use Rattle.script_answers.specs.inner.MarkLine.{markLineIn}
 use Rattle.script_answers.proofs.answers.say_mark.Statement.{statement}
 use Rattle.script_answers.proofs.answers.say_mark.Tie as tie
 

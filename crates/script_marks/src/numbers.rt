@@ -5,8 +5,8 @@ use text_write::number::put_then;
 use text_write::number::put_word;
 ghost use mathlib.Core.Path.{_≡_};
 ghost use Rattle.text_write.specs.inner.Written.{Room, Wrote};
-ghost use Rattle.script_answers.specs.Answers.{halfSteps};
-ghost use Rattle.script_answers.specs.inner.Floats.{wholeIn, acrossIn, downIn, pointIn};
+ghost use Rattle.script_marks.specs.Marks.{halfSteps};
+ghost use Rattle.script_marks.specs.inner.Floats.{wholeIn, acrossIn, downIn, pointIn};
 
 // The whole part of a number between -1 and 2^64; 0 for any other.
 fn whole(x: f64) -> u64

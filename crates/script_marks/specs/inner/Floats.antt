@@ -9,7 +9,7 @@ use Rattle.text.specs.Decimal.{decimal}
 use Rattle.marks.specs.declared.types.Point.{Point}
 use Rattle.marks.specs.declared.types.Mark.{Mark}
 use Rattle.marks.specs.declared.types.Mark.the-variants.{Box, Bend, Line}
-use Rattle.script_answers.specs.Answers.{halfSteps}
+use Rattle.script_marks.specs.Marks.{halfSteps}
 
 -- The whole part of a number between -1 and 2^64; 0 for any other.
 unfoldable pub wholeIn : Float → ℕ
@@ -32,7 +32,3 @@ unfoldable pub markIn : Mark → List ℕ
 markIn (Box q w) = bytes "box " ++ pointIn q ++ bytes " " ++ downIn w
 markIn (Bend q) = bytes "bend " ++ pointIn q
 markIn (Line q r) = bytes "line " ++ pointIn q ++ bytes " " ++ pointIn r
-
--- The answer's line.
-unfoldable pub markLineIn : Mark → List ℕ
-markLineIn m = bytes "ok " ++ markIn m ++ bytes "\n"

@@ -5,7 +5,7 @@ use marks::types::Mark;
 use marks::types::Point;
 use text_write::number::put_word;
 ghost use Rattle.text_write.specs.inner.Written.{Room, Wrote};
-ghost use Rattle.script_answers.specs.inner.Floats.{markIn};
+ghost use Rattle.script_marks.specs.inner.Floats.{markIn};
 
 // "box x y hw"
 fn put_box(out: &mut [u8], at: usize, q: Point, half: f64) -> usize

@@ -2,7 +2,7 @@
 -- whole part of a whole number is the number. So what the program writes of an exact mark is that mark. Assumes nothing.
 use mathlib.Core.Path.{_≡_, sym, _∙_, ap, subst}
 use mathlib.Core.Bool.{Bool, true, false}
-use Prim.Native.Nat.{ℕ, suc, _+_, _-_, _*_, _/_, _^_, _≤_, _<_}
+use Prim.Native.Nat.{ℕ, suc, _+_, _*_, _/_, _^_, _≤_, _<_}
 use native.Mathlib.Nat.{eq-of-mul-eq-mul-right, lt-trans, mul-one, mul-right-comm, mul-div-cancel, mul-lt-mul-of-pos-right}
 use native.Mathlib.Omega.{arith}
 use borrow.Author.Tests.{lt-ltb, le-ltb}
@@ -21,8 +21,8 @@ use Rattle.marks.specs.Half.{maxWhole}
 use Rattle.marks.specs.Marks.{WholeMark, box, bend, line}
 use Rattle.marks.specs.Exact.{IsHalf, IsWhole, ExactPoint, ExactMark}
 use Rattle.marks.proofs.Exact.{Fits}
-use Rattle.script_answers.specs.Answers.{mark, signedHalfSteps, pointWords, markWords, lineOf}
-use Rattle.script_answers.specs.inner.Floats.{wholeIn, acrossIn, pointIn, markIn, markLineIn}
+use Rattle.script_marks.specs.Marks.{signedHalfSteps, pointWords, markWords}
+use Rattle.script_marks.specs.inner.Floats.{wholeIn, acrossIn, pointIn, markIn}
 
 -- ---- the whole part
 above : (m : ℕ) (e : ℤ) → lt (fin true 1 (pos 0)) (fin false m e) ≡ true
@@ -110,7 +110,3 @@ mark-back (bend x y) (Box q z) f e = absurd e
 mark-back (bend x y) (Line q r) f e = absurd e
 mark-back (line x y u v) (Box q z) f e = absurd e
 mark-back (line x y u v) (Bend q) f e = absurd e
-
-pub mark-line : (w : WholeMark) (m : Mark) → Fits w → ExactMark w m → markLineIn m ≡ lineOf (mark w)
-unfolding markLineIn lineOf
-mark-line w m f e = rw (mark-back w m f e)

@@ -1,7 +1,7 @@
--- `script_answers::mark_words::put_mark` meets its contract: each arm writes the words of its case.
+-- `script_marks::mark_words::put_mark` meets its contract: each arm writes the words of its case.
 use borrow.Author.Needs.{needs}
-use Rattle.script_answers.proofs.mark_words.put_mark.Statement.{statement}
-use Rattle.script_answers.proofs.mark_words.put_mark.Tie as tie
+use Rattle.script_marks.proofs.mark_words.put_mark.Statement.{statement}
+use Rattle.script_marks.proofs.mark_words.put_mark.Tie as tie
 
 put-box-requires : tie.Need-put-box-requires
 put-box-requires c κs = rw (c .before .before .mark .given .1) at (c .before .before .before .before .before .pre)

@@ -1,7 +1,7 @@
--- `script_answers::numbers::put_down` meets its contract: the decimal of the whole part.
+-- `script_marks::numbers::put_down` meets its contract: the decimal of the whole part.
 use borrow.Author.Needs.{needs}
-use Rattle.script_answers.proofs.numbers.put_down.Statement.{statement}
-use Rattle.script_answers.proofs.numbers.put_down.Tie as tie
+use Rattle.script_marks.proofs.numbers.put_down.Statement.{statement}
+use Rattle.script_marks.proofs.numbers.put_down.Tie as tie
 
 put-decimal-requires : tie.Need-put-decimal-requires
 put-decimal-requires c κs = rw (c .whole .ensures) (c .before .before .before .pre)

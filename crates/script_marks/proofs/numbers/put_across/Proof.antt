@@ -1,15 +1,15 @@
--- `script_answers::numbers::put_across` meets its contract: a minus sign before negatives, and the half steps, which are twice the number.
+-- `script_marks::numbers::put_across` meets its contract: a minus sign before negatives, and the half steps, which are twice the number.
 use mathlib.Core.Bool.{true}
 use lib.IntN.{pos}
 use lib.Ieee.{fin, binary64, mul, ofBits, neg}
 use borrow.Author.Needs.{needs}
 use Rattle.text.specs.Bytes.{bytes}
 use Rattle.text_write.proofs.Written.{and-then, room-first, room-then}
-use Rattle.script_answers.specs.Answers.{halfSteps}
-use Rattle.script_answers.specs.inner.Floats.{wholeIn}
-use Rattle.script_answers.proofs.ByCase.{across-minus, across-plus}
-use Rattle.script_answers.proofs.numbers.put_across.Statement.{statement}
-use Rattle.script_answers.proofs.numbers.put_across.Tie as tie
+use Rattle.script_marks.specs.Marks.{halfSteps}
+use Rattle.script_marks.specs.inner.Floats.{wholeIn}
+use Rattle.script_marks.proofs.ByCase.{across-minus, across-plus}
+use Rattle.script_marks.proofs.numbers.put_across.Statement.{statement}
+use Rattle.script_marks.proofs.numbers.put_across.Tie as tie
 
 put-word-requires : tie.Need-put-word-requires
 unfolding ofBits

@@ -1,12 +1,12 @@
--- `script_answers::numbers::put_point` meets its contract: its parts one after another, each where the one before it ends.
+-- `script_marks::numbers::put_point` meets its contract: its parts one after another, each where the one before it ends.
 use native.Mathlib.Omega.{arith}
 use lib.ListN.{length-append}
 use borrow.Author.Needs.{needs}
 use Rattle.text.specs.Bytes.{bytes}
 use Rattle.text_write.proofs.Written.{wrote-none, and-then, room-after}
-use Rattle.script_answers.specs.inner.Floats.{acrossIn, downIn, pointIn}
-use Rattle.script_answers.proofs.numbers.put_point.Statement.{statement}
-use Rattle.script_answers.proofs.numbers.put_point.Tie as tie
+use Rattle.script_marks.specs.inner.Floats.{acrossIn, downIn, pointIn}
+use Rattle.script_marks.proofs.numbers.put_point.Statement.{statement}
+use Rattle.script_marks.proofs.numbers.put_point.Tie as tie
 
 put-across-requires : tie.Need-put-across-requires
 put-across-requires c κs =

@@ -1,13 +1,13 @@
--- `script_answers::mark_words::put_bend` meets its contract: its parts one after another, each where the one before it ends.
+-- `script_marks::mark_words::put_bend` meets its contract: its parts one after another, each where the one before it ends.
 use native.Mathlib.Omega.{arith}
 use lib.ListN.{length-append}
 use borrow.Author.Needs.{needs}
 use Rattle.text.specs.Bytes.{bytes}
 use Rattle.text_write.proofs.Written.{wrote-none, and-then, room-after}
 use Rattle.marks.specs.declared.types.Mark.the-variants.{Bend}
-use Rattle.script_answers.specs.inner.Floats.{pointIn, markIn}
-use Rattle.script_answers.proofs.mark_words.put_bend.Statement.{statement}
-use Rattle.script_answers.proofs.mark_words.put_bend.Tie as tie
+use Rattle.script_marks.specs.inner.Floats.{pointIn, markIn}
+use Rattle.script_marks.proofs.mark_words.put_bend.Statement.{statement}
+use Rattle.script_marks.proofs.mark_words.put_bend.Tie as tie
 
 put-word-requires : tie.Need-put-word-requires
 unfolding markIn

@@ -1,8 +1,8 @@
--- `script_answers::numbers::put_half_steps` meets its contract: steps, and whether a half is left.
+-- `script_marks::numbers::put_half_steps` meets its contract: steps, and whether a half is left.
 use borrow.Author.Needs.{needs}
-use Rattle.script_answers.proofs.ByCase.{half-even, half-odd}
-use Rattle.script_answers.proofs.numbers.put_half_steps.Statement.{statement}
-use Rattle.script_answers.proofs.numbers.put_half_steps.Tie as tie
+use Rattle.script_marks.proofs.ByCase.{half-even, half-odd}
+use Rattle.script_marks.proofs.numbers.put_half_steps.Statement.{statement}
+use Rattle.script_marks.proofs.numbers.put_half_steps.Tie as tie
 
 put-then-requires : tie.Need-put-then-requires
 put-then-requires c κs = rw (half-even (c .before .before .before .before .args .n) (c .before .before .if1 .taken)) at (c .before .before .before .before .pre)

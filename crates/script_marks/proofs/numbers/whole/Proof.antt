@@ -1,10 +1,10 @@
--- `script_answers::numbers::whole` meets its contract: between -1 and 2^64 the whole part is there to be taken.
+-- `script_marks::numbers::whole` meets its contract: between -1 and 2^64 the whole part is there to be taken.
 use mathlib.Core.Path.{sym, subst}
 use lib.Dec.{T}
 use lib.Ieee.{ofBits, neg}
-use Rattle.script_answers.specs.inner.Floats.{wholeIn}
-use Rattle.script_answers.proofs.numbers.whole.Statement.{statement}
-use Rattle.script_answers.proofs.numbers.whole.Tie as tie
+use Rattle.script_marks.specs.inner.Floats.{wholeIn}
+use Rattle.script_marks.proofs.numbers.whole.Statement.{statement}
+use Rattle.script_marks.proofs.numbers.whole.Tie as tie
 
 truncating-f64-to-u64-requires : tie.Need-truncating-f64-to-u64-requires
 unfolding ofBits neg

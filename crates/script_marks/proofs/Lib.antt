@@ -1,0 +1,3 @@
+pub mod ByCase
+pub mod Back
+pub mod Lengths
