@@ -11,7 +11,7 @@ use Rattle.plan.specs.Plan.{PlanData, numbers}
 use Rattle.plan.proofs.Levels.{length-numbers}
 use Rattle.passes.specs.Drawing.{drawingOf}
 use Rattle.text.specs.Reading.{accepted, refused}
-use Rattle.text_report.proofs.Shown.{marks-asked}
+use Rattle.text_marks.proofs.Shown.{marks-asked}
 use Rattle.text.proofs.Words.{never}
 use Rattle.picture_names.specs.Names.{Names, named, bad, namesOf, answerOf}
 use Rattle.picture_names.specs.declared.types.NamesAnswer.{NamesAnswer}

@@ -1,16 +1,29 @@
--- The limits of a plan that passes the checks, said of the lists that a program holds of it. Assumes nothing.
+-- A plan by the lists that a program holds of it; its limits, if it passes the checks, said of them. Assumes nothing.
 use mathlib.Core.Bool.{Bool, true}
 use mathlib.Core.List.{List}
-use mathlib.Core.Path.{_≡_}
+use mathlib.Core.Path.{_≡_, refl}
 use Prim.Native.Nat.{ℕ, _<_, _≤_}
 use lib.ListN.{length, getD}
 use Rattle.ints.specs.Lists.{sum}
 use Rattle.plan.specs.Limits.{maxLevels, maxGap, maxHalfWidth, maxVertices, maxSegments}
-use Rattle.plan.specs.Plan.{PlanData}
+use Rattle.plan.specs.Plan.{PlanData, vertexCount, dataOf}
 use Rattle.plan.specs.inner.Graph.{Below}
 use Rattle.plan.specs.Acceptable.{acceptable}
-use Rattle.plan.specs.inner.Held.{HoldsPlan}
+use Rattle.plan.specs.inner.Held.{heldPlan, HoldsPlan}
 use Rattle.plan.proofs.Sound.{sound}
+
+-- ---- a plan by its lists
+module _ {p : PlanData} {gap : ℕ} {sizes : List ℕ} {vias : List Bool} {halves uppers lowers : List ℕ} where
+  pub held-is : (spacing : ℕ) → HoldsPlan p gap sizes vias halves uppers lowers → p .spacing ≡ spacing → p ≡ heldPlan gap spacing sizes vias halves uppers lowers
+  held-is spacing l s = λ i. dataOf (l .levelsAre i) (l .gapIs i) (s i) (l .sizesAre i) (l .viasAre i) (l .halvesAre i) (l .uppersAre i) (l .lowersAre i)
+
+pub holds-held : {gap spacing : ℕ} {sizes : List ℕ} {vias : List Bool} {halves uppers lowers : List ℕ} → acceptable (heldPlan gap spacing sizes vias halves uppers lowers) ≡ true
+    → HoldsPlan (heldPlan gap spacing sizes vias halves uppers lowers) gap sizes vias halves uppers lowers
+holds-held ok = record { levelsAre = refl; gapIs = refl; sizesAre = refl; viasAre = refl; halvesAre = refl; uppersAre = refl; lowersAre = refl; ok = ok }
+
+-- ---- limits
+pub few-vertices : (p : PlanData) → acceptable p ≡ true → vertexCount p ≤ maxVertices
+few-vertices p ok = sound p ok .limits .vertices
 
 pub record Bounds (gap : ℕ) (sizes : List ℕ) (vias : List Bool) (halves uppers lowers : List ℕ) : Type 0 where
   pub gaps : gap ≤ maxGap

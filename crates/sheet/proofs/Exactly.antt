@@ -27,12 +27,7 @@ use Rattle.sheet.specs.Results.{gives, refuses, markResultOf, lineResult
 use Rattle.sheet.specs.Tests.{holdsPlan, holdsNumbers, holdsDrawing, test7Mark, test14, marksIn, numbersOf}
 use Rattle.sheet.specs.Calls.{markTests, mark, marksTests, marks, GivesMark, Writes, WritesMarks}
 use Rattle.sheet.specs.inner.Refusals.{countsIn}
-use Rattle.sheet.proofs.WhenRefused.{showTests, shows-given, mark-given, marks-given}
-
--- What a call gives, if it gives something.
-given : {A : Type 0} (t : Bool) (k : ℕ) (a b : A) → cond t (gives a) (refuses k) ≡ gives b → a ≡ b
-given true k a b e = cc
-given false k a b e = never (cc)
+use Rattle.sheet.proofs.WhenRefused.{given, showTests, shows-given, mark-given, marks-given}
 
 module _ (s : Sheet) where
   -- further tests behind those that all of these calls begin with

@@ -34,6 +34,11 @@ module _ {A : Type 0} (ts : List Test) (h : numbered ts ≡ true) (a : A) where
   pub gives-none : (resultAfter (firstRefusal ts) a ≡ gives a) ↔ (noneRefuses ts ≡ true)
   gives-none = given-none (gives a) refuses (λ m e. never (cc)) (λ m n e. cc) ts h
 
+-- What a call gives, if it gives something.
+pub given : {A : Type 0} (t : Bool) (k : ℕ) (a b : A) → cond t (gives a) (refuses k) ≡ gives b → a ≡ b
+given true k a b e = cc
+given false k a b e = never (cc)
+
 -- ---- each call
 module _ (s : Sheet) where
   pub draw-refused : (m : ℕ) → (draw s .result ≡ refuses m) ↔ (isFirst m (drawTests s) ≡ true)

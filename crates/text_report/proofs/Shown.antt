@@ -1,17 +1,15 @@
--- What the report and the marks of a plan that passes the checks ask for: the arrays that its draw leaves have it.
+-- What the report of a plan that passes the checks asks for: the arrays that its draw leaves have it.
 use mathlib.Core.Path.{_≡_, refl, sym, _∙_, ap}
-use mathlib.Core.Bool.{Bool, true}
+use mathlib.Core.Bool.{true}
 use mathlib.Core.List.{List, map}
-use Prim.Native.Nat.{ℕ, _+_, _-_, _≤_}
+use Prim.Native.Nat.{ℕ, _-_, _≤_}
 use native.Mathlib.Omega.{arith}
 use lib.ListN.{length, take, drop, replicate, length-append, length-replicate, length-map}
 use lib.Seq.{take-at, length-take-le}
 use lib.IntN.{ℤ, pos}
 use Rattle.ints.specs.Lists.{sum, concat, over}
-use Rattle.plan.specs.Limits.{maxVertices}
-use Rattle.plan.specs.Plan.{PlanData, vertexCount, dataOf}
+use Rattle.plan.specs.Plan.{PlanData, vertexCount}
 use Rattle.plan.specs.Acceptable.{acceptable}
-use Rattle.plan.specs.inner.Held.{heldPlan, HoldsPlan}
 use Rattle.plan.proofs.Sound.{sound}
 use Rattle.plan_renumber.specs.Renumber.{ownNumbers}
 use Rattle.plan_renumber.proofs.Own.{Own, own}
@@ -25,28 +23,16 @@ use Rattle.report.specs.Lines.{reportLines}
 use Rattle.report.specs.Numbers.{inNumbers}
 use Rattle.report_validity.proofs.Drawn.{drawn-valid}
 use Rattle.report_lines.specs.inner.Stored.{planPart, drawingFrom, Stored, ReportRoom, maxReport}
-use Rattle.report_lines.proofs.Listed.{few-placings, few-boxes, final-within}
+use Rattle.report_lines.proofs.Listed.{few-placings, few-boxes}
 use Rattle.report_lines.proofs.ByNumber.{HasPart, same-lines}
 use Rattle.report_lines.proofs.Printable.{Printable, printable}
 use Rattle.report_lines.proofs.Rooms.{report-room}
 use Rattle.report_numbers.specs.inner.Rooms.{reportBy, ReportRoomBy}
 use Rattle.report_numbers.proofs.Rooms.{report-room-by, report-by}
-use Rattle.marks.specs.inner.Asked.{AskedAll}
-use Rattle.marks.proofs.Acceptable.{asked-all}
 use Rattle.pass_list.proofs.Decoded.{decoded}
 use Rattle.pass_draw.specs.inner.Made.{Made}
 use Rattle.sheet_data.proofs.ReadBack.{boxes-sum, preliminary-long, final-long}
-use Rattle.text_report.specs.Positions.{bothOf}
 use Rattle.text_report.specs.inner.Numbered.{Remembers, reportNumbered}
-
--- ---- a plan by its lists
-module _ {p : PlanData} {gap : ℕ} {sizes : List ℕ} {vias : List Bool} {halves uppers lowers : List ℕ} where
-  pub held-is : (spacing : ℕ) → HoldsPlan p gap sizes vias halves uppers lowers → p .spacing ≡ spacing → p ≡ heldPlan gap spacing sizes vias halves uppers lowers
-  held-is spacing l s = λ i. dataOf (l .levelsAre i) (l .gapIs i) (s i) (l .sizesAre i) (l .viasAre i) (l .halvesAre i) (l .uppersAre i) (l .lowersAre i)
-
-pub holds-held : {gap spacing : ℕ} {sizes : List ℕ} {vias : List Bool} {halves uppers lowers : List ℕ} → acceptable (heldPlan gap spacing sizes vias halves uppers lowers) ≡ true
-    → HoldsPlan (heldPlan gap spacing sizes vias halves uppers lowers) gap sizes vias halves uppers lowers
-holds-held ok = record { levelsAre = refl; gapIs = refl; sizesAre = refl; viasAre = refl; halvesAre = refl; uppersAre = refl; lowersAre = refl; ok = ok }
 
 -- ---- a plan that was rearranged, and the numbers of its vertices at the front of an array
 pub record NumbersFront (p : PlanData) (v : ℕ) (ns : List ℕ) : Type 0 where
@@ -63,18 +49,6 @@ module _ (p : PlanData) (ok : acceptable (untangled p) ≡ true) where
   remembers e = let r : Remembers (untangled p) (order p) = record { ok = ok; own = untangled-own p } in rw e at r
 
 module _ (p : PlanData) (ok : acceptable p ≡ true) where
-  pub few-vertices : vertexCount p ≤ maxVertices
-  few-vertices = sound p ok .limits .vertices
-
-  -- ---- the positions
-  pub both-long : length (bothOf p) ≡ vertexCount p + vertexCount p
-  both-long = let d = drawingOf p in omega (arith, length-append (d .preliminary) (d .final), preliminary-long p ok, final-long p ok)
-
-  -- ---- the marks
-  pub marks-asked : AskedAll (p .spacing) (p .sizes) (p .vias) (p .halves) (p .uppers) (p .lowers) (drawingOf p .final)
-  marks-asked = asked-all p (drawingOf p .final) ok (final-within (drawingOf p) (demand3 p ok .within)) (final-long p ok)
-
-  -- ---- the report
   placings-few : length (drawingOf p .placings) ≤ maxListed
   placings-few = few-placings (drawingOf p) (demand3 p ok .within)
 

@@ -1,16 +1,13 @@
 -- What becomes of a text, as the programs meet it: by what reading it answered; what its report has at most, and what is printed.
 use mathlib.Core.Path.{_≡_, refl, sym, _∙_, ap}
-use mathlib.Core.Bool.{Bool, true, false, cond}
 use mathlib.Core.List.{List, [], _∷_}
 use Prim.Native.Nat.{ℕ, _≤_}
 use native.Mathlib.Omega.{arith}
 use lib.Dec.{eqb}
 use lib.ListN.{length}
-use lib.IntN.{ℤ}
-use lib.Ieee.{Float}
 use Rattle.ints.specs.Lists.{concat, over}
 use Rattle.ints.specs.Refusals.{firstRefusal}
-use Rattle.plan.specs.Plan.{PlanData, vertexCount}
+use Rattle.plan.specs.Plan.{PlanData}
 use Rattle.plan.proofs.Sound.{sound}
 use Rattle.plan_renumber.proofs.Own.{own}
 use Rattle.plan_untangle.specs.Order.{order, untangled}
@@ -30,21 +27,19 @@ use Rattle.report_validity.proofs.Drawn.{drawn-valid}
 use Rattle.report_lines.specs.inner.Stored.{maxReport}
 use Rattle.report_lines.proofs.Lengths.{report-short}
 use Rattle.report_lines.proofs.Printable.{printable, printable-by, stays-by}
-use Rattle.marks.specs.Marks.{markCount, allNumbers}
 use Rattle.sheet_data.proofs.ReadBack.{preliminary-long, final-long}
 use Rattle.sheet.specs.declared.types.LineAnswer.{LineAnswer}
 use Rattle.sheet.specs.declared.types.LineAnswer.the-variants.{Written, Refused}
-use Rattle.sheet.specs.Results.{gives, refuses, resultAfter}
+use Rattle.sheet.specs.Results.{gives, refuses}
 use Rattle.sheet.specs.Tests.{test14}
 use Rattle.sheet.specs.Calls.{TextOut, Writes}
 use Rattle.sheet.specs.inner.Printed.{Prints}
-use Rattle.sheet_fit.specs.inner.Fitted.{fitted, fittedText}
+use Rattle.sheet.proofs.WhenRefused.{given}
+use Rattle.sheet_fit.specs.inner.Fitted.{fittedText}
 use Rattle.sheet_fit.proofs.FitLaws.{fitted-long}
 use Rattle.text_report.specs.Texts.{reportOf}
 use Rattle.text_report.specs.Tangled.{tangledReportOf}
 use Rattle.text_report.specs.inner.Numbered.{reportNumbered}
-use Rattle.text_report.specs.Marks.{marksOf}
-use Rattle.text_report.specs.Positions.{bothOf, positionsOf}
 
 -- ---- a text that is accepted, and one that is refused
 module _ (p : PlanData) where
@@ -56,14 +51,6 @@ module _ (p : PlanData) where
   unfolding tangledReportOf
   tangled-of b = refl
 
-  pub marks-of : (b : List Float) → marksOf (accepted p) b ≡ fitted (markCount p) (allNumbers p (drawingOf p .final)) b
-  unfolding marksOf
-  marks-of b = refl
-
-  pub positions-of : (b : List ℤ) → positionsOf (accepted p) b ≡ fitted (vertexCount p) (bothOf p) b
-  unfolding positionsOf
-  positions-of b = refl
-
 module _ (n : ℕ) where
   pub report-not : (b : List ℕ) → Writes (reportOf (refused n) b) (Refused n) b
   unfolding reportOf
@@ -72,14 +59,6 @@ module _ (n : ℕ) where
   pub tangled-not : (b : List ℕ) → Writes (tangledReportOf (refused n) b) (Refused n) b
   unfolding tangledReportOf
   tangled-not b = record { answered = refl; left = refl }
-
-  pub marks-not : (b : List Float) → Writes (marksOf (refused n) b) (Refused n) b
-  unfolding marksOf
-  marks-not b = record { answered = refl; left = refl }
-
-  pub positions-not : (b : List ℤ) → Writes (positionsOf (refused n) b) (Refused n) b
-  unfolding positionsOf
-  positions-not b = record { answered = refl; left = refl }
 
 -- ---- a text that the first way takes has the same report both ways
 pub tangled-same : (s : List ℕ) (p : PlanData) → reading s ≡ accepted p → (b : List ℕ) → tangledReportOf (tangledReading s) b ≡ reportOf (reading s) b
@@ -91,14 +70,7 @@ tangled-same s p e b =
     ∙ ap (λ (c : Drawing). fittedText (concat (reportLines p c)) b) (stays-by p d (printable p d ok (drawn-valid p ok)) (preliminary-long p ok) (final-long p ok))
     ∙ sym (report-of p b) ∙ ap (λ g. reportOf g b) (sym e)
 
--- ---- how much a call gives
-given : (k n c : ℕ) → resultAfter k c ≡ gives n → n ≡ c
-given k n c = by (eqb k 0)
-  where
-    by : (t : Bool) → cond t (gives c) (refuses k) ≡ gives n → n ≡ c
-    by true e = cc
-    by false e = never (cc)
-
+-- ---- how much it has at most
 module _ (text : List ℕ) where
   short : (p : PlanData) → reading text ≡ accepted p → length (concat (reportLines p (drawingOf p))) ≤ maxReport
   short p e = let a = read-acceptable text p e in report-short (printable p (drawingOf p) a (drawn-valid p a))
@@ -110,7 +82,8 @@ module _ (text : List ℕ) where
       go : (g : Reading) → reading text ≡ g → reportOf g b .result ≡ gives n → n ≤ maxReport
       go (accepted p) e h =
           let w = concat (reportLines p (drawingOf p)) in
-          omega (arith, short p e, given (firstRefusal (test14 w b ∷ [])) n (length w) h)
+          let r = firstRefusal (test14 w b ∷ []) in
+          omega (arith, short p e, given (eqb r 0) r (length w) n h)
       go (refused k) e h = never (cc)
 
   pub tangled-few : (b : List ℕ) (n : ℕ) → tangledReportOf (tangledReading text) b .result ≡ gives n → n ≤ maxReport
@@ -124,27 +97,8 @@ module _ (text : List ℕ) where
           let w = reportNumbered q (order p) in
           let o = own q (order p) (sound q a .limits .sizes-sum) (untangled-own p) in
           let s = report-short (printable-by (o .once) (printable q (drawingOf q) a (drawn-valid q a))) in
-          omega (arith, s, given (firstRefusal (test14 w b ∷ [])) n (length w) h)
-      go (refused k) e h = never (cc)
-
-  pub marks-few : (b : List Float) (n : ℕ) → marksOf (reading text) b .result ≡ gives n → n ≤ 3072
-  unfolding marksOf
-  marks-few b n = go (reading text) refl
-    where
-      go : (g : Reading) → reading text ≡ g → marksOf g b .result ≡ gives n → n ≤ 3072
-      go (accepted p) e h =
-          let l = sound p (read-acceptable text p e) .limits in
-          omega (arith, l .vertices, l .segments, given (firstRefusal (test14 (allNumbers p (drawingOf p .final)) b ∷ [])) n (markCount p) h)
-      go (refused k) e h = never (cc)
-
-  pub positions-few : (b : List ℤ) (n : ℕ) → positionsOf (reading text) b .result ≡ gives n → n ≤ 1024
-  unfolding positionsOf
-  positions-few b n = go (reading text) refl
-    where
-      go : (g : Reading) → reading text ≡ g → positionsOf g b .result ≡ gives n → n ≤ 1024
-      go (accepted p) e h =
-          let l = sound p (read-acceptable text p e) .limits in
-          omega (arith, l .vertices, given (firstRefusal (test14 (bothOf p) b ∷ [])) n (vertexCount p) h)
+          let r = firstRefusal (test14 w b ∷ []) in
+          omega (arith, s, given (eqb r 0) r (length w) n h)
       go (refused k) e h = never (cc)
 
 -- ---- what is printed, by what the report answers in a buffer that has room for every report

@@ -1,3 +1,2 @@
--- Words of inner contracts: what loops keep and which arrays hold what. No public promise rests on them.
-pub mod Drawn
+-- Words of inner contracts: a plan with the numbers of a text. No public promise rests on them.
 pub mod Numbered

@@ -1,7 +1,4 @@
-// From a plan's text to its report, its marks and its positions, with no sheet between.
-pub mod all_marks;
-pub mod drawn;
-pub mod positions;
+// From a plan's text to its report, with no sheet between; the report of a text that may be tangled, and what the counter prints.
 pub mod print;
 pub mod tangled;
 pub mod whole;

@@ -3,7 +3,7 @@ use mathlib.Core.Path.{_∙_}
 use native.Mathlib.Omega.{arith}
 use borrow.Author.Needs.{needs}
 use Rattle.ints.proofs.Laws.{back′}
-use Rattle.text_report.proofs.Texts.{marks-few}
+use Rattle.text_marks.proofs.Texts.{marks-few}
 use Rattle.c_codes.proofs.CodeLaws.{codes, few}
 use Rattle.c_calls.proofs.marks_c.Statement.{statement}
 use Rattle.c_calls.proofs.marks_c.Tie as tie

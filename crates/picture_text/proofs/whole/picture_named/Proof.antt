@@ -9,8 +9,8 @@ use lib.IntN.{ℤ, pos}
 use Rattle.ints.proofs.FrontLaws.{first-fit, first-is, first-count}
 use Rattle.plan.specs.Plan.{PlanData}
 use Rattle.plan.specs.inner.Held.{heldPlan}
+use Rattle.plan.proofs.HeldLaws.{holds-held, few-vertices}
 use Rattle.passes.specs.Drawing.{drawingOf}
-use Rattle.text_report.proofs.Shown.{holds-held, few-vertices}
 use Rattle.picture_text.proofs.TextLaws.{leaves, picture-of, names-is, names-few, picture-asked}
 use Rattle.picture_text.proofs.whole.picture_named.Statement.{statement}
 use Rattle.picture_text.proofs.whole.picture_named.Tie as tie

@@ -3,7 +3,7 @@ use native.Mathlib.Omega.{arith}
 use borrow.Author.Needs.{needs}
 use Rattle.plan.specs.Plan.{PlanData}
 use Rattle.plan.specs.inner.Held.{heldPlan}
-use Rattle.text_report.proofs.Shown.{few-vertices}
+use Rattle.plan.proofs.HeldLaws.{few-vertices}
 use Rattle.picture_text.proofs.TextLaws.{good-named, bad-refused}
 use Rattle.picture_text.proofs.whole.picture_plan.Statement.{statement}
 use Rattle.picture_text.proofs.whole.picture_plan.Tie as tie

@@ -5,9 +5,9 @@ use borrow.Author.Needs.{needs}
 use lib.Seq.{length-take-le}
 use Rattle.plan.specs.Plan.{PlanData}
 use Rattle.plan.specs.Acceptable.{acceptable}
+use Rattle.plan.proofs.HeldLaws.{held-is}
 use Rattle.text.specs.Reading.{accepted}
 use Rattle.text_read.specs.inner.Taken.{InFronts}
-use Rattle.text_report.proofs.Shown.{held-is}
 use Rattle.picture_text.specs.Text.{pictureIn}
 use Rattle.picture_text.proofs.TextLaws.{leaves, refused-so}
 use Rattle.picture_text.proofs.whole.picture_text.Statement.{statement}

@@ -5,13 +5,14 @@ use borrow.Author.Needs.{needs}
 use lib.ListN.{length}
 use lib.Seq.{length-take-le}
 use Rattle.plan.specs.Plan.{PlanData}
+use Rattle.plan.proofs.HeldLaws.{held-is}
 use Rattle.plan_untangle.specs.Order.{order, untangled}
 use Rattle.text_read.specs.inner.Taken.{InFronts}
 use Rattle.sheet_fit.specs.inner.Fitted.{fittedText}
 use Rattle.sheet_fit.proofs.FitLaws.{writes}
 use Rattle.text_report.specs.Tangled.{tangledReportOf}
 use Rattle.text_report.specs.inner.Numbered.{reportNumbered}
-use Rattle.text_report.proofs.Shown.{held-is, NumbersFront, numbers-front, remembers}
+use Rattle.text_report.proofs.Shown.{NumbersFront, numbers-front, remembers}
 use Rattle.text_report.proofs.Texts.{tangled-of, tangled-not}
 use Rattle.text_report.proofs.tangled.report_tangled_text.Statement.{statement}
 use Rattle.text_report.proofs.tangled.report_tangled_text.Tie as tie

@@ -9,10 +9,11 @@ use lib.IntN.{ℤ, pos}
 use Rattle.ints.proofs.FrontLaws.{first-fit, first-is, first-count}
 use Rattle.plan.specs.Plan.{PlanData}
 use Rattle.plan.specs.inner.Held.{heldPlan}
+use Rattle.plan.proofs.HeldLaws.{holds-held, few-vertices}
 use Rattle.pass_draw.specs.inner.Made.{Made}
 use Rattle.sheet_fit.specs.inner.Fitted.{fittedText}
 use Rattle.sheet_fit.proofs.FitLaws.{writes}
-use Rattle.text_report.proofs.Shown.{holds-held, few-vertices, in-passes, in-levels, in-counts, report-asked, report-is}
+use Rattle.text_report.proofs.Shown.{in-passes, in-levels, in-counts, report-asked, report-is}
 use Rattle.text_report.proofs.Texts.{report-of}
 use Rattle.text_report.proofs.whole.report_plan.Statement.{statement}
 use Rattle.text_report.proofs.whole.report_plan.Tie as tie

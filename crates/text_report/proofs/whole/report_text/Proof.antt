@@ -5,11 +5,11 @@ use borrow.Author.Needs.{needs}
 use lib.Seq.{length-take-le}
 use Rattle.plan.specs.Plan.{PlanData}
 use Rattle.plan.specs.Acceptable.{acceptable}
+use Rattle.plan.proofs.HeldLaws.{held-is}
 use Rattle.text.specs.Reading.{accepted}
 use Rattle.text_read.specs.inner.Taken.{InFronts}
 use Rattle.sheet_fit.proofs.FitLaws.{writes}
 use Rattle.text_report.specs.Texts.{reportOf}
-use Rattle.text_report.proofs.Shown.{held-is}
 use Rattle.text_report.proofs.Texts.{report-not}
 use Rattle.text_report.proofs.whole.report_text.Statement.{statement}
 use Rattle.text_report.proofs.whole.report_text.Tie as tie

@@ -9,7 +9,7 @@ ghost use Rattle.plan.specs.Plan.{PlanData};
 ghost use Rattle.plan.specs.inner.Held.{HoldsPlan, SomePlan};
 ghost use Rattle.text.specs.Reading.{accepted, reading};
 ghost use Rattle.sheet.specs.Calls.{Writes};
-ghost use Rattle.text_report.specs.Positions.{positionsOf};
+ghost use Rattle.text_marks.specs.Positions.{positionsOf};
 
 // The positions of a plan that was read.
 fn positions_plan(

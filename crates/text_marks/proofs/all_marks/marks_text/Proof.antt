@@ -1,18 +1,18 @@
--- `text_report::all_marks::marks_text` meets its contract: by what reading the text found.
+-- `text_marks::all_marks::marks_text` meets its contract: by what reading the text found.
 use mathlib.Core.Path.{sym, _∙_, ap}
 use native.Mathlib.Omega.{arith}
 use borrow.Author.Needs.{needs}
 use lib.Seq.{length-take-le}
 use Rattle.plan.specs.Plan.{PlanData}
 use Rattle.plan.specs.Acceptable.{acceptable}
+use Rattle.plan.proofs.HeldLaws.{held-is}
 use Rattle.text.specs.Reading.{accepted}
 use Rattle.text_read.specs.inner.Taken.{InFronts}
 use Rattle.sheet_fit.proofs.FitLaws.{writes}
-use Rattle.text_report.specs.Marks.{marksOf}
-use Rattle.text_report.proofs.Shown.{held-is}
-use Rattle.text_report.proofs.Texts.{marks-not}
-use Rattle.text_report.proofs.all_marks.marks_text.Statement.{statement}
-use Rattle.text_report.proofs.all_marks.marks_text.Tie as tie
+use Rattle.text_marks.specs.Marks.{marksOf}
+use Rattle.text_marks.proofs.Texts.{marks-not}
+use Rattle.text_marks.proofs.all_marks.marks_text.Statement.{statement}
+use Rattle.text_marks.proofs.all_marks.marks_text.Tie as tie
 
 -- once the text is accepted
 abbrev done : tie.Else1 → tie.After-read-into

@@ -2,7 +2,7 @@
 use pass_draw::draw::make_drawing;
 ghost use Rattle.plan.specs.Plan.{PlanData};
 ghost use Rattle.plan.specs.inner.Held.{HoldsPlan};
-ghost use Rattle.text_report.specs.inner.Drawn.{PositionsRoom, Placed};
+ghost use Rattle.text_marks.specs.inner.Drawn.{PositionsRoom, Placed};
 
 // Draws without the list of placings.
 pub fn draw_positions(

@@ -1,4 +1,4 @@
--- `text_report::all_marks::marks_plan` meets its contract: the final positions are those of the plan's drawing.
+-- `text_marks::all_marks::marks_plan` meets its contract: the final positions are those of the plan's drawing.
 use mathlib.Core.Path.{_≡_, refl, sym, _∙_}
 use mathlib.Core.List.{List, _++_}
 use Prim.Native.Nat.{ℕ}
@@ -9,12 +9,13 @@ use lib.IntN.{ℤ, pos}
 use Rattle.ints.proofs.FrontLaws.{first-fit, first-is, first-count}
 use Rattle.plan.specs.Plan.{PlanData}
 use Rattle.plan.specs.inner.Held.{heldPlan}
+use Rattle.plan.proofs.HeldLaws.{holds-held, few-vertices}
 use Rattle.passes.specs.Drawing.{drawingOf}
 use Rattle.sheet_fit.proofs.FitLaws.{writes}
-use Rattle.text_report.proofs.Shown.{holds-held, few-vertices, marks-asked}
-use Rattle.text_report.proofs.Texts.{marks-of}
-use Rattle.text_report.proofs.all_marks.marks_plan.Statement.{statement}
-use Rattle.text_report.proofs.all_marks.marks_plan.Tie as tie
+use Rattle.text_marks.proofs.Shown.{marks-asked}
+use Rattle.text_marks.proofs.Texts.{marks-of}
+use Rattle.text_marks.proofs.all_marks.marks_plan.Statement.{statement}
+use Rattle.text_marks.proofs.all_marks.marks_plan.Tie as tie
 
 abbrev held : tie.Start → PlanData
 held c = let a = c .args in heldPlan (a .gap) (a .spacing) (a .sizes .now) (a .vias .now) (a .halves .now) (a .uppers .now) (a .lowers .now)

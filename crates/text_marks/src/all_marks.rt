@@ -11,7 +11,7 @@ ghost use Rattle.plan.specs.Acceptable.{acceptable};
 ghost use Rattle.plan.specs.inner.Held.{heldPlan};
 ghost use Rattle.text.specs.Reading.{accepted, reading};
 ghost use Rattle.sheet.specs.Calls.{Writes};
-ghost use Rattle.text_report.specs.Marks.{marksOf};
+ghost use Rattle.text_marks.specs.Marks.{marksOf};
 
 // The marks of a plan that was read.
 fn marks_plan(

@@ -1,8 +1,8 @@
--- `text_report::drawn::draw_positions` meets its contract: arrays of no length want no list.
+-- `text_marks::drawn::draw_positions` meets its contract: arrays of no length want no list.
 use borrow.Author.Needs.{needs}
 use native.Mathlib.Omega.{arith}
-use Rattle.text_report.proofs.drawn.draw_positions.Statement.{statement}
-use Rattle.text_report.proofs.drawn.draw_positions.Tie as tie
+use Rattle.text_marks.proofs.drawn.draw_positions.Statement.{statement}
+use Rattle.text_marks.proofs.drawn.draw_positions.Tie as tie
 
 make-drawing-requires : tie.Need-make-drawing-requires
 make-drawing-requires c κs = let r = c .before .before .before .before .before .before .before .before .before .before .before .before .pre in

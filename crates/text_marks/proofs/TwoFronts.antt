@@ -10,7 +10,7 @@ use lib.IntN.{ℤ}
 use Rattle.ints.specs.Lists.{over}
 use Rattle.plan.specs.Plan.{PlanData}
 use Rattle.passes.specs.Drawing.{drawingOf}
-use Rattle.text_report.specs.Positions.{bothOf}
+use Rattle.text_marks.specs.Positions.{bothOf}
 
 -- v numbers at the front, and as many right after them
 two-fronts : (xs ys o : List ℤ) (v : ℕ) → length xs ≡ v → length ys ≡ v → putMid v (v + v - v) (xs ++ drop v o) ys ≡ over (xs ++ ys) o

@@ -1,4 +1,4 @@
--- `text_report::positions::positions_plan` meets its contract: preliminary positions at the front, final ones right after them.
+-- `text_marks::positions::positions_plan` meets its contract: preliminary positions at the front, final ones right after them.
 use mathlib.Core.Path.{_≡_, refl, sym, _∙_, ap}
 use mathlib.Core.List.{List}
 use Prim.Native.Nat.{ℕ, _+_, _≤_}
@@ -12,12 +12,12 @@ use Rattle.plan.specs.Plan.{vertexCount}
 use Rattle.plan.proofs.HeldLaws.{held-bounds}
 use Rattle.sheet.specs.Results.{gives}
 use Rattle.sheet_fit.proofs.FitLaws.{fitted-short, fitted-long, writes}
-use Rattle.text_report.specs.Positions.{bothOf}
-use Rattle.text_report.proofs.Shown.{both-long}
-use Rattle.text_report.proofs.Texts.{positions-of}
-use Rattle.text_report.proofs.TwoFronts.{second-long, two-written}
-use Rattle.text_report.proofs.positions.positions_plan.Statement.{statement}
-use Rattle.text_report.proofs.positions.positions_plan.Tie as tie
+use Rattle.text_marks.specs.Positions.{bothOf}
+use Rattle.text_marks.proofs.Shown.{both-long}
+use Rattle.text_marks.proofs.Texts.{positions-of}
+use Rattle.text_marks.proofs.TwoFronts.{second-long, two-written}
+use Rattle.text_marks.proofs.positions.positions_plan.Statement.{statement}
+use Rattle.text_marks.proofs.positions.positions_plan.Tie as tie
 
 abbrev count : tie.Start → ℕ
 count c = length (c .args .vias .now)

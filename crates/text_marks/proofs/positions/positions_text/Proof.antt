@@ -1,4 +1,4 @@
--- `text_report::positions::positions_text` meets its contract: by what reading the text found.
+-- `text_marks::positions::positions_text` meets its contract: by what reading the text found.
 use mathlib.Core.Path.{sym, ap}
 use native.Mathlib.Omega.{arith}
 use borrow.Author.Needs.{needs}
@@ -6,10 +6,10 @@ use lib.Seq.{length-take-le}
 use Rattle.plan.specs.Plan.{PlanData}
 use Rattle.text_read.specs.inner.Taken.{InFronts}
 use Rattle.sheet_fit.proofs.FitLaws.{writes}
-use Rattle.text_report.specs.Positions.{positionsOf}
-use Rattle.text_report.proofs.Texts.{positions-not}
-use Rattle.text_report.proofs.positions.positions_text.Statement.{statement}
-use Rattle.text_report.proofs.positions.positions_text.Tie as tie
+use Rattle.text_marks.specs.Positions.{positionsOf}
+use Rattle.text_marks.proofs.Texts.{positions-not}
+use Rattle.text_marks.proofs.positions.positions_text.Statement.{statement}
+use Rattle.text_marks.proofs.positions.positions_text.Tie as tie
 
 -- once the text is accepted
 abbrev done : tie.Else1 → tie.After-read-into

@@ -1,0 +1,3 @@
+pub mod Shown
+pub mod TwoFronts
+pub mod Texts
