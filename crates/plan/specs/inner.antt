@@ -2,3 +2,4 @@
 pub mod Graph
 pub mod Levels
 pub mod Held
+pub mod Distances

@@ -12,12 +12,13 @@ use lib.ListN.{length, getD, set, drop, replicate, length-set, drop-of-length-le
 use lib.Seq.{drop-cons, getD-set-same, getD-set-other, set-out}
 use Rattle.ints.proofs.Laws.{cases}
 use Rattle.plan.specs.Plan.{PlanData, Siblings}
+use Rattle.plan.specs.inner.Distances.{distanceBy}
 use Rattle.plan.proofs.CountLaws.{by-same}
 use Rattle.prelim_classes.specs.inner.Links.{along, chain, Rising, among}
 use Rattle.preliminary.specs.Classes.{give}
 use Rattle.preliminary.specs.Place.{Placing, Asked, markAll, stand, askedBy, placeStrand, placeSiblings, placeEach}
 use Rattle.prelim_classes.specs.inner.Strands.{Strung}
-use Rattle.prelim_classes.specs.inner.Walks.{placing, placedBy, unbegun, Uniform, Low, distanceBy, Placeable, Asks, StrandKept, StrandPlaced, SiblingsKept, SiblingsPlaced}
+use Rattle.prelim_classes.specs.inner.Walks.{placing, placedBy, unbegun, Uniform, Low, Placeable, Asks, StrandKept, StrandPlaced, SiblingsKept, SiblingsPlaced}
 use Rattle.prelim_classes.proofs.ChainLaws.{along-end, along-on, chain-on, by-test, never, among-here, among-more, among-none, among-later, along-inside}
 
 -- ---- marks

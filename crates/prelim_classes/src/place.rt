@@ -2,20 +2,13 @@
 use crate::walk::give;
 use crate::walk::mark;
 use ints::wide;
+use plan::distances::distance;
 ghost use mathlib.Core.Path.{_≡_};
 ghost use mathlib.Core.Bool.{false};
 ghost use Prim.Native.Nat.{_<_, max};
 ghost use lib.ListN.{length, replicate};
 ghost use Rattle.plan.specs.inner.Graph.{Below};
-ghost use Rattle.prelim_classes.specs.inner.Walks.{Narrow, distanceBy, Placeable, placing, StrandKept, StrandPlaced, SiblingsKept, SiblingsPlaced, AllPlaced};
-
-// The distance of siblings u and v.
-fn distance(gap: u32, u: usize, v: usize, halves: &[u16]) -> u32
-    requires { ⌜ Narrow gap (now halves) × (u < length (now halves)) × (v < length (now halves)) ⌝ }
-    ensures { λ r. ⌜ r ≡ distanceBy gap (now (halves .entry)) u v ⌝ }
-{
-    halves[u] as u32 + gap + halves[v] as u32
-}
+ghost use Rattle.prelim_classes.specs.inner.Walks.{Placeable, placing, StrandKept, StrandPlaced, SiblingsKept, SiblingsPlaced, AllPlaced};
 
 fn greater(a: u32, b: u32) -> u32
     ensures { λ r. ⌜ r ≡ max a b ⌝ }

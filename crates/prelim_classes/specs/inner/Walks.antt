@@ -7,8 +7,9 @@ use lib.Dec.{eqb}
 use lib.ListN.{length, getD, take, drop, replicate}
 use lib.IntN.{ℤ, pos}
 use Rattle.ints.specs.Ints.{P, N}
-use Rattle.plan.specs.Limits.{maxGap, maxHalfWidth, maxVertices}
+use Rattle.plan.specs.Limits.{maxVertices}
 use Rattle.plan.specs.inner.Graph.{Below}
+use Rattle.plan.specs.inner.Distances.{Narrow}
 use Rattle.plan.specs.Plan.{PlanData, Siblings}
 use Rattle.prelim_classes.specs.inner.Links.{Rising, chain, orNone, pairsBy}
 use Rattle.prelim_classes.specs.inner.Strands.{Strung, StrandsBy}
@@ -37,15 +38,6 @@ pub record Uniform (top : List ℕ) (begun : List Bool) : Type 0 where
 -- No vertex stands beyond m, were each of n more to stand 500 further.
 pub record Low (at : List ℕ) (n m : ℕ) : Type 0 where
   pub each : (v : ℕ) → getD at v 0 + 500 * n ≤ m
-
--- The distance of siblings u and v.
-abbrev pub distanceBy : ℕ → List ℕ → ℕ → ℕ → ℕ
-distanceBy gap halves u v = getD halves u 0 + gap + getD halves v 0
-
--- Gap and half-widths within their limits.
-pub record Narrow (gap : ℕ) (halves : List ℕ) : Type 0 where
-  pub gaps : gap ≤ maxGap
-  pub within : (i : ℕ) → i < length halves → getD halves i 0 ≤ maxHalfWidth
 
 -- Lists to place strands by. Of each vertex `sibling` has the left sibling of its class.
 pub record Placeable (gap : ℕ) (halves next top sibling at : List ℕ) (begun : List Bool) : Type 0 where

@@ -7,9 +7,10 @@ use Rattle.preliminary.specs.Classes.{give}
 use mathlib.Core.List.{List}
 use native.Mathlib.Omega.{arith}
 use lib.ListN.{length, getD}
+use Rattle.plan.specs.inner.Distances.{distanceBy}
 use Rattle.prelim_classes.specs.inner.Links.{chain}
 use Rattle.preliminary.specs.Place.{markAll}
-use Rattle.prelim_classes.specs.inner.Walks.{unbegun, distanceBy, Placeable}
+use Rattle.prelim_classes.specs.inner.Walks.{unbegun, Placeable}
 use Rattle.prelim_classes.proofs.PlaceLaws.{still, begin-falls, begun-placeable, strand-kept, strand-placed, strand-kept-already, strand-placed-already, siblings-kept-none, siblings-placed-none, member-long, siblings-placed-without, siblings-placed-with, siblings-kept-with, near}
 use borrow.Author.Needs.{needs}
 use borrow.Fn.Kinds.{In}
@@ -21,7 +22,7 @@ use Rattle.prelim_classes.proofs.place.place_strand.Reads as place-stra
 use Rattle.prelim_classes.proofs.place.place_strand.Kinds as place-strand-kinds
 use Rattle.prelim_classes.proofs.place.+place_siblings+place_strand.Lts-place_strand as place-strand-lts
 use Rattle.ints.proofs.wide.Reads as wide-reads
-use Rattle.prelim_classes.proofs.place.distance.Reads as distance-reads
+use Rattle.plan.proofs.distances.distance.Reads as distance-reads
 use Rattle.prelim_classes.proofs.place.greater.Reads as greater-reads
 use Rattle.prelim_classes.proofs.walk.give.Reads as give-reads
 use Rattle.prelim_classes.proofs.walk.mark.Reads as mark-reads

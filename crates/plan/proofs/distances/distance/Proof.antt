@@ -1,11 +1,11 @@
--- `prelim_classes::place::distance` meets its contract: half-widths and gap are within their limits.
+-- `plan::distances::distance` meets its contract: half-widths and gap are within their limits.
 use mathlib.Core.Path.{refl}
 use native.Mathlib.Omega.{arith}
 use borrow.Author.Needs.{needs}
-use Rattle.prelim_classes.proofs.place.distance.Statement.{statement}
-use Rattle.prelim_classes.proofs.place.distance.Tie as tie
-use Rattle.prelim_classes.proofs.place.distance.Reads as reads
-use Rattle.prelim_classes.proofs.place.distance.Lts as lts
+use Rattle.plan.proofs.distances.distance.Statement.{statement}
+use Rattle.plan.proofs.distances.distance.Tie as tie
+use Rattle.plan.proofs.distances.distance.Reads as reads
+use Rattle.plan.proofs.distances.distance.Lts as lts
 
 cast-result : tie.Need-cast-result
 cast-result c = let p = c .before .pre in omega (arith, p .0 .within (c .before .args .u) (p .1))
