@@ -1,4 +1,4 @@
-//! Level diagrams for boat supply plans: a second reading of document 01, and of document 02's first request, E1.
+//! Level diagrams for boat supply plans: a second reading of document 01, and of document 02's first requests, E1 and E2.
 //!
 //! From text to picture, one module for each part of the paper:
 //! - [`text`] reads a plan text (check 1) and writes it again; [`plan`] holds the plan and makes checks 2 to 6;
@@ -82,4 +82,6 @@ pub mod refusal {
     pub const NO_PLAN: Refusal = 13;
     /// The buffer is shorter than the line.
     pub const SHORT_BUFFER: Refusal = 14;
+    /// The sheet was not loaded by the second way.
+    pub const OTHER_WAY: Refusal = 15;
 }

@@ -27,6 +27,8 @@ reference script < SCRIPT        the answer to each command, a line each
 reference scripts COUNT SEED     COUNT random scripts from that seed on, as one, each after a remark with its seed
 reference scripts COUNT SEED tangled
                                  the same with tangled loads, and pokes of what a sheet remembers
+reference scripts COUNT SEED text
+                                 the same with lines of the text besides
 reference answers DIR START      compares the answers to every NAME.script whose name starts so with NAME.answers
 KIND: small medium wide deep vias max tangled crossed crossed-max damaged
 ";
@@ -69,6 +71,7 @@ fn run(words: &[&str]) -> io::Result<bool> {
         ["scripts", count, seed, "tangled"] => {
             print(scripts::tangled_scripts(number(count)?, number(seed)?).as_bytes())
         }
+        ["scripts", count, seed, "text"] => print(scripts::text_scripts(number(count)?, number(seed)?).as_bytes()),
         ["answers", folder, start] => answers(Path::new(folder), start),
         _ => Err(wrong(USAGE)),
     }

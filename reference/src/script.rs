@@ -7,6 +7,7 @@
 //! stage S                      ok empty, ok loaded V E, ok drawn V E P
 //! line S n [BUF]               ok LENGTH LINE, without its LF; BUF is the length of the buffer, else it is long enough
 //! lines S                      line 0, line 1, .. up to and with the refusal
+//! text S n [BUF], texts S      the same of the plan text as it was read
 //! mark S n                     ok box X Y HALF-WIDTH, ok bend X Y, ok line X Y X Y; X with one decimal
 //! marks S                      mark 0, mark 1, .. up to and with the refusal
 //! placerun ..                  ok and the positions
@@ -89,6 +90,7 @@ impl Script {
 fn call(sheet: &mut Sheet, name: &str, words: &[&str]) -> Option<Vec<String>> {
     let one = match (name, words) {
         ("lines", []) => return Some(each(sheet.lines(), |line| line_said(line))),
+        ("texts", []) => return Some(each(sheet.text_lines(), |line| line_said(line))),
         ("marks", []) => return Some(each(sheet.marks(), |mark| mark_said(*mark))),
         ("draw", []) => said(sheet.draw().map(|()| String::new())),
         ("clear", []) => {
@@ -96,8 +98,10 @@ fn call(sheet: &mut Sheet, name: &str, words: &[&str]) -> Option<Vec<String>> {
             done()
         }
         ("stage", []) => said(Ok(sheet.stage.to_string())),
-        ("line", [n]) => line_answer(sheet, number(n)?, MAX_LINE),
-        ("line", [n, room]) => line_answer(sheet, number(n)?, number(room)?),
+        ("line", [n]) => line_answer(number(n)?, MAX_LINE, |n, buffer| sheet.line(n, buffer)),
+        ("line", [n, room]) => line_answer(number(n)?, number(room)?, |n, buffer| sheet.line(n, buffer)),
+        ("text", [n]) => line_answer(number(n)?, MAX_LINE, |n, buffer| sheet.text_line(n, buffer)),
+        ("text", [n, room]) => line_answer(number(n)?, number(room)?, |n, buffer| sheet.text_line(n, buffer)),
         ("mark", [n]) => said(sheet.mark(number(n)?).map(mark_said)),
         ("poke", words) => {
             poke::poke(sheet, words)?;
@@ -136,10 +140,10 @@ fn each<T>(all: Result<Vec<T>, Refusal>, say: impl Fn(&T) -> String) -> Vec<Stri
     }
 }
 
-/// The answer to the call line with a buffer of that length; no line needs more than the longest.
-fn line_answer(sheet: &Sheet, n: usize, room: usize) -> String {
+/// The answer to a call that writes the n-th line to a buffer of that length; no line needs more than the longest.
+fn line_answer(n: usize, room: usize, line: impl Fn(usize, &mut [u8]) -> Result<usize, Refusal>) -> String {
     let mut buffer = vec![0; room.min(MAX_LINE)];
-    said(sheet.line(n, &mut buffer).map(|length| line_said(&buffer[..length])))
+    said(line(n, &mut buffer).map(|length| line_said(&buffer[..length])))
 }
 
 /// A line's length, its LF included, and the line without it.

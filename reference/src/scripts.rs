@@ -1,7 +1,8 @@
 //! Random scripts, the same for the same seed.
 //!
 //! A script is answered while it is made, so that its commands know how many lines, marks and entries there are to ask for
-//! or to alter. Scripts come without or with the commands of E1: tangled loads, and pokes of what a sheet remembers.
+//! or to alter. Scripts come with the commands of no request, of E1 (tangled loads, and pokes of what a sheet remembers) or of
+//! E1 and E2 (also lines of the text as it was read).
 
 use crate::generate::generate;
 use crate::pokes::{self, Damage};
@@ -19,7 +20,7 @@ const MOST_IN_LOAD: usize = 200_000;
 const MOST_IN_REQUEST: usize = 2_000;
 
 /// Lines that are no commands.
-const UNKNOWN: [&str; 54] = [
+const UNKNOWN: [&str; 60] = [
     " ",
     "drow 1",
     "Draw 1",
@@ -39,6 +40,12 @@ const UNKNOWN: [&str; 54] = [
     "line 1 0 99 99",
     "lines",
     "lines 1 0",
+    "text 1",
+    "text 1 x",
+    "text 1 -1",
+    "text 1 0 99 99",
+    "texts",
+    "texts 1 0",
     "mark 1",
     "mark 1 x",
     "mark 1 -1",
@@ -91,13 +98,11 @@ const EDGES: [&str; 10] = [
 ];
 
 /// Commands of later requests, as long as they have not landed no commands either.
-const LATER: [&str; 16] = [
+const LATER: [&str; 14] = [
     "draw 2",
     "mark 1 1 0",
     "marks 1 1",
-    "texts 1",
     "load 1 generous (plan 1 1 1)\\n(level (box 1))\\n(end)\\n",
-    "text 1 0",
     "walk 1 (plan 1 1 1)\\n(level (box 1))\\n(end)\\n",
     "placerun r=1 old=0 counts=1 nbrs=3 dist= ratings=1",
     "poke 1 slope none",
@@ -120,23 +125,33 @@ pub fn tangled_scripts(count: u64, seed: u64) -> String {
     joined(count, seed, tangled_script)
 }
 
+/// The same with the commands of E1 and E2.
+pub fn text_scripts(count: u64, seed: u64) -> String {
+    joined(count, seed, text_script)
+}
+
 fn joined(count: u64, seed: u64, script: fn(u64) -> String) -> String {
     let one = |seed: u64| format!("# script {seed}\nclear 1\n{}", script(seed));
     (0..count).map(|i| one(seed.wrapping_add(i))).collect()
 }
 
-/// The script of a seed, without the commands of E1.
+/// The script of a seed, with the commands of no request.
 pub fn script(seed: u64) -> String {
-    made(Random::new("script", seed), false)
+    made(Random::new("script", seed), 0)
 }
 
 /// The script of a seed, with the commands of E1.
 pub fn tangled_script(seed: u64) -> String {
-    made(Random::new("tangled script", seed), true)
+    made(Random::new("tangled script", seed), 1)
 }
 
-fn made(random: Random, with_tangled: bool) -> String {
-    let mut maker = Maker { random, with_tangled, run: Script::new(), text: String::new(), repairs: Vec::new() };
+/// The script of a seed, with the commands of E1 and E2.
+pub fn text_script(seed: u64) -> String {
+    made(Random::new("text script", seed), 2)
+}
+
+fn made(random: Random, requests: u32) -> String {
+    let mut maker = Maker { random, requests, run: Script::new(), text: String::new(), repairs: Vec::new() };
     let pokes = maker.random.once_in(3);
     for _ in 0..maker.random.within(5, 40) {
         if pokes && maker.random.once_in(2) {
@@ -148,14 +163,17 @@ fn made(random: Random, with_tangled: bool) -> String {
     maker.say("stage 1");
     maker.say("lines 1");
     maker.say("marks 1");
+    if requests >= 2 {
+        maker.say("texts 1");
+    }
     maker.text
 }
 
 /// A script that is being made.
 struct Maker {
     random: Random,
-    /// Whether it has commands of E1.
-    with_tangled: bool,
+    /// How many requests it has the commands of.
+    requests: u32,
     /// What the lines so far have done.
     run: Script,
     text: String,
@@ -179,6 +197,7 @@ impl Maker {
             0..=2 => self.load(),
             3..=5 => self.say("draw 1"),
             6 => self.say("stage 1"),
+            7 | 8 if self.requests >= 2 => self.text_line(),
             7..=10 => self.line(),
             11..=13 => self.mark(),
             14 | 15 => self.ask(),
@@ -200,7 +219,7 @@ impl Maker {
     fn load(&mut self) {
         let kinds = ["small", "small", "small", "medium", "vias", "vias", "tangled", "damaged", "damaged"];
         let large = ["wide", "deep", "max"];
-        if self.with_tangled && !self.random.once_in(3) {
+        if self.requests >= 1 && !self.random.once_in(3) {
             let kinds = ["small", "vias", "tangled", "crossed", "crossed", "crossed", "damaged", "damaged"];
             self.load_one_of("tangled", &kinds, &["wide", "max", "crossed-max"]);
         } else {
@@ -223,18 +242,29 @@ impl Maker {
 
     /// One of the calls that show whether a sheet is as it should be.
     fn ask(&mut self) {
-        match self.random.below(5) {
+        match self.random.below(if self.requests >= 2 { 7 } else { 5 }) {
             0 => self.say("draw 1"),
             1 => self.say("lines 1"),
             2 => self.say("marks 1"),
             3 => self.line(),
-            _ => self.mark(),
+            4 => self.mark(),
+            5 => self.say("texts 1"),
+            _ => self.text_line(),
         }
     }
 
-    /// A line, at times with a buffer that just holds it or just not.
     fn line(&mut self) {
         let lines = self.run.sheet.lines().unwrap_or_default();
+        self.one_line("line", &lines);
+    }
+
+    fn text_line(&mut self) {
+        let lines = self.run.sheet.text_lines().unwrap_or_default();
+        self.one_line("text", &lines);
+    }
+
+    /// One of these lines, at times with a buffer that just holds it or just not.
+    fn one_line(&mut self, name: &str, lines: &[Vec<u8>]) {
         let n = self.number_below(lines.len());
         let length = lines.get(n).map_or(20, Vec::len);
         let room = match self.random.below(8) {
@@ -242,9 +272,9 @@ impl Maker {
             1 => length - 1,
             2 => length + 1,
             3 => self.random.pick(&[0, 1, 5, 1_421]),
-            _ => return self.say(&format!("line 1 {n}")),
+            _ => return self.say(&format!("{name} 1 {n}")),
         };
-        self.say(&format!("line 1 {n} {room}"));
+        self.say(&format!("{name} 1 {n} {room}"));
     }
 
     fn mark(&mut self) {
@@ -288,7 +318,7 @@ impl Maker {
     }
 
     fn damage(&mut self) {
-        for Damage { poke, repair } in pokes::damage(&mut self.random, &self.run.sheet, self.with_tangled) {
+        for Damage { poke, repair } in pokes::damage(&mut self.random, &self.run.sheet, self.requests >= 1) {
             self.say(&poke);
             self.repairs.push(repair);
         }
@@ -352,14 +382,16 @@ mod tests {
 
     #[test]
     fn scripts_meet_every_answer() {
-        meet_every_answer(&scripts(300, 0));
-        meet_every_answer(&tangled_scripts(300, 0));
+        let numbers = [1, 2, 3, 4, 5, 6, 7, 8, 11, 12, 13, 14, 15];
+        meet_every_answer(&scripts(300, 0), &numbers[..12]);
+        meet_every_answer(&tangled_scripts(300, 0), &numbers[..12]);
+        meet_every_answer(&text_scripts(300, 0), &numbers);
     }
 
-    fn meet_every_answer(script: &str) {
+    fn meet_every_answer(script: &str, numbers: &[u32]) {
         let answers = script::answers(script.as_bytes());
         let answers = String::from_utf8(answers).expect("ASCII");
-        for number in [1, 2, 3, 4, 5, 6, 7, 8, 11, 12, 13, 14] {
+        for number in numbers {
             let refused = format!("refused {number}");
             assert!(answers.lines().any(|line| line == refused), "{number}");
         }
@@ -390,6 +422,18 @@ mod tests {
         let refused = [1, 2, 3, 4, 5].map(|number| count(&format!("refused {number}")));
         assert!(refused.iter().all(|&count| count > 10), "{refused:?}");
         assert_eq!(count("ok") + refused.iter().sum::<usize>(), answers.len());
+    }
+
+    #[test]
+    fn lines_of_the_text_in_scripts() {
+        for without in [scripts(300, 0), tangled_scripts(300, 0)] {
+            assert_eq!(answers_to("text", &without).iter().find(|answer| *answer != "unknown"), None);
+        }
+        let answers = answers_to("text", &text_scripts(300, 0));
+        let met = |start: &str| answers.iter().filter(|answer| answer.starts_with(start)).count();
+        let counts = ["ok ", "refused 7", "refused 11", "refused 13", "refused 14", "refused 15", "unknown"].map(met);
+        assert!(counts.iter().all(|&count| count > 10), "{counts:?}");
+        assert_eq!(counts.iter().sum::<usize>(), answers.len());
     }
 
     #[test]

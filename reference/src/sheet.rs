@@ -1,7 +1,8 @@
-//! A sheet and its calls: load, draw, line, mark and clear.
+//! A sheet and its calls: load, draw, line, text, mark and clear.
 //!
-//! A refused call changes neither sheet nor buffer. The tests before a line or mark come in the order 11, 12, 13, 7, 14;
-//! of a sheet's drawing nothing is asked before 13 has looked at plan, remembered numbers and drawing.
+//! A refused call changes neither sheet nor buffer. The tests before a line or mark come in the order 11, 12, 13, 7, 14,
+//! those before a line of the text (E2) in the order 11, 15, 13, 7, 14; of a sheet's drawing nothing is asked before 13 has
+//! looked at plan, remembered numbers and drawing.
 //!
 //! There are two ways of loading: the first refuses crossed inner segments with 6, the second (E1) takes such plans and
 //! rearranges them. After either, lines use the numbers of the text, which are the sheet's own unless vias were rearranged;
@@ -129,6 +130,12 @@ impl Sheet {
         lend(&nth(&self.lines()?, n)?, buffer)
     }
 
+    /// Writes the n-th line of the plan text as it was read to the start of the buffer and gives its length. Refused with
+    /// 11, 15, 13, 7, 14.
+    pub fn text_line(&self, n: usize, buffer: &mut [u8]) -> Result<usize, Refusal> {
+        lend(&nth(&self.text_lines()?, n)?, buffer)
+    }
+
     /// The n-th mark. Refused with 11, 12, 13, 7.
     pub fn mark(&self, n: usize) -> Result<Mark, Refusal> {
         nth(&self.marks()?, n)
@@ -142,8 +149,18 @@ impl Sheet {
     /// All report lines, each with its LF. Refused with 11, 12, 13.
     pub fn lines(&self) -> Result<Vec<Vec<u8>>, Refusal> {
         let (loaded, drawing) = self.drawn()?;
-        let report = report::remembered_lines(&loaded, &drawing);
-        Ok(report.split_inclusive(|&byte| byte == b'\n').map(<[u8]>::to_vec).collect())
+        Ok(lines_of(&report::remembered_lines(&loaded, &drawing)))
+    }
+
+    /// All lines of the plan text as it was read, each with its LF: the plan in its remembered numbers (E2), drawn or not.
+    /// Refused with 11, 15, 13.
+    pub fn text_lines(&self) -> Result<Vec<Vec<u8>>, Refusal> {
+        if self.stage != Stage::Empty && !self.loading.tangled {
+            return Err(refusal::OTHER_WAY);
+        }
+        let Loaded { plan, numbers } = self.loaded()?;
+        let as_read = tangled::renumbered(plan.draft(), &tangled::inverse(&numbers));
+        Ok(lines_of(&text::write_form(&as_read)))
     }
 
     /// All marks. Refused with 11, 12, 13.
@@ -172,6 +189,11 @@ impl Sheet {
             }
         }
     }
+}
+
+/// The lines of a text, each with its LF.
+fn lines_of(text: &[u8]) -> Vec<Vec<u8>> {
+    text.split_inclusive(|&byte| byte == b'\n').map(<[u8]>::to_vec).collect()
 }
 
 /// The n-th of all, or refusal 7.

@@ -1,5 +1,5 @@
 //! Plans that arrive tangled (E1): which vias change places, what a sheet remembers of it, and its lines in the numbers of
-//! the text.
+//! the text; and the text given back (E2).
 
 use std::fs;
 use std::path::Path;
@@ -499,4 +499,88 @@ fn numbers_after_sizes_have_changed() {
     assert_eq!(sheet.lines().err(), Some(13));
     sheet.plan.sizes[..2].copy_from_slice(&[1, 3]);
     assert!(sheet.lines().is_ok());
+}
+
+// ---------------------------------------------------------------------------------------------------------------------
+// The text as it was read (E2)
+
+/// All lines of the text, by one call a line in a buffer that just holds the line.
+fn given_back(sheet: &Sheet) -> Vec<u8> {
+    let lines = sheet.text_lines().expect("a sheet loaded by the second way");
+    for (n, line) in lines.iter().enumerate() {
+        let mut buffer = vec![b'?'; line.len() + 3];
+        assert_eq!(sheet.text_line(n, &mut buffer), Ok(line.len()));
+        assert_eq!((&buffer[..line.len()], &buffer[line.len()..]), (&line[..], &b"???"[..]));
+        assert_eq!(sheet.text_line(n, &mut buffer[..line.len() - 1]), Err(14));
+        assert!(line.ends_with(b"\n") && !line[..line.len() - 1].contains(&b'\n'));
+    }
+    assert_eq!(sheet.text_line(lines.len(), &mut []), Err(7));
+    lines.concat()
+}
+
+/// "Loading by E1 and then asking for all lines gives the input again, for every accepted plan", drawn or not.
+#[test]
+fn the_text_is_given_back() {
+    for kind in KINDS {
+        for seed in 0..if kind.ends_with("max") { 3 } else { 60 } {
+            let text = generate(kind, seed).expect("a kind");
+            let mut sheet = Sheet::empty();
+            if sheet.load_tangled(&text).is_ok() {
+                assert!(given_back(&sheet) == text, "{kind} {seed}");
+                sheet.draw().expect("a plan");
+                assert!(given_back(&sheet) == text, "{kind} {seed}");
+            }
+        }
+    }
+}
+
+/// "Of a sheet handed in, the text is its plan written in its remembered numbers."
+#[test]
+fn the_text_of_a_sheet_handed_in() {
+    let mut sheet = Sheet::empty();
+    sheet
+        .load(
+            b"(plan 2 1 5)\n(level (box 1) (box 2))\n(level (box 3) (box 4))\n(seg 0 2)\n(seg 0 3)\n(seg 1 3)\n(end)\n",
+        )
+        .expect("a plan");
+    sheet.loading.tangled = true;
+    sheet.loading.numbers[..4].copy_from_slice(&[1, 0, 3, 2]);
+    let text =
+        b"(plan 2 1 5)\n(level (box 2) (box 1))\n(level (box 4) (box 3))\n(seg 0 2)\n(seg 1 2)\n(seg 1 3)\n(end)\n";
+    assert_eq!(given_back(&sheet), text);
+}
+
+/// 11, then 15, then 13, then 7, then 14.
+#[test]
+fn the_text_is_refused_in_order() {
+    let answer = |sheet: &Sheet, n| sheet.text_line(n, &mut []).expect_err("a buffer of no length");
+    let after = |change: fn(&mut Sheet)| {
+        let mut sheet = drawn(&crossed());
+        change(&mut sheet);
+        (answer(&sheet, 0), answer(&sheet, 99))
+    };
+    assert_eq!(after(|_| {}), (14, 7));
+    assert_eq!(after(|sheet| sheet.clear()), (11, 11));
+    assert_eq!(after(|sheet| sheet.stage = Stage::Empty), (11, 11));
+    assert_eq!(after(|sheet| sheet.loading.tangled = false), (15, 15));
+    assert_eq!(after(|sheet| sheet.plan.levels = 0), (13, 13));
+    assert_eq!(after(|sheet| sheet.loading.numbers[0] = 1), (13, 13));
+    assert_eq!(after(|sheet| sheet.drawing.position[0] = i64::MAX), (14, 7));
+    assert_eq!(
+        after(|sheet| {
+            sheet.loading.tangled = false;
+            sheet.plan.levels = 0;
+        }),
+        (15, 15)
+    );
+    assert_eq!(
+        after(|sheet| {
+            sheet.loading.tangled = false;
+            sheet.stage = Stage::Empty;
+        }),
+        (11, 11)
+    );
+    let mut first = Sheet::empty();
+    first.load(&generate("small", 0).expect("a kind")).expect("an acceptable plan");
+    assert_eq!(answer(&first, 0), 15);
 }
