@@ -33,6 +33,10 @@ int64_t report_c(const uint8_t *text, size_t text_length, uint8_t *out, size_t o
 /* The same for a plan text that may be tangled: the report of the rearranged plan, in the numbers of the text. It is refused with 1 to 5. */
 int64_t report_tangled_c(const uint8_t *text, size_t text_length, uint8_t *out, size_t out_length);
 
+/* Loads a plan text that may be tangled and gives it back: writes the plan in the numbers of the text into out, which is the text again,
+   and returns its length. Else as for report_tangled_c. */
+int64_t text_back_c(const uint8_t *text, size_t text_length, uint8_t *out, size_t out_length);
+
 /* Rearranges a plan text that may be tangled: writes the rearranged plan's text into out and returns its length, and into numbers for
    each vertex of that plan its number in the text given. Returns -N if the text is refused with N, 1 to 5, and -14 if out or numbers is too
    short; both are then untouched. What lies beyond stays. Vias alone change places: a box keeps its number. */

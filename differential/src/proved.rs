@@ -48,6 +48,8 @@ extern "C" {
 
     fn report_tangled_c(text: *const u8, text_len: usize, out: *mut u8, out_len: usize) -> i64;
 
+    fn text_back_c(text: *const u8, text_len: usize, out: *mut u8, out_len: usize) -> i64;
+
     fn untangle_c(
         text: *const u8,
         text_len: usize,
@@ -119,6 +121,13 @@ pub fn write_report(text: &[u8], out: &mut [u8]) -> Result<usize, u32> {
 pub fn write_tangled_report(text: &[u8], out: &mut [u8]) -> Result<usize, u32> {
     // The function reads and writes the lent slices alone, within their lengths.
     answer(unsafe { report_tangled_c(text.as_ptr(), text.len(), out.as_mut_ptr(), out.len()) })
+}
+
+/// Loads a text that may be tangled and writes it back into the buffer, from the rearranged plan and its remembered numbers: how many
+/// bytes it has. Else as for `reread`.
+pub fn write_text_back(text: &[u8], out: &mut [u8]) -> Result<usize, u32> {
+    // The function reads and writes the lent slices alone, within their lengths.
+    answer(unsafe { text_back_c(text.as_ptr(), text.len(), out.as_mut_ptr(), out.len()) })
 }
 
 /// Writes the text of the rearranged plan into the buffer, and each vertex's number in the text given into the other: how many bytes

@@ -65,11 +65,21 @@ fn more_random_scripts_with_tangled_loads() {
     (SCRIPTS..2 * SCRIPTS).for_each(|seed| compare_random(seed, scripts::tangled_script));
 }
 
+#[test]
+fn random_scripts_with_lines_of_the_text() {
+    (0..SCRIPTS).for_each(|seed| compare_random(seed, scripts::text_script));
+}
+
+#[test]
+fn more_random_scripts_with_lines_of_the_text() {
+    (SCRIPTS..2 * SCRIPTS).for_each(|seed| compare_random(seed, scripts::text_script));
+}
+
 /// Each script gives the answers that stand beside it.
 #[test]
 fn vectors() {
     let scripts = vectors::scripts();
-    assert_eq!(scripts.len(), 55);
+    assert_eq!(scripts.len(), 82);
     for file in scripts {
         let expected = fs::read(file.with_extension("answers")).expect("answers");
         let mut out = vec![OLD; expected.len()];

@@ -1,5 +1,5 @@
 //! The proved calls for texts that may be tangled against the reference: the report in the numbers of the text, and the rearranged plan
-//! with its vertices' numbers; on random texts of every kind, at the edges, on all vectors, in buffers of any length.
+//! with its vertices' numbers; and the text given back; on random texts of every kind, at the edges, on all vectors, in buffers of any length.
 
 use differential::proved::{self, MAX_REPORT, MAX_TEXT, MAX_VERTICES};
 use differential::vectors::plans;
@@ -88,6 +88,46 @@ fn compare_kind(kind: &str, times: u64) -> u64 {
     crossing
 }
 
+/// "Loading by E1 and then asking for all lines gives the input again": how many of these texts were taken, each given back byte for
+/// byte.
+fn given_back(kind: &str, times: u64) -> u64 {
+    let mut out = vec![OLD; MAX_TEXT];
+    let mut taken = 0;
+    for seed in 0..times {
+        let plan_text = generate(kind, seed).expect("a kind");
+        let length = plan_text.len();
+        match proved::write_text_back(&plan_text, &mut out) {
+            Ok(written) => {
+                assert_eq!(written, length, "{kind} {seed}");
+                assert!(out[..length] == plan_text && all_are(&out[length..], OLD), "{kind} {seed}: another text");
+                out[..length].fill(OLD);
+                assert_eq!(proved::write_text_back(&plan_text, &mut out[..length - 1]), Err(SHORT), "{kind} {seed}");
+                taken += 1;
+            }
+            Err(number) => assert_eq!(tangled::read(&plan_text).err(), Some(number), "{kind} {seed}"),
+        }
+        assert!(all_are(&out, OLD), "{kind} {seed}");
+    }
+    taken
+}
+
+#[test]
+fn a_hundred_thousand_texts_are_given_back() {
+    let counts = [
+        ("crossed", 60_000),
+        ("tangled", 20_000),
+        ("vias", 10_000),
+        ("small", 10_000),
+        ("damaged", 20_000),
+        ("crossed-max", 200),
+        ("max", 100),
+    ]
+    .map(|(kind, times)| given_back(kind, times));
+    println!("given back: {counts:?}");
+    assert!(counts.iter().sum::<u64>() >= 100_000);
+    assert!(counts[4] > 50 && counts[4] < 20_000);
+}
+
 #[test]
 fn crossed_texts() {
     assert!(compare_kind("crossed", 5_000) > 3_000);
@@ -145,6 +185,7 @@ fn short_buffers() {
         assert!(out == expected.text && numbers == expected.numbers);
     }
     assert_eq!(proved::write_tangled_report(b"", &mut []), Err(1));
+    assert_eq!(proved::write_text_back(b"", &mut []), Err(1));
     assert_eq!(proved::write_untangled(b"", &mut [], &mut []), Err(1));
 }
 

@@ -7,6 +7,7 @@ use c_codes::run_code;
 use picture_text::whole::picture_text;
 use place_run::call::place_run;
 use script_run::script::answers;
+use sheet_text::back::text_back;
 use text_marks::all_marks::marks_text;
 use text_marks::positions::positions_text;
 use text_report::tangled::report_tangled_text;
@@ -17,6 +18,7 @@ ghost use Rattle.run.specs.Call.{callOf};
 ghost use Rattle.text.specs.Reading.{reading, tangledReading};
 ghost use Rattle.text_write.specs.Again.{rewritten};
 ghost use Rattle.script_told.specs.Scripts.{scriptOf};
+ghost use Rattle.sheet_text.specs.Back.{textBack};
 ghost use Rattle.text_marks.specs.Marks.{marksOf};
 ghost use Rattle.text_marks.specs.Positions.{positionsOf};
 ghost use Rattle.text_report.specs.Tangled.{tangledReportOf};
@@ -76,6 +78,15 @@ pub extern "C" fn report_tangled_c(text: &[u8], out: &mut [u8]) -> i64
     ensures { λ r. ⌜ Codes (tangledReportOf (tangledReading (now (text .entry))) (now (out .entry))) r (now (out .exit)) ⌝ }
 {
     let answer = report_tangled_text(text, out);
+    code(answer)
+}
+
+// How many bytes the text has again, loaded by E1's way and given back in the numbers of the text; else as for `report_tangled_c`.
+#[no_mangle]
+pub extern "C" fn text_back_c(text: &[u8], out: &mut [u8]) -> i64
+    ensures { λ r. ⌜ Codes (textBack (now (text .entry)) (now (out .entry))) r (now (out .exit)) ⌝ }
+{
+    let answer = text_back(text, out);
     code(answer)
 }
 

@@ -11,7 +11,7 @@ use Rattle.sheet.specs.Results.{lineResultOf, markResultOf}
 use Rattle.sheet.specs.Calls as sheet
 use Rattle.sheet.specs.Calls.{SheetOut, Leaves, Draws, Writes}
 use Rattle.calls.specs.declared.types.Call.{Call}
-use Rattle.calls.specs.declared.types.Call.the-variants.{Load, LoadTangled, Draw, Line, Report, Mark, Marks, Clear}
+use Rattle.calls.specs.declared.types.Call.the-variants.{Load, LoadTangled, Draw, Line, Report, TextLine, WholeText, Mark, Marks, Clear}
 use Rattle.calls.specs.declared.types.Reply.{Reply}
 use Rattle.calls.specs.Replies.{done, written, marked, replyOf, each}
 use Rattle.calls.specs.Step.{Lent, Steps, step, changed}
@@ -56,6 +56,16 @@ module _ (l : Lent) (s : Sheet) where
         → Steps (step q l s) r s b (l .numbers)
     unfolding step
     report-steps e h k = rw e (record { answered = k ∙ ap (each written) (h .answered); left = refl; bytes = h .left; floats = refl })
+
+    pub text-line-steps : {n : ℕ} {b : List ℕ} → q ≡ TextLine n → Writes (sheet.textLine s n (l .buffer)) a b → replyOf r ≡ each written (lineResultOf a)
+        → Steps (step q l s) r s b (l .numbers)
+    unfolding step
+    text-line-steps e h k = rw e (record { answered = k ∙ ap (each written) (h .answered); left = refl; bytes = h .left; floats = refl })
+
+    pub whole-text-steps : {b : List ℕ} → q ≡ WholeText → Writes (sheet.wholeText s (l .buffer)) a b → replyOf r ≡ each written (lineResultOf a)
+        → Steps (step q l s) r s b (l .numbers)
+    unfolding step
+    whole-text-steps e h k = rw e (record { answered = k ∙ ap (each written) (h .answered); left = refl; bytes = h .left; floats = refl })
 
     pub marks-steps : {b : List Float} → q ≡ Marks → Writes (sheet.marks s (l .numbers)) a b → replyOf r ≡ each written (lineResultOf a)
         → Steps (step q l s) r s (l .buffer) b

@@ -10,9 +10,9 @@ use Rattle.text.proofs.Words.{never}
 use Rattle.sheet.specs.declared.types.Sheet.{Sheet}
 use Rattle.sheet.specs.Results.{Result, gives, refuses}
 use Rattle.sheet.specs.Calls.{clear}
-use Rattle.sheet.proofs.WhenRefused.{load-kept, tangled-kept, draw-kept, line-kept, report-kept, marks-kept}
+use Rattle.sheet.proofs.WhenRefused.{load-kept, tangled-kept, draw-kept, line-kept, report-kept, text-line-kept, whole-text-kept, marks-kept}
 use Rattle.calls.specs.declared.types.Call.{Call}
-use Rattle.calls.specs.declared.types.Call.the-variants.{Load, LoadTangled, Draw, Line, Report, Mark, Marks, Clear}
+use Rattle.calls.specs.declared.types.Call.the-variants.{Load, LoadTangled, Draw, Line, Report, TextLine, WholeText, Mark, Marks, Clear}
 use Rattle.calls.specs.Replies.{Value, each}
 use Rattle.calls.specs.Step.{Lent, After, step}
 use Rattle.calls.specs.Run.{Asked, leaves, shows}
@@ -33,11 +33,13 @@ refused-changes-nothing LoadTangled l s n e = record { sheet = tangled-kept s (l
 refused-changes-nothing Draw l s n e = record { sheet = draw-kept s n (each-refused _ _ e); buffer = refl; numbers = refl }
 refused-changes-nothing (Line m) l s n e = record { sheet = refl; buffer = line-kept s m n (l .buffer) (each-refused _ _ e); numbers = refl }
 refused-changes-nothing Report l s n e = record { sheet = refl; buffer = report-kept s n (l .buffer) (each-refused _ _ e); numbers = refl }
+refused-changes-nothing (TextLine m) l s n e = record { sheet = refl; buffer = text-line-kept s m n (l .buffer) (each-refused _ _ e); numbers = refl }
+refused-changes-nothing WholeText l s n e = record { sheet = refl; buffer = whole-text-kept s n (l .buffer) (each-refused _ _ e); numbers = refl }
 refused-changes-nothing (Mark m) l s n e = record { sheet = refl; buffer = refl; numbers = refl }
 refused-changes-nothing Marks l s n e = record { sheet = refl; buffer = refl; numbers = marks-kept s n (l .numbers) (each-refused _ _ e) }
 refused-changes-nothing Clear l s n e = never (cc)
 
--- Line, report, mark and marks leave the sheet as it was, refused or not; and so does a list of them.
+-- Line, report, the text by line and whole, mark and marks leave the sheet as it was, refused or not; and so does a list of them.
 pub show-leaves : (q : Call) (l : Lent) (s : Sheet) → shows q ≡ true → step q l s .sheet ≡ s
 unfolding step
 show-leaves Load l s e = never (cc)
@@ -45,6 +47,8 @@ show-leaves LoadTangled l s e = never (cc)
 show-leaves Draw l s e = never (cc)
 show-leaves (Line n) l s e = refl
 show-leaves Report l s e = refl
+show-leaves (TextLine n) l s e = refl
+show-leaves WholeText l s e = refl
 show-leaves (Mark n) l s e = refl
 show-leaves Marks l s e = refl
 show-leaves Clear l s e = never (cc)

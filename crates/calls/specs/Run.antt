@@ -6,7 +6,7 @@ use lib.Ieee.{Float}
 use Rattle.sheet.specs.declared.types.Sheet.{Sheet}
 use Rattle.sheet.specs.Results.{Result}
 use Rattle.calls.specs.declared.types.Call.{Call}
-use Rattle.calls.specs.declared.types.Call.the-variants.{Load, LoadTangled, Draw, Line, Report, Mark, Marks, Clear}
+use Rattle.calls.specs.declared.types.Call.the-variants.{Load, LoadTangled, Draw, Line, Report, TextLine, WholeText, Mark, Marks, Clear}
 use Rattle.calls.specs.Replies.{Value}
 use Rattle.calls.specs.Step.{Lent, After, step}
 
@@ -39,13 +39,15 @@ unfoldable pub leaves : List Asked → Sheet → Sheet
 leaves [] s = s
 leaves (q ∷ qs) s = leaves qs (made q s .sheet)
 
--- Line, report, mark and marks only show what a sheet holds.
+-- Lines of the report and of the text, by one or all, and marks only show what a sheet holds.
 abbrev pub shows : Call → Bool
 shows Load = false
 shows LoadTangled = false
 shows Draw = false
 shows (Line n) = true
 shows Report = true
+shows (TextLine n) = true
+shows WholeText = true
 shows (Mark n) = true
 shows Marks = true
 shows Clear = false

@@ -15,6 +15,8 @@ use sheet_show::all_marks::marks;
 use sheet_show::line::line;
 use sheet_show::mark::mark;
 use sheet_show::whole::report;
+use sheet_text::line::text_line;
+use sheet_text::whole::whole_text;
 ghost use mathlib.Core.Path.{_≡_};
 ghost use Rattle.sheet.specs.Results.{resultOf, lineResultOf, markResultOf};
 ghost use Rattle.calls.specs.Replies.{done, written, marked, replyOf, each};
@@ -76,6 +78,14 @@ pub fn step(call: Call, text: &[u8], buffer: &mut [u8], numbers: &mut [f64], she
         },
         Call::Report => After {
             reply: of_line(report(sheet, buffer)),
+            sheet,
+        },
+        Call::TextLine(n) => After {
+            reply: of_line(text_line(sheet, n, buffer)),
+            sheet,
+        },
+        Call::WholeText => After {
+            reply: of_line(whole_text(sheet, buffer)),
             sheet,
         },
         Call::Mark(n) => After {

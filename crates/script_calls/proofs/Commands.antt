@@ -1,6 +1,7 @@
 -- What is answered to the commands of a sheet, in the sheet's own words.
-use mathlib.Core.Path.{_≡_, refl, ap}
+use mathlib.Core.Path.{_≡_, refl, _∙_, ap}
 use mathlib.Core.Bool.{Bool, true, false, cond}
+use mathlib.Core.List.{List}
 use Prim.Native.Nat.{ℕ}
 use lib.Dec.{eqb}
 use lib.ListN.{length, drop}
@@ -12,16 +13,33 @@ use Rattle.marks.specs.declared.types.Mark.{Mark}
 use Rattle.marks.specs.Marks.{WholeMark, wholeMarkOf}
 use Rattle.sheet.specs.declared.types.Sheet.{Sheet}
 use Rattle.sheet.specs.Sheet.{planIn, drawingIn}
-use Rattle.sheet.specs.Results.{gives, refuses}
-use Rattle.sheet.specs.Tests.{lineOf}
+use Rattle.sheet.specs.Results.{gives, refuses, resultAfter}
+use Rattle.sheet.specs.Tests.{lineOf, textLineOf}
 use Rattle.sheet.specs.Calls as sheet
-use Rattle.sheet.specs.Calls.{lineTests}
-use Rattle.calls.specs.declared.types.Call.the-variants.{Load, LoadTangled, Draw, Line, Mark as MarkOf, Clear}
+use Rattle.sheet.specs.Calls.{textAfter, lineTests, textLineTests}
+use Rattle.calls.specs.declared.types.Call.the-variants.{Load, LoadTangled, Draw, Line, TextLine, Mark as MarkOf, Clear}
 use Rattle.calls.specs.Replies.{written, each}
 use Rattle.calls.specs.Step.{Lent, step}
 use Rattle.script_answers.specs.Answers.{refused, done, text, mark}
 use Rattle.script_calls.specs.Said.{resultSaid, callSaid}
 
+-- ---- a text that a call writes, unless its tests came out as a refusal
+pub written-said : (m : WholeMark) (r : ℕ) (w b : List ℕ)
+    → resultSaid m (textAfter r w b .buffer) (each written (textAfter r w b .result)) ≡ cond (eqb r 0) (text w) (refused r)
+written-said m r w b = by (eqb r 0)
+  where
+    by : (t : Bool) → resultSaid m (cond t (over w b) b) (each written (cond t (gives (length w)) (refuses r))) ≡ cond t (text w) (refused r)
+    by true = ap text (take-at w (drop (length w) b) (length w) refl)
+    by false = refl
+
+given : (r n k : ℕ) → resultAfter r n ≡ gives k → eqb r 0 ≡ true
+given r n k = by (eqb r 0)
+  where
+    by : (t : Bool) → cond t (gives n) (refuses r) ≡ gives k → t ≡ true
+    by true e = refl
+    by false e = never (cc)
+
+-- ---- the commands
 module _ (l : Lent) (s : Sheet) where
   abbrev whole : ℕ → WholeMark
   whole n = wholeMarkOf (planIn s) (drawingIn s .final) n
@@ -59,17 +77,24 @@ module _ (l : Lent) (s : Sheet) where
     -- a line's text is the report's n-th line
     pub line-said : (k : ℕ) → sheet.line s n (l .buffer) .result ≡ gives k → callSaid (Line n) l s ≡ text (lineOf s n)
     unfolding callSaid step sheet.line
-    line-said k = by (eqb (firstRefusal (lineTests s n (l .buffer))) 0)
-      where
-        by : (t : Bool) → cond t (gives (length (lineOf s n))) (refuses (firstRefusal (lineTests s n (l .buffer)))) ≡ gives k
-            → resultSaid (whole 0) (cond t (over (lineOf s n) (l .buffer)) (l .buffer)) (each written (cond t (gives (length (lineOf s n))) (refuses (firstRefusal (lineTests s n (l .buffer))))))
-            ≡ text (lineOf s n)
-        by true e = ap text (take-at (lineOf s n) (drop (length (lineOf s n)) (l .buffer)) (length (lineOf s n)) refl)
-        by false e = never (cc)
+    line-said k e =
+        let r = firstRefusal (lineTests s n (l .buffer)) in
+        written-said (whole 0) r (lineOf s n) (l .buffer) ∙ rw (given r (length (lineOf s n)) k e)
 
     pub line-refused : (m : ℕ) → sheet.line s n (l .buffer) .result ≡ refuses m → callSaid (Line n) l s ≡ refused m
     unfolding callSaid step
     line-refused m e = rw e
+
+    -- or the n-th line of the text as it was read
+    pub text-said : (k : ℕ) → sheet.textLine s n (l .buffer) .result ≡ gives k → callSaid (TextLine n) l s ≡ text (textLineOf s n)
+    unfolding callSaid step sheet.textLine
+    text-said k e =
+        let r = firstRefusal (textLineTests s n (l .buffer)) in
+        written-said (whole 0) r (textLineOf s n) (l .buffer) ∙ rw (given r (length (textLineOf s n)) k e)
+
+    pub text-refused : (m : ℕ) → sheet.textLine s n (l .buffer) .result ≡ refuses m → callSaid (TextLine n) l s ≡ refused m
+    unfolding callSaid step
+    text-refused m e = rw e
 
     pub mark-said : (m : Mark) → sheet.mark s n ≡ gives m → callSaid (MarkOf n) l s ≡ mark (whole n)
     unfolding callSaid step

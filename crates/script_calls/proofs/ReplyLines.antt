@@ -16,7 +16,7 @@ use Rattle.sheet.specs.Results.{Result, gives, refuses}
 use Rattle.sheet.specs.Calls as sheet
 use Rattle.sheet.proofs.Exactly.{mark-fits, mark-exact}
 use Rattle.calls.specs.declared.types.Call.{Call}
-use Rattle.calls.specs.declared.types.Call.the-variants.{Load, LoadTangled, Draw, Line, Report, Mark as MarkOf, Marks, Clear}
+use Rattle.calls.specs.declared.types.Call.the-variants.{Load, LoadTangled, Draw, Line, Report, TextLine, WholeText, Mark as MarkOf, Marks, Clear}
 use Rattle.calls.specs.declared.types.Reply.{Reply}
 use Rattle.calls.specs.declared.types.Reply.the-variants.{Done, Written, Given, Refused}
 use Rattle.calls.specs.Replies as value
@@ -52,6 +52,8 @@ module _ (l : Lent) (s : Sheet) where
   mark-given Draw m e = absurd (no-mark (λ u. value.done) (sheet.draw s .result) (λ a. done-none) e)
   mark-given (Line n) m e = absurd (no-mark written (sheet.line s n (l .buffer) .result) written-none e)
   mark-given Report m e = absurd (no-mark written (sheet.report s (l .buffer) .result) written-none e)
+  mark-given (TextLine n) m e = absurd (no-mark written (sheet.textLine s n (l .buffer) .result) written-none e)
+  mark-given WholeText m e = absurd (no-mark written (sheet.wholeText s (l .buffer) .result) written-none e)
   mark-given (MarkOf n) m e = a-mark (sheet.mark s n) e
   mark-given Marks m e = absurd (no-mark written (sheet.marks s (l .numbers) .result) written-none e)
   mark-given Clear m e = absurd (no-mark (λ u. value.done) (sheet.clear s .result) (λ a. done-none) e)

@@ -10,7 +10,7 @@ use Rattle.sheet.specs.declared.types.Sheet.{Sheet}
 use Rattle.sheet.specs.Sheet.{planIn, drawingIn}
 use Rattle.sheet.specs.Results.{Result, gives, refuses}
 use Rattle.calls.specs.declared.types.Call.{Call}
-use Rattle.calls.specs.declared.types.Call.the-variants.{Load, LoadTangled, Draw, Line, Report, Mark, Marks, Clear}
+use Rattle.calls.specs.declared.types.Call.the-variants.{Load, LoadTangled, Draw, Line, Report, TextLine, WholeText, Mark, Marks, Clear}
 use Rattle.calls.specs.Replies as value
 use Rattle.calls.specs.Replies.{Value, written, marked}
 use Rattle.calls.specs.Step.{Lent, step}
@@ -34,17 +34,19 @@ markAsked LoadTangled = 0
 markAsked Draw = 0
 markAsked (Line n) = 0
 markAsked Report = 0
+markAsked (TextLine n) = 0
+markAsked WholeText = 0
 markAsked (Mark n) = n
 markAsked Marks = 0
 markAsked Clear = 0
 
--- What is answered to a call, with what is lent to it, on a sheet. (Report and marks are no commands of a script.)
+-- What is answered to a call, with what is lent to it, on a sheet. (Report, whole text and marks are no commands of a script.)
 unfoldable pub callSaid : Call → Lent → Sheet → Said
 callSaid q l s =
     let after = step q l s in
     resultSaid (wholeMarkOf (planIn s) (drawingIn s .final) (markAsked q)) (after .buffer) (after .result)
 
--- Whether it is refused: `lines` and `marks` end with that answer.
+-- Whether it is refused: `lines`, `texts` and `marks` end with that answer.
 abbrev pub isRefusal : Result Value → Bool
 isRefusal (gives v) = false
 isRefusal (refuses n) = true

@@ -15,7 +15,7 @@ use Rattle.script_runs.specs.Lists.{isList, wholesIn, signedsIn}
 use Rattle.script_runs.specs.Names.{valuesOf}
 use Rattle.script_runs.specs.Runs.{hasParts, hasOptions, hasNumbers, hasLists, isRequest, requestIn}
 use Rattle.script_commands.specs.declared.types.Poke.the-variants.{Drawn, Vertex, Remembered, Tangled, Final, Listed}
-use Rattle.script_commands.specs.Commands.{skip, unknown, load, loadTangled, draw, line, mark, placeRun, poke}
+use Rattle.script_commands.specs.Commands.{skip, unknown, load, loadTangled, draw, line, textLine, texts, mark, placeRun, poke}
 use Rattle.script_commands.specs.Table.{longEnough, calls, planPokes, loadingPokes, drawingPokes, saidBy, commandOf}
 
 record Lines : Type 0 where
@@ -32,6 +32,9 @@ record Lines : Type 0 where
   a-space-after : commandOf (bytes "draw 1 ") ≡ unknown
   line-long : commandOf (bytes "line 1 52") ≡ line 52 longEnough
   line-room : commandOf (bytes "line 1 32 33") ≡ line 32 33
+  text-long : commandOf (bytes "text 1 3") ≡ textLine 3 longEnough
+  text-room : commandOf (bytes "text 1 3 20") ≡ textLine 3 20
+  all-texts : commandOf (bytes "texts 1") ≡ texts
   leading-zero : commandOf (bytes "line 1 032") ≡ unknown
   marked : commandOf (bytes "mark 1 99") ≡ mark 99
   below-zero : commandOf (bytes "mark 1 -1") ≡ unknown
@@ -81,6 +84,9 @@ lines = record {
   a-space-after = refl;
   line-long = refl;
   line-room = refl;
+  text-long = refl;
+  text-room = refl;
+  all-texts = refl;
   leading-zero = refl;
   marked = refl;
   below-zero = refl;

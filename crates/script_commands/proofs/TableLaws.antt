@@ -23,7 +23,7 @@ use Rattle.script_commands.specs.Commands.{Command, skip, unknown, load,
 use Rattle.script_commands.specs.Table.{Row, calls, planPokes, loadingPokes, drawingPokes, saidBy, isSkipped, loading, placing, commandOf}
 use Rattle.script_commands.specs.inner.Held.{Lent, commandIn, shortened, Inside, Commands, isBare, Bare}
 use Rattle.script_commands.specs.declared.types.Command.{Command as Found}
-use Rattle.script_commands.specs.declared.types.Command.the-variants.{Skip, Unknown, Load, LoadTangled, Draw, Clear, Stage, Line, Lines, Mark, Marks, PlaceRun, Poke}
+use Rattle.script_commands.specs.declared.types.Command.the-variants.{Skip, Unknown, Load, LoadTangled, Draw, Clear, Stage, Line, Lines, TextLine, Texts, Mark, Marks, PlaceRun, Poke}
 
 -- What row k says.
 abbrev pub saysAt : List Row → ℕ → List ℕ → Command
@@ -132,6 +132,8 @@ keeps b Clear e = refl
 keeps b Stage e = refl
 keeps b (Line n m) e = refl
 keeps b Lines e = refl
+keeps b (TextLine n m) e = refl
+keeps b Texts e = refl
 keeps b (Mark n) e = refl
 keeps b Marks e = refl
 keeps b (PlaceRun q) e = absurd (false≢true e)
@@ -147,6 +149,8 @@ bare-inside b Clear e = tt
 bare-inside b Stage e = tt
 bare-inside b (Line n m) e = tt
 bare-inside b Lines e = tt
+bare-inside b (TextLine n m) e = tt
+bare-inside b Texts e = tt
 bare-inside b (Mark n) e = tt
 bare-inside b Marks e = tt
 bare-inside b (PlaceRun q) e = absurd (false≢true e)
@@ -159,7 +163,7 @@ bare-command c r b t = record {
 }
 
 -- ---- the program's forms, one a line, are those of the tables
-pub calls-forms : parts 10 (bytes "draw 1\nclear 1\nstage 1\nline 1 N\nline 1 N N\nlines 1\nmark 1 N\nmarks 1") ≡ formsOf calls
+pub calls-forms : parts 10 (bytes "draw 1\nclear 1\nstage 1\nline 1 N\nline 1 N N\nlines 1\nmark 1 N\nmarks 1\ntext 1 N\ntext 1 N N\ntexts 1") ≡ formsOf calls
 unfolding parts calls
 calls-forms = refl
 

@@ -17,7 +17,7 @@ use Rattle.text.specs.Reading.{maxBytes, testsBy, refused, readAs, readingBy, r
 use Rattle.run.specs.Call.{Request}
 use Rattle.script_runs.specs.inner.Filled.{shortened as shortenedRun}
 use Rattle.script_commands.specs.declared.types.Command.{Command as Found}
-use Rattle.script_commands.specs.Commands.{Command, skip, unknown, load, loadTangled, draw, clear, stage, line, lines, mark, marks, placeRun, poke}
+use Rattle.script_commands.specs.Commands.{Command, skip, unknown, load, loadTangled, draw, clear, stage, line, lines, textLine, texts, mark, marks, placeRun, poke}
 use Rattle.script_commands.specs.inner.Held.{Lent, commandIn, shortened, Commands}
 
 -- ---- a text
@@ -59,6 +59,8 @@ module _ {X : Type 0} (f : Command → X) (b : Lent)
   same-cut stage = refl
   same-cut (line n m) = refl
   same-cut lines = refl
+  same-cut (textLine n m) = refl
+  same-cut texts = refl
   same-cut (mark n) = refl
   same-cut marks = refl
   same-cut (placeRun q n) = run q n

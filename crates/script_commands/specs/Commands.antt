@@ -19,6 +19,9 @@ pub data Command : Type 0 where
   -- `line S n [BUF]`: the number of the line, and the length of the buffer.
   line : ℕ → ℕ → Command
   lines : Command
+  -- `text S n [BUF]`: a line of the plan text as it was read.
+  textLine : ℕ → ℕ → Command
+  texts : Command
   mark : ℕ → Command
   marks : Command
   -- `placerun ..`: a request for place-run, and the length of the answer buffer.

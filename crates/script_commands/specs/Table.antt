@@ -13,7 +13,7 @@ use Rattle.script_forms.specs.Forms.{hasForm, wholeAt, signedAt}
 use Rattle.script_runs.specs.Runs.{isRequest, requestIn, roomIn}
 use Rattle.script_commands.specs.declared.types.Poke.the-variants.{Empty, Loaded, Drawn, Levels, Gap, Spacing, Size, Vertex, Segment}
 use Rattle.script_commands.specs.declared.types.Poke.the-variants.{Remembered, Tangled, Preliminary, Final, Pass, Level, Listed}
-use Rattle.script_commands.specs.Commands.{Command, skip, unknown, load, loadTangled, draw, clear, stage, line, lines, mark, marks, placeRun, poke}
+use Rattle.script_commands.specs.Commands.{Command, skip, unknown, load, loadTangled, draw, clear, stage, line, lines, textLine, texts, mark, marks, placeRun, poke}
 
 -- A form, and what a line in that form says.
 pub record Row : Type 0 where
@@ -37,6 +37,9 @@ calls =
     ∷ row "lines 1" (λ l. lines)
     ∷ row "mark 1 N" (λ l. mark (wholeAt l 2))
     ∷ row "marks 1" (λ l. marks)
+    ∷ row "text 1 N" (λ l. textLine (wholeAt l 2) longEnough)
+    ∷ row "text 1 N N" (λ l. textLine (wholeAt l 2) (wholeAt l 3))
+    ∷ row "texts 1" (λ l. texts)
     ∷ []
 
 -- "alters the stored record": the stage and the plan,

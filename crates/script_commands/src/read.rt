@@ -91,7 +91,8 @@ fn said_by_pokes(line: &[u8]) -> Command
 fn said(line: &[u8]) -> Command
     ensures { λ r. ⌜ Bare (saidBy (calls ++ planPokes ++ loadingPokes ++ drawingPokes) (now (line .entry))) r ⌝ }
 {
-    let forms = b"draw 1\nclear 1\nstage 1\nline 1 N\nline 1 N N\nlines 1\nmark 1 N\nmarks 1";
+    let forms =
+        b"draw 1\nclear 1\nstage 1\nline 1 N\nline 1 N N\nlines 1\nmark 1 N\nmarks 1\ntext 1 N\ntext 1 N N\ntexts 1";
     match first_form(forms, line) {
         0 => Command::Draw,
         1 => Command::Clear,
@@ -101,6 +102,9 @@ fn said(line: &[u8]) -> Command
         5 => Command::Lines,
         6 => Command::Mark(whole_at(line, 2)),
         7 => Command::Marks,
+        8 => Command::TextLine(whole_at(line, 2), LONG_ENOUGH),
+        9 => Command::TextLine(whole_at(line, 2), whole_at(line, 3)),
+        10 => Command::Texts,
         _ => said_by_pokes(line),
     }
 }

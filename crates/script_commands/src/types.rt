@@ -36,6 +36,8 @@ pub enum Command {
     Stage,
     Line(usize, usize),
     Lines,
+    TextLine(usize, usize),
+    Texts,
     Mark(usize),
     Marks,
     PlaceRun(RunRequest),

@@ -14,7 +14,7 @@ use Rattle.calls.specs.Step.{step}
 use Rattle.script_runs.specs.inner.Filled.{buffers, shortened}
 use Rattle.script_runs.proofs.Short.{Roomy, call-short}
 use Rattle.script_commands.specs.declared.types.Command.{Command as Found}
-use Rattle.script_commands.specs.declared.types.Command.the-variants.{Skip, Unknown, Load, LoadTangled, Draw, Clear, Stage, Line, Lines, Mark, Marks, PlaceRun, Poke}
+use Rattle.script_commands.specs.declared.types.Command.the-variants.{Skip, Unknown, Load, LoadTangled, Draw, Clear, Stage, Line, Lines, TextLine, Texts, Mark, Marks, PlaceRun, Poke}
 use Rattle.script_commands.specs.Commands.{Command, load, loadTangled, placeRun}
 use Rattle.script_commands.specs.inner.Held.{Lent, lent, commandIn, Inside, Commands}
 use Rattle.script_commands.proofs.Whole.{reading-cut, tangled-cut, same-answer}
@@ -57,6 +57,8 @@ inside-after b d Clear l i = tt
 inside-after b d Stage l i = tt
 inside-after b d (Line n room) l i = tt
 inside-after b d Lines l i = tt
+inside-after b d (TextLine n room) l i = tt
+inside-after b d Texts l i = tt
 inside-after b d (Mark n) l i = tt
 inside-after b d Marks l i = tt
 inside-after b d (PlaceRun q) l i = record {

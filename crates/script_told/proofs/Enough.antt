@@ -1,38 +1,39 @@
--- `lines` and `marks` go up to a refusal: a sheet that shows anything has at most 1,024 + 2,048 + 2 lines and 1,024 + 2,048 marks, so
--- the last of their answers is a refusal, and no other is.
+-- `lines`, `texts` and `marks` go up to a refusal: a sheet that shows anything has at most 1,024 + 2,048 + 2 lines, a text of at most
+-- 64 + 2,048 + 2 lines, and 1,024 + 2,048 marks, so the last of their answers is a refusal, and no other is.
 use mathlib.Core.Path.{_≡_, refl, sym, _∙_}
 use mathlib.Core.Bool.{Bool, true, false, cond, _&&_}
 use mathlib.Core.List.{List, [], _∷_}
 use Prim.Native.Nat.{ℕ, zero, suc, _+_, _≤_, _<_}
 use native.Mathlib.Omega.{arith}
-use borrow.Author.Tests.{le-ltb}
+use borrow.Author.Tests.{le-ltb, not-false}
 use lib.ListN.{length, replicate}
 use Rattle.ints.specs.Refusals.{Test, noneRefuses}
 use Rattle.ints.proofs.Laws.{cases}
 use Rattle.ints.proofs.Tests.{test, conj-at, and-false}
-use Rattle.ints.proofs.Refusals.{none-0}
+use Rattle.ints.proofs.Refusals.{none-0, none-at, none-append}
 use Rattle.text.proofs.Words.{never}
 use Rattle.marks.specs.Marks.{WholeMark}
+use Rattle.report_validity.proofs.Stored.{stored-of}
 use Rattle.sheet_data.specs.inner.Parts.{Holds}
 use Rattle.sheet_data.proofs.Rooms.{few}
 use Rattle.sheet.specs.declared.types.Sheet.{Sheet}
-use Rattle.sheet.specs.Sheet.{isDrawn}
-use Rattle.sheet.specs.Tests.{holdsPlan, holdsNumbers, holdsDrawing, linesIn, test7Line, marksIn, test7Mark, test14, lineOf}
+use Rattle.sheet.specs.Sheet.{isDrawn, verticesIn, segmentsIn}
+use Rattle.sheet.specs.Tests.{holdsPlan, holdsNumbers, holdsDrawing, linesIn, test7Line, marksIn, test7Mark, textLinesIn, test7Text, test14, lineOf, textLineOf}
 use Rattle.sheet.specs.Calls as sheet
-use Rattle.sheet.specs.Calls.{lineTests, markTests}
+use Rattle.sheet.specs.Calls.{lineTests, textLineTests, markTests}
 use Rattle.sheet.specs.inner.Refusals.{countsIn}
-use Rattle.sheet.proofs.WhenRefused.{canShow, shows-given}
+use Rattle.sheet.proofs.WhenRefused.{canShow, shows-given, backTests}
 use Rattle.sheet.specs.Results.{Result, gives, refuses}
 use Rattle.calls.specs.declared.types.Call.{Call}
-use Rattle.calls.specs.declared.types.Call.the-variants.{Line, Mark}
+use Rattle.calls.specs.declared.types.Call.the-variants.{Line, TextLine, Mark}
 use Rattle.calls.specs.Replies as value
 use Rattle.calls.specs.Replies.{Value, written, marked}
 use Rattle.calls.specs.Step.{Lent, step}
-use Rattle.script_commands.specs.Commands.{Command, skip, unknown, load, loadTangled, draw, clear, stage, line, lines, mark, marks, placeRun, poke}
+use Rattle.script_commands.specs.Commands.{Command, skip, unknown, load, loadTangled, draw, clear, stage, line, lines, textLine, texts, mark, marks, placeRun, poke}
 use Rattle.script_commands.specs.Table.{longEnough}
 use Rattle.script_answers.specs.Answers.{Said}
 use Rattle.script_calls.specs.Said.{valueSaid, resultSaid, callSaid, isRefusal}
-use Rattle.script_told.specs.Turns.{lending, isRefused, upToRefusal, mostAnswers, lineSaid, markSaid, turnOf}
+use Rattle.script_told.specs.Turns.{lending, isRefused, upToRefusal, mostAnswers, lineSaid, textSaid, markSaid, turnOf}
 use Rattle.script_told.proofs.Goes.{most}
 
 -- ---- an answer is a refusal where the call refuses
@@ -99,6 +100,29 @@ module _ (s : Sheet) where
       (line-stops (linesIn s) (rw past-lines (and-false (canShow s)))))
       (λ h. ends (lineSaid s) mostAnswers 0 0 (omega arith) (omega arith) (line-stops 0 (rw h)))
 
+  -- ---- lines of the text
+  abbrev textMore : ℕ → List Test
+  textMore n = test7Text s n ∷ test14 (textLineOf s n) (replicate longEnough 0) ∷ []
+
+  text-stops : (n : ℕ) → (noneRefuses (backTests s) && noneRefuses (textMore n)) ≡ false → isRefused (textSaid s n) ≡ true
+  unfolding step sheet.textLine
+  text-stops n h =
+      let none = none-append (backTests s) (textMore n) ∙ h in
+      refused-said (TextLine n) (lending [] longEnough) s ∙ rw (none-0 (textLineTests s n (replicate longEnough 0)) refl, none)
+
+  past-texts : noneRefuses (textMore (textLinesIn s)) ≡ false
+  unfolding noneRefuses
+  past-texts = rw (le-ltb (textLinesIn s) (textLinesIn s) (omega arith))
+
+  pub texts-end : endsRefused (upToRefusal (textSaid s) 0 mostAnswers) ≡ true
+  texts-end =
+      test (noneRefuses (backTests s))
+      (λ h.
+      let held = stored-of (s .plan) (verticesIn (s .header .stage)) (segmentsIn (s .header .stage)) (not-false (holdsPlan s) (none-at (backTests s) h 2)) in
+      ends (textSaid s) mostAnswers 0 (textLinesIn s) (omega arith) (omega (arith, held .levels, held .segments))
+      (text-stops (textLinesIn s) (rw past-texts (and-false (noneRefuses (backTests s))))))
+      (λ h. ends (textSaid s) mostAnswers 0 0 (omega arith) (omega arith) (text-stops 0 (rw h)))
+
   -- ---- marks
   abbrev markMore : ℕ → List Test
   markMore n = test7Mark s n ∷ []
@@ -134,6 +158,8 @@ few-answers clear s = omega arith
 few-answers stage s = omega arith
 few-answers (line n room) s = omega arith
 few-answers lines s = most (lineSaid s) 0 mostAnswers
+few-answers (textLine n room) s = omega arith
+few-answers texts s = most (textSaid s) 0 mostAnswers
 few-answers (mark n) s = omega arith
 few-answers marks s = most (markSaid s) 0 mostAnswers
 few-answers (placeRun q room) s = omega arith

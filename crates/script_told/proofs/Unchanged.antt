@@ -13,12 +13,12 @@ use Rattle.marks.specs.Marks.{WholeMark}
 use Rattle.sheet.specs.declared.types.Sheet.{Sheet}
 use Rattle.sheet.specs.Results.{Result, gives, refuses}
 use Rattle.calls.specs.declared.types.Call.{Call}
-use Rattle.calls.specs.declared.types.Call.the-variants.{Load, LoadTangled, Draw, Line, Mark, Clear}
+use Rattle.calls.specs.declared.types.Call.the-variants.{Load, LoadTangled, Draw, Line, TextLine, Mark, Clear}
 use Rattle.calls.specs.Replies as value
 use Rattle.calls.specs.Replies.{Value, written, marked}
 use Rattle.calls.specs.Step.{Lent, step}
 use Rattle.calls.proofs.Unchanged as call
-use Rattle.script_commands.specs.Commands.{Command, skip, unknown, load, loadTangled, draw, clear, stage, line, lines, mark, marks, placeRun, poke}
+use Rattle.script_commands.specs.Commands.{Command, skip, unknown, load, loadTangled, draw, clear, stage, line, lines, textLine, texts, mark, marks, placeRun, poke}
 use Rattle.script_commands.specs.declared.types.Poke.{Poke}
 use Rattle.script_commands.specs.declared.types.Poke.the-variants.{Empty, Loaded, Drawn, Levels, Gap, Spacing, Size, Vertex, Segment, Remembered, Tangled, Preliminary, Final, Pass, Level, Listed}
 use Rattle.script_poke.specs.Poked as pokes
@@ -52,6 +52,8 @@ refused-changes-nothing clear s n e = refused-call Clear (lending [] 0) s n (cc)
 refused-changes-nothing stage s n e = refl
 refused-changes-nothing (line k room) s n e = refused-call (Line k) (lending [] room) s n (cc)
 refused-changes-nothing lines s n e = refl
+refused-changes-nothing (textLine k room) s n e = refused-call (TextLine k) (lending [] room) s n (cc)
+refused-changes-nothing texts s n e = refl
 refused-changes-nothing (mark k) s n e = refused-call (Mark k) (lending [] 0) s n (cc)
 refused-changes-nothing marks s n e = refl
 refused-changes-nothing (placeRun q room) s n e = refl
@@ -102,12 +104,14 @@ unknown-changes-nothing clear s e = absurd (known-call Clear (lending [] 0) s (c
 unknown-changes-nothing stage s e = refl
 unknown-changes-nothing (line k room) s e = absurd (known-call (Line k) (lending [] room) s (cc))
 unknown-changes-nothing lines s e = refl
+unknown-changes-nothing (textLine k room) s e = absurd (known-call (TextLine k) (lending [] room) s (cc))
+unknown-changes-nothing texts s e = refl
 unknown-changes-nothing (mark k) s e = absurd (known-call (Mark k) (lending [] 0) s (cc))
 unknown-changes-nothing marks s e = refl
 unknown-changes-nothing (placeRun q room) s e = refl
 unknown-changes-nothing (poke p) s e = poke-missed p s (cc)
 
--- ---- stage, line, lines, mark, marks, placerun
+-- ---- stage, line, lines, text, texts, mark, marks, placerun
 abbrev pub shows : Command → Bool
 shows skip = true
 shows unknown = true
@@ -118,6 +122,8 @@ shows clear = false
 shows stage = true
 shows (line k room) = true
 shows lines = true
+shows (textLine k room) = true
+shows texts = true
 shows (mark k) = true
 shows marks = true
 shows (placeRun q room) = true
@@ -134,6 +140,8 @@ show-leaves clear s e = never (cc)
 show-leaves stage s e = refl
 show-leaves (line k room) s e = refl
 show-leaves lines s e = refl
+show-leaves (textLine k room) s e = refl
+show-leaves texts s e = refl
 show-leaves (mark k) s e = refl
 show-leaves marks s e = refl
 show-leaves (placeRun q room) s e = refl
@@ -151,6 +159,8 @@ several-leave clear s l = absurd (omega arith)
 several-leave stage s l = refl
 several-leave (line k room) s l = absurd (omega arith)
 several-leave lines s l = refl
+several-leave (textLine k room) s l = absurd (omega arith)
+several-leave texts s l = refl
 several-leave (mark k) s l = absurd (omega arith)
 several-leave marks s l = refl
 several-leave (placeRun q room) s l = refl

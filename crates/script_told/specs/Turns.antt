@@ -10,9 +10,9 @@ use Rattle.passes.specs.Words.{maxListed}
 use Rattle.run.specs.Call.{callOf}
 use Rattle.sheet.specs.declared.types.Sheet.{Sheet}
 use Rattle.calls.specs.declared.types.Call.{Call}
-use Rattle.calls.specs.declared.types.Call.the-variants.{Load, LoadTangled, Draw, Line, Mark, Clear}
+use Rattle.calls.specs.declared.types.Call.the-variants.{Load, LoadTangled, Draw, Line, TextLine, Mark, Clear}
 use Rattle.calls.specs.Step.{Lent, lent, step}
-use Rattle.script_commands.specs.Commands.{Command, skip, unknown, load, loadTangled, draw, clear, stage, line, lines, mark, marks, placeRun, poke}
+use Rattle.script_commands.specs.Commands.{Command, skip, unknown, load, loadTangled, draw, clear, stage, line, lines, textLine, texts, mark, marks, placeRun, poke}
 use Rattle.script_commands.specs.Table.{longEnough}
 use Rattle.script_poke.specs.declared.types.Poked.{Poked}
 use Rattle.script_poke.specs.Poked as pokes
@@ -54,13 +54,16 @@ upToRefusal f n (suc most) =
     let more = upToRefusal f (suc n) most in
     f n ∷ cond (isRefused (f n)) [] more
 
--- No sheet has more lines or marks, with the refusal after them.
+-- No sheet has more lines, of the report or of the text, or marks, with the refusal after them.
 abbrev pub mostAnswers : ℕ
 mostAnswers = maxVertices + maxListed + 3
 
--- Line n of a sheet, and mark n.
+-- Line n of a sheet, line n of its text as it was read, and mark n.
 abbrev pub lineSaid : Sheet → ℕ → Said
 lineSaid s n = callSaid (Line n) (lending [] longEnough) s
+
+abbrev pub textSaid : Sheet → ℕ → Said
+textSaid s n = callSaid (TextLine n) (lending [] longEnough) s
 
 abbrev pub markSaid : Sheet → ℕ → Said
 markSaid s n = callSaid (Mark n) (lending [] 0) s
@@ -79,6 +82,8 @@ turnOf clear s = calling Clear (lending [] 0) s
 turnOf stage s = saying (standing (s .header .stage)) s
 turnOf (line n room) s = calling (Line n) (lending [] room) s
 turnOf lines s = turn (upToRefusal (lineSaid s) 0 mostAnswers) s
+turnOf (textLine n room) s = calling (TextLine n) (lending [] room) s
+turnOf texts s = turn (upToRefusal (textSaid s) 0 mostAnswers) s
 turnOf (mark n) s = calling (Mark n) (lending [] 0) s
 turnOf marks s = turn (upToRefusal (markSaid s) 0 mostAnswers) s
 turnOf (placeRun q room) s = saying (runSaid (callOf q (replicate room (pos 0)))) s

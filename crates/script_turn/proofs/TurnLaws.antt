@@ -16,17 +16,17 @@ use Rattle.calls.specs.Step.{step}
 use Rattle.script_runs.specs.declared.types.RunRequest.{RunRequest}
 use Rattle.script_runs.specs.inner.Filled.{requestWith}
 use Rattle.script_commands.specs.declared.types.Command.{Command as Found}
-use Rattle.script_commands.specs.declared.types.Command.the-variants.{Skip, Unknown, Load, LoadTangled, Draw, Clear, Stage, Line, Lines, Mark, Marks, PlaceRun, Poke}
+use Rattle.script_commands.specs.declared.types.Command.the-variants.{Skip, Unknown, Load, LoadTangled, Draw, Clear, Stage, Line, Lines, TextLine, Texts, Mark, Marks, PlaceRun, Poke}
 use Rattle.script_commands.specs.declared.types.Poke.{Poke as Altering}
 use Rattle.script_commands.specs.inner.Held.{Lent, commandIn}
 use Rattle.script_commands.specs.Table.{longEnough}
 use Rattle.script_poke.specs.Poked as pokes
 use Rattle.script_answers.specs.Answers.{Said, unknown as notKnown, stage as standing, lineOf}
 use Rattle.script_calls.specs.Said.{runSaid}
-use Rattle.script_told.specs.Turns.{Turn, turn, saying, lending, calling, upToRefusal, mostAnswers, lineSaid, markSaid, pokeSaid, turnOf}
+use Rattle.script_told.specs.Turns.{Turn, turn, saying, lending, calling, upToRefusal, mostAnswers, lineSaid, textSaid, markSaid, pokeSaid, turnOf}
 use Rattle.script_told.specs.inner.One.{Single}
 use Rattle.script_turn.specs.inner.One.{Nth, Asked, Answers}
-use Rattle.script_turn.proofs.LineLaws.{long-enough}
+use Rattle.script_turn.proofs.LineLaws.{line-enough, text-enough}
 use Rattle.script_told.proofs.Goes.{some, most, nth, goes-on}
 
 module _ {c : Found} {b : Lent} {s : Sheet} {n : ℕ} {o : List ℕ} (asked : Asked c b s n o) where
@@ -94,11 +94,19 @@ module _ {c : Found} (b : Lent) (s : Sheet) where
 
   pub is-line : {k room : ℕ} → c ≡ Line k room → turnOf (commandIn c b) s ≡ calling (call.Line k) (lending [] (min room longEnough)) s
   unfolding turnOf step
-  is-line {k} {room} e = rw e (ap (λ (a : Said). saying a s) (long-enough s k room))
+  is-line {k} {room} e = rw e (ap (λ (a : Said). saying a s) (line-enough s k room))
 
   pub is-lines : c ≡ Lines → turnOf (commandIn c b) s ≡ turn (upToRefusal (lineSaid s) 0 mostAnswers) s
   unfolding turnOf
   is-lines e = rw e
+
+  pub is-text : {k room : ℕ} → c ≡ TextLine k room → turnOf (commandIn c b) s ≡ calling (call.TextLine k) (lending [] (min room longEnough)) s
+  unfolding turnOf step
+  is-text {k} {room} e = rw e (ap (λ (a : Said). saying a s) (text-enough s k room))
+
+  pub is-texts : c ≡ Texts → turnOf (commandIn c b) s ≡ turn (upToRefusal (textSaid s) 0 mostAnswers) s
+  unfolding turnOf
+  is-texts e = rw e
 
   pub is-mark : {k : ℕ} → c ≡ Mark k → turnOf (commandIn c b) s ≡ calling (call.Mark k) (lending [] 0) s
   unfolding turnOf
@@ -117,10 +125,14 @@ module _ {c : Found} (b : Lent) (s : Sheet) where
   unfolding turnOf
   is-poke e = rw e
 
--- line and mark leave the sheet as it was
+-- line, text and mark leave the sheet as it was
 pub line-leaves : (s : Sheet) (k : ℕ) → step (call.Line k) (lending [] longEnough) s .sheet ≡ s
 unfolding step
 line-leaves s k = refl
+
+pub text-leaves : (s : Sheet) (k : ℕ) → step (call.TextLine k) (lending [] longEnough) s .sheet ≡ s
+unfolding step
+text-leaves s k = refl
 
 pub mark-leaves : (s : Sheet) (k : ℕ) → step (call.Mark k) (lending [] 0) s .sheet ≡ s
 unfolding step

@@ -21,7 +21,7 @@ ghost use Rattle.script_turn.specs.inner.One.{Tells, Nth};
 // No line has more bytes.
 pub const LONG_ENOUGH: usize = 1421;
 
-// No sheet has more lines or marks, with the refusal after them.
+// No sheet has more lines, of the report or of the text, or marks, with the refusal after them.
 const MOST_ANSWERS: usize = 3075;
 
 // A call with a text and a buffer of `room` bytes.

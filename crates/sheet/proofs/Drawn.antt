@@ -28,9 +28,9 @@ use Rattle.sheet.specs.Calls.{drawTests, draw, line, report, mark, marks
 use Rattle.sheet.specs.inner.Refusals.{countsIn}
 use Rattle.sheet.proofs.WhenRefused.{canShow, showTests, shows-given, draw-given, line-given, report-given, mark-given, marks-given}
 
-drawn : (s : Sheet) → draw s .result ≡ gives tt → draw s .sheet ≡ drawnSheet s (drawingOf (planIn s))
+pub drawn-same : (s : Sheet) → draw s .result ≡ gives tt → draw s .sheet ≡ drawnSheet s (drawingOf (planIn s))
 unfolding draw
-drawn s = by (eqb (firstRefusal (drawTests s)) 0)
+drawn-same s = by (eqb (firstRefusal (drawTests s)) 0)
   where
     by : (t : Bool) → _≡_ {A = Result Unit} (cond t (gives tt) (refuses (firstRefusal (drawTests s)))) (gives tt) → cond t (drawnSheet s (drawingOf (planIn s))) s ≡ drawnSheet s (drawingOf (planIn s))
     by true e = refl
@@ -45,23 +45,23 @@ module _ (s : Sheet) (a : PlanArrays (s .plan)) (h : draw s .result ≡ gives tt
 
   pub drawn-plan : planIn (draw s .sheet) ≡ planIn s
   unfolding drawnSheet
-  drawn-plan = rw (drawn s h)
+  drawn-plan = rw (drawn-same s h)
 
   pub drawn-remembered : rememberedIn (draw s .sheet) ≡ rememberedIn s
   unfolding drawnSheet
-  drawn-remembered = rw (drawn s h)
+  drawn-remembered = rw (drawn-same s h)
 
   pub drawn-drawing : drawingIn (draw s .sheet) ≡ drawingOf (planIn s)
   unfolding drawnSheet
-  drawn-drawing = rw (drawn s h) (read-back (s .plan) a (verticesIn (s .header .stage)) (segmentsIn (s .header .stage)) holds)
+  drawn-drawing = rw (drawn-same s h) (read-back (s .plan) a (verticesIn (s .header .stage)) (segmentsIn (s .header .stage)) holds)
 
   pub drawn-demand3 : Demand3 (planIn (draw s .sheet)) (drawingIn (draw s .sheet))
   unfolding drawnSheet
-  drawn-demand3 = rw (drawn s h) (demand3-of (s .plan) a (verticesIn (s .header .stage)) (segmentsIn (s .header .stage)) holds)
+  drawn-demand3 = rw (drawn-same s h) (demand3-of (s .plan) a (verticesIn (s .header .stage)) (segmentsIn (s .header .stage)) holds)
 
   pub drawn-shows : canShow (draw s .sheet) ≡ true
   unfolding drawnSheet
-  drawn-shows = rw (drawn s h) (holds and own and drawing-holds (s .plan) a (verticesIn (s .header .stage)) (segmentsIn (s .header .stage)) holds)
+  drawn-shows = rw (drawn-same s h) (holds and own and drawing-holds (s .plan) a (verticesIn (s .header .stage)) (segmentsIn (s .header .stage)) holds)
 
   drawn-passes : (more : List Test) → noneRefuses more ≡ true → noneRefuses (showTests (draw s .sheet) ++ more) ≡ true
   drawn-passes more h = shows-given (draw s .sheet) more ∙ (drawn-shows and h)
@@ -88,12 +88,12 @@ module _ (s : Sheet) (a : PlanArrays (s .plan)) (h : draw s .result ≡ gives tt
 
   pub drawn-count : marksIn (draw s .sheet) ≡ marksIn s
   unfolding drawnSheet
-  drawn-count = rw (drawn s h)
+  drawn-count = rw (drawn-same s h)
 
   -- Five numbers a mark, and all marks where the buffer is as long.
   pub drawn-numbers : length (numbersOf (draw s .sheet)) ≡ 5 * marksIn (draw s .sheet)
   unfolding drawnSheet numbersOf
-  drawn-numbers = rw (drawn s h) (numbers-long (s .plan) (countsIn (drawnSheet s (drawingOf (planIn s)) .header .stage)) holds a (arraysOf (drawingOf (planIn s))))
+  drawn-numbers = rw (drawn-same s h) (numbers-long (s .plan) (countsIn (drawnSheet s (drawingOf (planIn s)) .header .stage)) holds a (arraysOf (drawingOf (planIn s))))
 
   pub drawn-marks : (b : List Float) → 5 * marksIn (draw s .sheet) ≤ length b → marks (draw s .sheet) b .result ≡ gives (marksIn (draw s .sheet))
   unfolding noneRefuses
@@ -116,4 +116,4 @@ draw-again s = by (isEmpty (s .header .stage)) (holdsPlan s) (holdsNumbers s) re
 pub draw-same : (s t : Sheet) → s .plan ≡ t .plan → verticesIn (s .header .stage) ≡ verticesIn (t .header .stage) → segmentsIn (s .header .stage) ≡ segmentsIn (t .header .stage)
     → s .header .tangled ≡ t .header .tangled → s .remembered ≡ t .remembered → draw s .result ≡ gives tt → draw t .result ≡ gives tt → draw s .sheet ≡ draw t .sheet
 unfolding drawnSheet
-draw-same s t p v e w m f g = rw (drawn s f, drawn t g, p, v, e, w, m)
+draw-same s t p v e w m f g = rw (drawn-same s f, drawn-same t g, p, v, e, w, m)

@@ -6,3 +6,4 @@ pub mod Loaded
 pub mod Drawn
 pub mod Exactly
 pub mod Ways
+pub mod GivenBack

@@ -23,8 +23,8 @@ use Rattle.sheet.specs.declared.types.Stage.the-variants.{Empty, Loaded,
 use Rattle.sheet.specs.declared.types.Sheet.{Sheet}
 use Rattle.sheet.specs.Sheet.{isEmpty, isDrawn, planIn, drawingIn, loadedAsRead, loadedUntangled, drawnSheet}
 use Rattle.sheet.specs.Results.{Result, gives, refuses, resultAfter}
-use Rattle.sheet.specs.Tests.{test11, test12, holdsPlan, test13Plan, holdsNumbers, test13Numbers, holdsDrawing, test13Drawing, marksIn, lineOf, reportOf, numbersOf}
-use Rattle.sheet.specs.Calls.{loadOf, load, loadTangled, drawTests, draw, bufferAfter, lineTests, line, reportTests, report, markTests, mark, marksTests, marks, clear}
+use Rattle.sheet.specs.Tests.{test11, test12, test15, holdsPlan, test13Plan, holdsNumbers, test13Numbers, holdsDrawing, test13Drawing, marksIn, lineOf, reportOf, numbersOf, textLineOf, wholeTextOf}
+use Rattle.sheet.specs.Calls.{loadOf, load, loadTangled, drawTests, draw, bufferAfter, lineTests, line, reportTests, report, textLineTests, textLine, wholeTextTests, wholeText, markTests, mark, marksTests, marks, clear}
 
 -- ---- the one law, of what a call gives
 module _ {A : Type 0} (ts : List Test) (h : numbered ts ≡ true) (a : A) where
@@ -64,6 +64,22 @@ module _ (s : Sheet) where
   pub report-given : (b : List ℕ) → (report s b .result ≡ gives (length (reportOf s))) ↔ (noneRefuses (reportTests s b) ≡ true)
   unfolding report
   report-given b = gives-none (reportTests s b) refl (length (reportOf s))
+
+  pub text-line-refused : (n : ℕ) (b : List ℕ) (m : ℕ) → (textLine s n b .result ≡ refuses m) ↔ (isFirst m (textLineTests s n b) ≡ true)
+  unfolding textLine
+  text-line-refused n b = refuses-first (textLineTests s n b) refl (length (textLineOf s n))
+
+  pub text-line-given : (n : ℕ) (b : List ℕ) → (textLine s n b .result ≡ gives (length (textLineOf s n))) ↔ (noneRefuses (textLineTests s n b) ≡ true)
+  unfolding textLine
+  text-line-given n b = gives-none (textLineTests s n b) refl (length (textLineOf s n))
+
+  pub whole-text-refused : (b : List ℕ) (m : ℕ) → (wholeText s b .result ≡ refuses m) ↔ (isFirst m (wholeTextTests s b) ≡ true)
+  unfolding wholeText
+  whole-text-refused b = refuses-first (wholeTextTests s b) refl (length (wholeTextOf s))
+
+  pub whole-text-given : (b : List ℕ) → (wholeText s b .result ≡ gives (length (wholeTextOf s))) ↔ (noneRefuses (wholeTextTests s b) ≡ true)
+  unfolding wholeText
+  whole-text-given b = gives-none (wholeTextTests s b) refl (length (wholeTextOf s))
 
   pub mark-refused : (n m : ℕ) → (mark s n ≡ refuses m) ↔ (isFirst m (markTests s n) ≡ true)
   unfolding mark
@@ -192,6 +208,71 @@ module _ (s : Sheet) where
     pub shows-given : noneRefuses (showTests s ++ more) ≡ (canShow s && noneRefuses more)
     shows-given = none-append (showTests s) more ∙ rw shown
 
+-- ---- the same of the calls that give the text: 11, 15 and 13 before all else
+-- A sheet that was loaded by E1's way, drawn or not, and not refused by 13.
+abbrev pub canGiveBack : Sheet → Bool
+canGiveBack s = not (isEmpty (s .header .stage)) && s .header .tangled && holdsPlan s && holdsNumbers s
+
+abbrev pub backTests : Sheet → List Test
+backTests s = test11 s ∷ test15 s ∷ test13Plan s ∷ test13Numbers s ∷ []
+
+module _ (s : Sheet) where
+  back-11 : (t w c n : Bool) → cond t true (cond (not w) false (cond (not c) false (cond (not n) false false))) ≡ t
+  back-11 true w c n = refl
+  back-11 false false c n = refl
+  back-11 false true false n = refl
+  back-11 false true true false = refl
+  back-11 false true true true = refl
+
+  back-15 : (t w c n : Bool) → cond t false (cond (not w) true (cond (not c) false (cond (not n) false false))) ≡ (not t && not w)
+  back-15 true w c n = refl
+  back-15 false false c n = refl
+  back-15 false true false n = refl
+  back-15 false true true false = refl
+  back-15 false true true true = refl
+
+  back-13 : (t w c n : Bool) → cond t false (cond (not w) false (cond (not c) true (cond (not n) true false))) ≡ (not t && w && not (c && n))
+  back-13 true w c n = refl
+  back-13 false false c n = refl
+  back-13 false true false n = refl
+  back-13 false true true false = refl
+  back-13 false true true true = refl
+
+  back-none : (t w c n : Bool) → cond t false (cond (not w) false (cond (not c) false (cond (not n) false true))) ≡ (not t && w && c && n)
+  back-none true w c n = refl
+  back-none false false c n = refl
+  back-none false true false n = refl
+  back-none false true true false = refl
+  back-none false true true true = refl
+
+  abbrev stands : Bool
+  stands = isEmpty (s .header .stage)
+
+  backed : noneRefuses (backTests s) ≡ canGiveBack s
+  unfolding noneRefuses
+  backed = back-none stands (s .header .tangled) (holdsPlan s) (holdsNumbers s)
+
+  module _ (more : List Test) where
+    pub backs-11 : lacks 11 more ≡ true → isFirst 11 (backTests s ++ more) ≡ isEmpty (s .header .stage)
+    unfolding isFirst
+    backs-11 h = first-early 11 (backTests s) more h ∙ back-11 stands (s .header .tangled) (holdsPlan s) (holdsNumbers s)
+
+    -- 15 "comes after 11 and before 13"
+    pub backs-15 : lacks 15 more ≡ true → isFirst 15 (backTests s ++ more) ≡ (not (isEmpty (s .header .stage)) && not (s .header .tangled))
+    unfolding isFirst
+    backs-15 h = first-early 15 (backTests s) more h ∙ back-15 stands (s .header .tangled) (holdsPlan s) (holdsNumbers s)
+
+    pub backs-13 : lacks 13 more ≡ true → isFirst 13 (backTests s ++ more) ≡ (not (isEmpty (s .header .stage)) && s .header .tangled && not (holdsPlan s && holdsNumbers s))
+    unfolding isFirst
+    backs-13 h = first-early 13 (backTests s) more h ∙ back-13 stands (s .header .tangled) (holdsPlan s) (holdsNumbers s)
+
+    -- 7 and 14, and what is given
+    pub backs-later : (m : ℕ) → lacks m (backTests s) ≡ true → isFirst m (backTests s ++ more) ≡ (canGiveBack s && isFirst m more)
+    backs-later m h = first-late m (backTests s) more h ∙ rw backed
+
+    pub backs-given : noneRefuses (backTests s ++ more) ≡ (canGiveBack s && noneRefuses more)
+    backs-given = none-append (backTests s) more ∙ rw backed
+
 -- ---- a refusal changes nothing
 buffer-kept : {A : Type 0} (k m n : ℕ) (w b : List A) → bufferAfter k n w b .result ≡ refuses m → bufferAfter k n w b .buffer ≡ b
 buffer-kept k m n w b = by (eqb k 0)
@@ -207,6 +288,14 @@ line-kept s n m b = buffer-kept (firstRefusal (lineTests s n b)) m (length (line
 pub report-kept : (s : Sheet) (m : ℕ) (b : List ℕ) → report s b .result ≡ refuses m → report s b .buffer ≡ b
 unfolding report
 report-kept s m b = buffer-kept (firstRefusal (reportTests s b)) m (length (reportOf s)) (reportOf s) b
+
+pub text-line-kept : (s : Sheet) (n m : ℕ) (b : List ℕ) → textLine s n b .result ≡ refuses m → textLine s n b .buffer ≡ b
+unfolding textLine
+text-line-kept s n m b = buffer-kept (firstRefusal (textLineTests s n b)) m (length (textLineOf s n)) (textLineOf s n) b
+
+pub whole-text-kept : (s : Sheet) (m : ℕ) (b : List ℕ) → wholeText s b .result ≡ refuses m → wholeText s b .buffer ≡ b
+unfolding wholeText
+whole-text-kept s m b = buffer-kept (firstRefusal (wholeTextTests s b)) m (length (wholeTextOf s)) (wholeTextOf s) b
 
 pub marks-kept : (s : Sheet) (m : ℕ) (b : List Float) → marks s b .result ≡ refuses m → marks s b .buffer ≡ b
 unfolding marks

@@ -25,7 +25,8 @@ use Rattle.sheet.specs.declared.types.MarkAnswer.{MarkAnswer}
 use Rattle.sheet.specs.declared.types.MarkAnswer.the-variants.{Given}
 use Rattle.sheet.specs.Sheet.{planIn, drawingIn, emptySheet, loadedAsRead, loadedUntangled, drawnSheet}
 use Rattle.sheet.specs.Results.{Result, gives, refuses, resultOf, lineResultOf, markResultOf, resultAfter}
-use Rattle.sheet.specs.Tests.{test11, test12, test13Plan, test13Numbers, test13Drawing, test7Line, marksIn, test7Mark, test14, lineOf, reportOf, numbersOf}
+use Rattle.sheet.specs.Tests.{test11, test12, test15, test13Plan, test13Numbers, test13Drawing, test7Line, marksIn, test7Mark, test7Text, test14}
+use Rattle.sheet.specs.Tests.{lineOf, reportOf, numbersOf, textLineOf, wholeTextOf}
 
 -- ---- load
 pub record SheetOut : Type 0 where
@@ -88,6 +89,21 @@ reportTests s buffer = test11 s ∷ test12 s ∷ test13Plan s ∷ test13Numbers 
 
 unfoldable pub report : Sheet → List ℕ → TextOut
 report s buffer = textAfter (firstRefusal (reportTests s buffer)) (reportOf s) buffer
+
+-- ---- the text as it was read, by line and whole
+abbrev pub textLineTests : Sheet → ℕ → List ℕ → List Test
+textLineTests s n buffer =
+    test11 s ∷ test15 s ∷ test13Plan s ∷ test13Numbers s ∷ test7Text s n ∷ test14 (textLineOf s n) buffer ∷ []
+
+-- "from a sheet loaded that way, line n of the plan text as it was read, byte for byte, drawn or not"
+unfoldable pub textLine : Sheet → ℕ → List ℕ → TextOut
+textLine s n buffer = textAfter (firstRefusal (textLineTests s n buffer)) (textLineOf s n) buffer
+
+abbrev pub wholeTextTests : Sheet → List ℕ → List Test
+wholeTextTests s buffer = test11 s ∷ test15 s ∷ test13Plan s ∷ test13Numbers s ∷ test14 (wholeTextOf s) buffer ∷ []
+
+unfoldable pub wholeText : Sheet → List ℕ → TextOut
+wholeText s buffer = textAfter (firstRefusal (wholeTextTests s buffer)) (wholeTextOf s) buffer
 
 -- ---- mark, and all marks
 abbrev pub markTests : Sheet → ℕ → List Test

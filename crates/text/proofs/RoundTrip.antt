@@ -45,23 +45,27 @@ pub acceptable-holds : (p : PlanData) → Acceptable p → acceptable p ≡ true
 unfolding acceptable
 acceptable-holds p h = limits-hold p (h .limits) and checks-pass p (h .checks)
 
-ends : (p : PlanData) → Acceptable p → every endsBelow (segmentsOf p) ≡ true
-ends p a = ends-below p (a .limits .vertices) (a .checks .three)
+ends : (p : PlanData) → LimitTests p → check3 p ≡ true → every endsBelow (segmentsOf p) ≡ true
+ends p l c = ends-below p (l .vertices) c
 
 text-form : (p : PlanData) → LimitTests p → textOf p ≡ formText (linesFrom p)
 text-form p l = ap textOf (sym (lines-stored-again p l)) ∙ stored-text (linesFrom p)
 
+-- How long the text is of a plan within its limits whose segments end at its vertices.
+pub limits-short : (p : PlanData) → limitsHold p ≡ true → check3 p ≡ true → length (textOf p) ≤ 43546
+unfolding linesFrom
+limits-short p h c = let l = limit-tests p h in rw (text-form p l) (form-short (linesFrom p) (lines-limits p l) (ends p l c))
+
 -- "A text of an acceptable plan has at most 43,546 bytes"
 pub text-short : (p : PlanData) → acceptable p ≡ true → length (textOf p) ≤ 43546
-unfolding linesFrom
-text-short p h = let a = acceptable-of p h in rw (text-form p (a .limits)) (form-short (linesFrom p) (lines-limits p (a .limits)) (ends p a))
+text-short p h = let a = acceptable-of p h in limits-short p (limits-hold p (a .limits)) (a .checks .three)
 
 -- The text of an acceptable plan reads as the plan.
 pub read-written : (p : PlanData) → acceptable p ≡ true → reading (textOf p) ≡ accepted p
 unfolding testsBy noneRefuses
 read-written p h =
     let a = acceptable-of p h in
-    let ok = lines-ok p (a .limits) (ends-ok (segmentsOf p) (ends p a)) in
+    let ok = lines-ok p (a .limits) (ends-ok (segmentsOf p) (ends p (a .limits) (a .checks .three))) in
     let form : formOf (textOf p) ≡ some (linesFrom p) = ap formOf (text-form p (a .limits)) ∙ form-reads (linesFrom p) ok in
     let short = le-leb (length (textOf p)) maxBytes (omega (arith, text-short p h)) in
     let two = check2-holds (linesFrom p) (lines-limits p (a .limits)) in

@@ -12,9 +12,11 @@ use Rattle.ints.specs.Lists.{over}
 use Rattle.plan.specs.Plan.{PlanData}
 use Rattle.plan.specs.Limits.{maxLevels, maxVertices, maxSegments}
 use Rattle.plan.specs.Stored.{planData}
-use Rattle.plan.specs.Acceptable.{acceptable}
+use Rattle.plan.specs.Checks.{checksOf}
+use Rattle.plan.specs.Acceptable.{limitsHold, acceptable}
 use Rattle.plan.specs.declared.data.Plan.{Plan}
-use Rattle.ints.proofs.Tests.{test}
+use Rattle.ints.specs.Refusals.{noneRefuses}
+use Rattle.ints.proofs.Tests.{test, and-left}
 use Rattle.plan.proofs.LimitLaws.{Limits}
 use Rattle.plan.proofs.Sound.{sound}
 use Rattle.text.specs.Reading.{Reading, accepted, refused, reading}
@@ -28,7 +30,7 @@ use Rattle.text_write.specs.inner.Data.{maxText}
 use Rattle.text_write.specs.Again.{refusedLine, textIfShort, rewritten, Leaves}
 use Rattle.text_write.specs.inner.Written.{Fronts}
 use Rattle.text_write.specs.declared.again.Rewritten.the-variants.{Written, Refused as Not, Short}
-use Rattle.text_write.specs.inner.Stored.{StoredPlan}
+use Rattle.text_write.specs.inner.Stored.{StoredLimits, StoredPlan}
 
 -- ---- what was read
 front : {A : Type 0} (xs o : List A) (n : ℕ) → length xs ≡ n → take n (over xs o) ≡ xs
@@ -43,6 +45,16 @@ stored-data p l =
     let a = front (p .uppers) (replicate maxSegments 0) (length (p .uppers)) refl in
     let b = front (p .lowers) (replicate maxSegments 0) (length (p .uppers)) (l .ends-long) in
     rw (s, v, h, a, b)
+
+-- a plan that is that of a text is within its limits
+pub stored-limits : {p : Plan} {v e : ℕ} → StoredPlan p v e → StoredLimits p v e
+unfolding acceptable
+stored-limits {p} {v} {e} s = record {
+  levels = s .levels;
+  vertices = s .vertices;
+  segments = s .segments;
+  plan = and-left (limitsHold (planData p v e)) (noneRefuses (checksOf (planData p v e))) (s .plan);
+}
 
 pub plan-stored : (p : PlanData) → acceptable p ≡ true → StoredPlan (planOf p) (length (p .vias)) (length (p .uppers))
 unfolding planOf

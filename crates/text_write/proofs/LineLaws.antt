@@ -12,7 +12,7 @@ use Rattle.ints.proofs.Lists.{map-getD, concat-append, concat-one}
 use Rattle.plan.specs.Plan.{PlanData, numbers, levelsFrom, levelsOf}
 use Rattle.plan.specs.Segments.{segmentsFrom, segmentsOf}
 use Rattle.plan.specs.inner.Graph.{segment}
-use Rattle.plan.specs.Acceptable.{acceptable}
+use Rattle.plan.specs.Acceptable.{limitsHold}
 use Rattle.plan.proofs.LevelLaws.{numbers-append}
 use Rattle.plan.proofs.SegmentLaws.{segment-at, segments-count}
 use Rattle.text.specs.Writing.{planLine, vertexWords, levelLineOf, segmentLineOf, lastLine, linesOf, textOf}
@@ -166,7 +166,7 @@ module _ (p : PlanData) where
       → Wrote (concat (take (n + 1) (linesOf p))) o 0 to r
   text-more n h a b = rw (concat-more (linesOf p) n h) (and-then a b)
 
-  pub text-room : (n : ℕ) {o q : List ℕ} {at : ℕ} → acceptable p ≡ true → length (textOf p) ≤ length o → n < length (linesOf p) → Wrote (concat (take n (linesOf p))) o 0 at q → LineRoom p n q at
+  pub text-room : (n : ℕ) {o q : List ℕ} {at : ℕ} → limitsHold p ≡ true → length (textOf p) ≤ length o → n < length (linesOf p) → Wrote (concat (take n (linesOf p))) o 0 at q → LineRoom p n q at
   unfolding textOf
   text-room n {o} {q} {at} a l h w = record {
     plan = a;

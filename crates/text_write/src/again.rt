@@ -1,4 +1,5 @@
 // A plan text read and written again.
+use crate::lines::line as write_line;
 use crate::lines::text as write_text;
 use crate::number::put_then;
 use crate::number::put_word;
@@ -13,7 +14,8 @@ ghost use Rattle.plan.specs.Stored.{planData};
 ghost use Rattle.text.specs.Reading.{reading};
 ghost use Rattle.text.specs.Writing.{textOf};
 ghost use Rattle.text_write.specs.inner.Written.{Fronts};
-ghost use Rattle.text_write.specs.inner.Stored.{StoredPlan};
+ghost use Rattle.text_write.specs.inner.Data.{lineOf, LineRoom};
+ghost use Rattle.text_write.specs.inner.Stored.{StoredLimits, StoredPlan};
 ghost use Rattle.text_write.specs.Again.{refusedLine, Leaves, textIfShort, rewritten};
 
 // What writing a text again gives: how many bytes were written, the number of the text's refusal, or that the buffer is too
@@ -33,10 +35,35 @@ pub fn refuse(n: u32, out: &mut [u8]) -> usize
     put_then(out, at, n as u64, b")\n")
 }
 
-// The text of a plan with these numbers of vertices and segments that is that of a text, at the front of a buffer that has
-// room for it.
+// Line n of the text of a plan with these numbers of vertices and segments that is within its limits, at the front of a buffer
+// that has room for it.
+pub fn stored_line(plan: Plan, vertices: usize, segments: usize, n: usize, out: &mut [u8]) -> usize
+    requires { ⌜ StoredLimits plan vertices segments × LineRoom (planData plan vertices segments) n (now out) 0 ⌝ }
+    ensures { λ r. ⌜ Fronts (lineOf (planData plan vertices segments) n) (now (out .entry)) r (now (out .exit)) ⌝ }
+{
+    let k = wide(plan.levels);
+    let sizes = plan.sizes;
+    let vias = plan.vias;
+    let halves = plan.halves;
+    let uppers = plan.uppers;
+    let lowers = plan.lowers;
+    write_line(
+        plan.levels,
+        plan.gap,
+        plan.spacing,
+        &sizes[..k],
+        &vias[..vertices],
+        &halves[..vertices],
+        &uppers[..segments],
+        &lowers[..segments],
+        n,
+        out,
+    )
+}
+
+// The whole text of such a plan.
 pub fn stored_text(plan: Plan, vertices: usize, segments: usize, out: &mut [u8]) -> usize
-    requires { ⌜ StoredPlan plan vertices segments × (length (textOf (planData plan vertices segments)) ≤ length (now out)) ⌝ }
+    requires { ⌜ StoredLimits plan vertices segments × (length (textOf (planData plan vertices segments)) ≤ length (now out)) ⌝ }
     ensures { λ r. ⌜ Fronts (textOf (planData plan vertices segments)) (now (out .entry)) r (now (out .exit)) ⌝ }
 {
     let k = wide(plan.levels);

@@ -9,7 +9,7 @@ ghost use Prim.Native.Nat.{_+_, _<_, _≤_};
 ghost use lib.ListN.{length};
 ghost use Rattle.plan.specs.Plan.{numbers, dataOf};
 ghost use Rattle.plan.specs.inner.Graph.{segment};
-ghost use Rattle.plan.specs.Acceptable.{acceptable};
+ghost use Rattle.plan.specs.Acceptable.{limitsHold};
 ghost use Rattle.text.specs.Writing.{planLine, levelLineOf, segmentLineOf, textOf};
 ghost use Rattle.text_write.specs.inner.Written.{Room, Wrote, Fronts};
 ghost use Rattle.text_write.specs.inner.Data.{verticesOf, numbersOf, rowWords, wordsOf, lineOf, levelVertices, LevelRoom, LineRoom};
@@ -101,7 +101,7 @@ fn put_level(
     put_row(out, at, vias, halves, first, wide(sizes[l]))
 }
 
-// Line n of the text of an acceptable plan.
+// Line n of the text of a plan within its limits.
 fn put_line(
     out: &mut [u8],
     at: usize,
@@ -132,7 +132,7 @@ fn put_line(
     put_word(out, at, b"(end)\n")
 }
 
-// Line n of the text of an acceptable plan, at the front of a buffer that has room for it: how many bytes the line has.
+// Line n of the text of a plan within its limits, at the front of a buffer that has room for it: how many bytes the line has.
 pub fn line(
     levels: u32,
     gap: u32,
@@ -164,7 +164,7 @@ pub fn line(
     )
 }
 
-// The whole text of an acceptable plan, at the front of a buffer that has room for it: how many bytes it has.
+// The whole text of a plan within its limits, at the front of a buffer that has room for it: how many bytes it has.
 pub fn text(
     levels: u32,
     gap: u32,
@@ -176,7 +176,7 @@ pub fn text(
     lowers: &[u32],
     out: &mut [u8],
 ) -> usize
-    requires { ⌜ (acceptable (dataOf levels gap spacing (now sizes) (now vias) (now halves) (now uppers) (now lowers)) ≡ true)
+    requires { ⌜ (limitsHold (dataOf levels gap spacing (now sizes) (now vias) (now halves) (now uppers) (now lowers)) ≡ true)
         × (length (textOf (dataOf levels gap spacing (now sizes) (now vias) (now halves) (now uppers) (now lowers))) ≤ length (now out)) ⌝ }
     ensures { λ r. ⌜ Fronts (textOf (dataOf levels gap spacing (now (sizes .entry)) (now (vias .entry)) (now (halves .entry))
         (now (uppers .entry)) (now (lowers .entry)))) (now (out .entry)) r (now (out .exit)) ⌝ }

@@ -6,8 +6,8 @@ use Prim.Native.Nat.{ℕ, _≤_}
 use lib.ListN.{length, take}
 use Rattle.script_runs.specs.inner.Filled.{Buffers, requestWith, Within, shortened as shortenedRun}
 use Rattle.script_commands.specs.declared.types.Command.{Command as Found}
-use Rattle.script_commands.specs.declared.types.Command.the-variants.{Skip, Unknown, Load, LoadTangled, Draw, Clear, Stage, Line, Lines, Mark, Marks, PlaceRun, Poke}
-use Rattle.script_commands.specs.Commands.{Command, skip, unknown, load, loadTangled, draw, clear, stage, line, lines, mark, marks, placeRun, poke}
+use Rattle.script_commands.specs.declared.types.Command.the-variants.{Skip, Unknown, Load, LoadTangled, Draw, Clear, Stage, Line, Lines, TextLine, Texts, Mark, Marks, PlaceRun, Poke}
+use Rattle.script_commands.specs.Commands.{Command, skip, unknown, load, loadTangled, draw, clear, stage, line, lines, textLine, texts, mark, marks, placeRun, poke}
 
 -- A buffer for the text of a load, and those for the lists of a run.
 pub record Lent : Type 0 where
@@ -27,6 +27,8 @@ commandIn Clear b = clear
 commandIn Stage b = stage
 commandIn (Line n room) b = line n room
 commandIn Lines b = lines
+commandIn (TextLine n room) b = textLine n room
+commandIn Texts b = texts
 commandIn (Mark n) b = mark n
 commandIn Marks b = marks
 commandIn (PlaceRun q) b = placeRun (requestWith q (b .run)) (q .room)
@@ -43,6 +45,8 @@ shortened b clear = clear
 shortened b stage = stage
 shortened b (line n room) = line n room
 shortened b lines = lines
+shortened b (textLine n room) = textLine n room
+shortened b texts = texts
 shortened b (mark n) = mark n
 shortened b marks = marks
 shortened b (placeRun q room) = placeRun (shortenedRun (b .run) q) room
@@ -59,6 +63,8 @@ Inside b Clear = Unit {0}
 Inside b Stage = Unit {0}
 Inside b (Line n room) = Unit {0}
 Inside b Lines = Unit {0}
+Inside b (TextLine n room) = Unit {0}
+Inside b Texts = Unit {0}
 Inside b (Mark n) = Unit {0}
 Inside b Marks = Unit {0}
 Inside b (PlaceRun q) = Within (b .run) q
@@ -81,6 +87,8 @@ isBare Clear = true
 isBare Stage = true
 isBare (Line n room) = true
 isBare Lines = true
+isBare (TextLine n room) = true
+isBare Texts = true
 isBare (Mark n) = true
 isBare Marks = true
 isBare (PlaceRun q) = false

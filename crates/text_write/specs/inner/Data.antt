@@ -7,7 +7,7 @@ use lib.ListN.{length, take, getD}
 use Rattle.ints.specs.Lists.{sum, concat}
 use Rattle.plan.specs.Limits.{maxLevels}
 use Rattle.plan.specs.Plan.{PlanData, numbers, dataOf}
-use Rattle.plan.specs.Acceptable.{acceptable}
+use Rattle.plan.specs.Acceptable.{limitsHold}
 use Rattle.text.specs.Writing.{vertexWords, levelLineOf, linesOf}
 use Rattle.text_write.specs.inner.Written.{Room}
 
@@ -47,8 +47,8 @@ pub record LevelRoom (sizes : List ℕ) (vias : List Bool) (halves : List ℕ) (
   pub half : length halves ≡ length vias
   pub room : Room (levelLineOf (verticesOf vias halves) (levelVertices sizes l)) o at
 
--- The plan is acceptable, its text has a line n, and the buffer has room for it.
+-- The plan is within its limits, its text has a line n, and the buffer has room for it.
 pub record LineRoom (p : PlanData) (n : ℕ) (o : List ℕ) (at : ℕ) : Type 0 where
-  pub plan : acceptable p ≡ true
+  pub plan : limitsHold p ≡ true
   pub line : n < length (linesOf p)
   pub room : Room (lineOf p n) o at

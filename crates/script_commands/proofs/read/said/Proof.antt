@@ -88,9 +88,39 @@ returns-9 : tie.Need-returns-9
 unfolding calls
 returns-9 c =
     let c6 = c .before .before .before .before .before .before in
+    record {
+      says = λ b. rw (c .whole-at5 .ensures) (sym (said-at (c6 .args .line .now) calls (planPokes ++ loadingPokes ++ drawingPokes) 8
+          (sym (found (c .before .before)) ∙ c .before .match .keys9) (omega arith)));
+      bare = refl;
+    }
+
+returns-10 : tie.Need-returns-10
+unfolding calls
+returns-10 c =
+    let c7 = c .before .before .before .before .before .before .before in
+    record {
+      says = λ b. rw (c .before .whole-at6 .ensures, c .whole-at7 .ensures)
+          (sym (said-at (c7 .args .line .now) calls (planPokes ++ loadingPokes ++ drawingPokes) 9
+          (sym (found (c .before .before .before)) ∙ c .before .before .match .keys10) (omega arith)));
+      bare = refl;
+    }
+
+returns-11 : tie.Need-returns-11
+unfolding calls
+returns-11 c = record {
+  says = λ b. sym (said-at (c .before .before .before .before .before .args .line .now) calls (planPokes ++ loadingPokes ++ drawingPokes) 10
+      (sym (found (c .before)) ∙ c .match .keys11) (omega arith));
+  bare = refl;
+}
+
+returns-12 : tie.Need-returns-12
+unfolding calls
+returns-12 c =
+    let c6 = c .before .before .before .before .before .before in
     let n = c .before .match .rest in
-    let h = (above 7 (above 6 (above 5 (above 4 (above 3 (above 2
-    (above 1 (above 0 (omega arith) (n .0 .0 .0 .0 .0 .0 .0 .1)) (n .0 .0 .0 .0 .0 .0 .1)) (n .0 .0 .0 .0 .0 .1)) (n .0 .0 .0 .0 .1))
+    let h = (above 10 (above 9 (above 8 (above 7 (above 6 (above 5 (above 4
+    (above 3 (above 2 (above 1 (above 0 (omega arith) (n .0 .0 .0 .0 .0 .0 .0 .0 .0 .0 .1)) (n .0 .0 .0 .0 .0 .0 .0 .0 .0 .1))
+    (n .0 .0 .0 .0 .0 .0 .0 .0 .1)) (n .0 .0 .0 .0 .0 .0 .0 .1)) (n .0 .0 .0 .0 .0 .0 .1)) (n .0 .0 .0 .0 .0 .1)) (n .0 .0 .0 .0 .1))
     (n .0 .0 .0 .1)) (n .0 .0 .1)) (n .0 .1)) (n .1)) in
     let s = c .said-by-pokes .ensures in
     record {
@@ -103,4 +133,5 @@ pub said-spec : {M : Type 1} → statement M
 said-spec =
     tie.close
     (tie.spec (λ c κs. search needs) (λ c κs. search needs) (λ c κs. search needs) (λ c κs. search needs) (λ c κs. search needs)
-    (λ c κs. search needs) returns returns-2 returns-3 returns-4 returns-5 returns-6 returns-7 returns-8 returns-9)
+    (λ c κs. search needs) (λ c κs. search needs) (λ c κs. search needs) (λ c κs. search needs) returns returns-2 returns-3 returns-4 returns-5
+    returns-6 returns-7 returns-8 returns-9 returns-10 returns-11 returns-12)

@@ -5,8 +5,8 @@ use lib.Seq.{length-take-le}
 use borrow.Author.Needs.{needs}
 use Rattle.script_runs.specs.inner.Filled.{buffers}
 use Rattle.script_commands.specs.inner.Held.{lent}
-use Rattle.script_told.specs.Turns.{lineSaid, markSaid}
-use Rattle.script_turn.proofs.TurnLaws.{none, only, within, further, is-skip, is-unknown, is-load, is-tangled, is-draw, is-clear, is-stage, is-line, is-lines, is-mark, is-marks, is-place, is-poke, line-leaves, mark-leaves}
+use Rattle.script_told.specs.Turns.{lineSaid, textSaid, markSaid}
+use Rattle.script_turn.proofs.TurnLaws.{none, only, within, further, is-skip, is-unknown, is-load, is-tangled, is-draw, is-clear, is-stage, is-line, is-lines, is-text, is-texts, is-mark, is-marks, is-place, is-poke, line-leaves, text-leaves, mark-leaves}
 use Rattle.script_turn.proofs.turn.turn.Statement.{statement}
 use Rattle.script_turn.proofs.turn.turn.Tie as tie
 
@@ -85,6 +85,9 @@ enum-known-command-4 c = search needs
 slice-aggregate-one-call-6 : tie.Need-slice-aggregate-one-call-6
 slice-aggregate-one-call-6 c = search needs
 
+at-most-requires-2 : tie.Need-at-most-requires-2
+at-most-requires-2 c κs = search needs
+
 one-call-requires-6 : tie.Need-one-call-requires-6
 one-call-requires-6 c κs = search needs
 
@@ -92,16 +95,31 @@ enum-told-7 : tie.Need-enum-told-7
 enum-told-7 c = search needs
 
 next-call-requires-2 : tie.Need-next-call-requires-2
-next-call-requires-2 c κs = let s = c .before .before .before .before .before .before .before in let a = s .args in let b = lent (a .text .now) (buffers (a .old .now) (a .distances .now) (a .counts .now) (a .neighbours .now)) in (within (s .pre) (markSaid (a .sheet)) (is-marks b (a .sheet) (c .before .enum-told7 .given .1)), omega arith, s .pre .room)
+next-call-requires-2 c κs = let s = c .before .before .before .before .before .before .before in let a = s .args in let b = lent (a .text .now) (buffers (a .old .now) (a .distances .now) (a .counts .now) (a .neighbours .now)) in (within (s .pre) (textSaid (a .sheet)) (is-texts b (a .sheet) (c .before .enum-told7 .given .1)), omega arith, s .pre .room)
 
 enum-known-command-5 : tie.Need-enum-known-command-5
 enum-known-command-5 c = search needs
 
-place-requires : tie.Need-place-requires
-place-requires c κs = let s = c .before .before .before .before .before .before .before .before in (rw (c .before .before .command5 .given .1) at (s .pre .inside), s .pre .room)
+slice-aggregate-one-call-7 : tie.Need-slice-aggregate-one-call-7
+slice-aggregate-one-call-7 c = search needs
+
+one-call-requires-7 : tie.Need-one-call-requires-7
+one-call-requires-7 c κs = search needs
+
+enum-told-8 : tie.Need-enum-told-8
+enum-told-8 c = search needs
+
+next-call-requires-3 : tie.Need-next-call-requires-3
+next-call-requires-3 c κs = let s = c .before .before .before .before .before .before .before in let a = s .args in let b = lent (a .text .now) (buffers (a .old .now) (a .distances .now) (a .counts .now) (a .neighbours .now)) in (within (s .pre) (markSaid (a .sheet)) (is-marks b (a .sheet) (c .before .enum-told8 .given .1)), omega arith, s .pre .room)
 
 enum-known-command-6 : tie.Need-enum-known-command-6
 enum-known-command-6 c = search needs
+
+place-requires : tie.Need-place-requires
+place-requires c κs = let s = c .before .before .before .before .before .before .before .before in (rw (c .before .before .command6 .given .1) at (s .pre .inside), s .pre .room)
+
+enum-known-command-7 : tie.Need-enum-known-command-7
+enum-known-command-7 c = search needs
 
 alter-requires : tie.Need-alter-requires
 alter-requires c κs = search needs
@@ -161,25 +179,37 @@ same-length-9 : tie.Need-same-length-9
 same-length-9 c = search needs
 
 returns-10 : tie.Need-returns-10
-returns-10 c = let s = c .before .before .before .before .before .before .before .before .before .before .before .before in let a = s .args in let b = lent (a .text .now) (buffers (a .old .now) (a .distances .now) (a .counts .now) (a .neighbours .now)) in only (s .pre) (is-mark b (a .sheet) (c .before .before .before .before .before .before .command4 .given .1)) (c .before .before .one-call6 .ensures)
+returns-10 c = let s = c .before .before .before .before .before .before .before .before .before .before .before .before .before in let a = s .args in let b = lent (a .text .now) (buffers (a .old .now) (a .distances .now) (a .counts .now) (a .neighbours .now)) in only (s .pre) (is-text b (a .sheet) (c .before .before .before .before .before .before .before .command4 .given .1)) (rw (c .before .before .before .before .at-most2 .ensures) at (c .before .before .one-call6 .ensures))
 
 same-length-10 : tie.Need-same-length-10
 same-length-10 c = search needs
 
 returns-11 : tie.Need-returns-11
-returns-11 c = let s = c .before .before .before .before .before .before .before .before .before .before in let a = s .args in let b = lent (a .text .now) (buffers (a .old .now) (a .distances .now) (a .counts .now) (a .neighbours .now)) in further (s .pre) (markSaid (a .sheet)) (is-marks b (a .sheet) (c .before .before .before .before .enum-told7 .given .1)) (mark-leaves (a .sheet) (a .n)) (c .before .before .next-call2 .ensures)
+returns-11 c = let s = c .before .before .before .before .before .before .before .before .before .before in let a = s .args in let b = lent (a .text .now) (buffers (a .old .now) (a .distances .now) (a .counts .now) (a .neighbours .now)) in further (s .pre) (textSaid (a .sheet)) (is-texts b (a .sheet) (c .before .before .before .before .enum-told7 .given .1)) (text-leaves (a .sheet) (a .n)) (c .before .before .next-call2 .ensures)
 
 same-length-11 : tie.Need-same-length-11
 same-length-11 c = search needs
 
 returns-12 : tie.Need-returns-12
-returns-12 c = let s = c .before .before .before .before .before .before .before .before .before .before .before in let a = s .args in let b = lent (a .text .now) (buffers (a .old .now) (a .distances .now) (a .counts .now) (a .neighbours .now)) in only (s .pre) (is-place b (a .sheet) (c .before .before .before .before .before .command5 .given .1)) (c .before .before .place .ensures)
+returns-12 c = let s = c .before .before .before .before .before .before .before .before .before .before .before .before in let a = s .args in let b = lent (a .text .now) (buffers (a .old .now) (a .distances .now) (a .counts .now) (a .neighbours .now)) in only (s .pre) (is-mark b (a .sheet) (c .before .before .before .before .before .before .command5 .given .1)) (c .before .before .one-call7 .ensures)
 
 same-length-12 : tie.Need-same-length-12
 same-length-12 c = search needs
 
 returns-13 : tie.Need-returns-13
-returns-13 c = let s = c .before .before .before .before .before .before .before .before .before .before .before in let a = s .args in let b = lent (a .text .now) (buffers (a .old .now) (a .distances .now) (a .counts .now) (a .neighbours .now)) in only (s .pre) (is-poke b (a .sheet) (c .before .before .before .before .before .command6 .given .1)) (c .before .before .alter .ensures)
+returns-13 c = let s = c .before .before .before .before .before .before .before .before .before .before in let a = s .args in let b = lent (a .text .now) (buffers (a .old .now) (a .distances .now) (a .counts .now) (a .neighbours .now)) in further (s .pre) (markSaid (a .sheet)) (is-marks b (a .sheet) (c .before .before .before .before .enum-told8 .given .1)) (mark-leaves (a .sheet) (a .n)) (c .before .before .next-call3 .ensures)
+
+same-length-13 : tie.Need-same-length-13
+same-length-13 c = search needs
+
+returns-14 : tie.Need-returns-14
+returns-14 c = let s = c .before .before .before .before .before .before .before .before .before .before .before in let a = s .args in let b = lent (a .text .now) (buffers (a .old .now) (a .distances .now) (a .counts .now) (a .neighbours .now)) in only (s .pre) (is-place b (a .sheet) (c .before .before .before .before .before .command6 .given .1)) (c .before .before .place .ensures)
+
+same-length-14 : tie.Need-same-length-14
+same-length-14 c = search needs
+
+returns-15 : tie.Need-returns-15
+returns-15 c = let s = c .before .before .before .before .before .before .before .before .before .before .before in let a = s .args in let b = lent (a .text .now) (buffers (a .old .now) (a .distances .now) (a .counts .now) (a .neighbours .now)) in only (s .pre) (is-poke b (a .sheet) (c .before .before .before .before .before .command7 .given .1)) (c .before .before .alter .ensures)
 
 pub turn-spec : {M : Type 1} → statement M
 turn-spec =
@@ -210,12 +240,18 @@ turn-spec =
     next-call-requires
     enum-known-command-4
     slice-aggregate-one-call-6
+    at-most-requires-2
     one-call-requires-6
     enum-told-7
     next-call-requires-2
     enum-known-command-5
-    place-requires
+    slice-aggregate-one-call-7
+    one-call-requires-7
+    enum-told-8
+    next-call-requires-3
     enum-known-command-6
+    place-requires
+    enum-known-command-7
     alter-requires
     returns
     same-length
@@ -241,4 +277,8 @@ turn-spec =
     same-length-11
     returns-12
     same-length-12
-    returns-13)
+    returns-13
+    same-length-13
+    returns-14
+    same-length-14
+    returns-15)

@@ -1,6 +1,7 @@
 -- `text_untangle::again::put_both` meets its contract: its tests are those of `untangledText`.
 use native.Mathlib.Omega.{arith}
 use borrow.Author.Needs.{needs}
+use Rattle.text_write.proofs.AgainLaws.{stored-limits}
 use Rattle.text_untangle.proofs.TextLaws.{no-room, no-numbers, both-left}
 use Rattle.text_untangle.proofs.again.put_both.Statement.{statement}
 use Rattle.text_untangle.proofs.again.put_both.Tie as tie
@@ -18,7 +19,7 @@ put-numbers-requires : tie.Need-put-numbers-requires
 put-numbers-requires c κs = (c .before .before .before .before .before .before .before .pre .reach, c .before .if2 .left)
 
 stored-text-requires : tie.Need-stored-text-requires
-stored-text-requires c κs = (c .before .before .before .before .before .before .before .before .before .before .before .pre .stored, omega (arith, c .before .before .before .before .before .before .if1 .left, c .before .before .before .before .before .before .before .text-length .ensures))
+stored-text-requires c κs = (stored-limits (c .before .before .before .before .before .before .before .before .before .before .before .pre .stored), omega (arith, c .before .before .before .before .before .before .if1 .left, c .before .before .before .before .before .before .before .text-length .ensures))
 
 returns-3 : tie.Need-returns-3
 returns-3 c p h =

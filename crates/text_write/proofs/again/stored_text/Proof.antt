@@ -1,5 +1,5 @@
 -- `text_write::again::stored_text` meets its contract: the parts lent are the plan's data.
-use Rattle.text_write.specs.inner.Stored.{StoredPlan}
+use Rattle.text_write.specs.inner.Stored.{StoredLimits}
 use lib.Seq.{length-take-le}
 use lib.ListN.{length}
 use Rattle.plan.specs.Limits.{maxLevels, maxVertices, maxSegments}
@@ -9,7 +9,7 @@ use mathlib.Core.Path.{_≡_, sym}
 use Rattle.text_write.proofs.again.stored_text.Statement.{statement}
 use Rattle.text_write.proofs.again.stored_text.Tie as tie
 
-stored : (c : tie.Start) → StoredPlan (c .args .plan) (c .args .vertices) (c .args .segments)
+stored : (c : tie.Start) → StoredLimits (c .args .plan) (c .args .vertices) (c .args .segments)
 stored c = c .pre .0
 
 long-sizes : (c : tie.Start) → length (c .args .plan .sizes) ≡ maxLevels

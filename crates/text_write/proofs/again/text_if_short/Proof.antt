@@ -1,6 +1,6 @@
 -- `text_write::again::text_if_short` meets its contract: its test is that of `textIfShort`.
 use native.Mathlib.Omega.{arith}
-use Rattle.text_write.proofs.AgainLaws.{leaves-short, leaves-written}
+use Rattle.text_write.proofs.AgainLaws.{stored-limits, leaves-short, leaves-written}
 use Rattle.text_write.proofs.again.text_if_short.Statement.{statement}
 use Rattle.text_write.proofs.again.text_if_short.Tie as tie
 
@@ -8,7 +8,7 @@ returns : tie.Need-returns
 returns c = leaves-short _ _ (omega (arith, c .if1 .taken, c .before .before .pre .1))
 
 stored-text-requires : tie.Need-stored-text-requires
-stored-text-requires c κs = let s = c .before .before .before in (s .pre .0, omega (arith, c .before .if1 .left, s .pre .1))
+stored-text-requires c κs = let s = c .before .before .before in (stored-limits (s .pre .0), omega (arith, c .before .if1 .left, s .pre .1))
 
 same-length : tie.Need-same-length
 same-length c = c .before .before .stored-text .kept .1 .1 .1 .0

@@ -1,8 +1,8 @@
 use Rattle.text_write.proofs.LineLaws.{line-0, line-l, line-segment, line-last}
 use Rattle.text_write.proofs.Written.{wrote-long}
 use Rattle.plan.specs.Plan.{dataOf, PlanData}
-use Rattle.plan.proofs.Sound.{sound}
 use Rattle.plan.proofs.LimitLaws.{Limits}
+use Rattle.plan.proofs.LimitLaws as laws
 use native.Mathlib.Omega.{arith}
 use mathlib.Core.Path.{refl}
 use borrow.Author.Needs.{needs}
@@ -19,7 +19,7 @@ abbrev plan : tie.Start → PlanData
 plan c = dataOf (c .args .levels) (c .args .gap) (c .args .spacing) (c .args .sizes .now) (c .args .vias .now) (c .args .halves .now) (c .args .uppers .now) (c .args .lowers .now)
 
 limits : (c : tie.Start) → Limits (plan c)
-limits c = sound (plan c) (c .pre .plan) .limits
+limits c = laws.limits (plan c) (c .pre .plan)
 
 put-plan-requires : tie.Need-put-plan-requires
 put-plan-requires c κs = rw (line-0 (plan (c .before .before .before .before .before .before .before .before)) (c .before .before .before .before .before .before .before .before .args .n) (c .before .if1 .taken)) at (c .before .before .before .before .before .before .before .before .pre .room)

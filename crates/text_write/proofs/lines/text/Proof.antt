@@ -1,7 +1,7 @@
 use Rattle.text_write.proofs.LineLaws.{lines-count, text-none, text-more, text-room, text-all}
 use Rattle.plan.specs.Plan.{dataOf, PlanData}
 use Rattle.text_write.specs.inner.Written.{Wrote}
-use Rattle.plan.proofs.Sound.{sound}
+use Rattle.plan.proofs.LimitLaws.{limits}
 use Rattle.text.specs.Writing.{linesOf}
 use Rattle.plan.specs.inner.Graph.{InLimits}
 use Rattle.ints.specs.Lists.{concat}
@@ -22,10 +22,10 @@ abbrev plan : tie.Start Inv-loop μ-loop → PlanData
 plan c = dataOf (c .args .levels) (c .args .gap) (c .args .spacing) (c .args .sizes .now) (c .args .vias .now) (c .args .halves .now) (c .args .uppers .now) (c .args .lowers .now)
 
 few : (c : tie.Start Inv-loop μ-loop) → InLimits (c .args .sizes .now) (c .args .vias .now) (c .args .uppers .now) (c .args .lowers .now)
-few c = sound (plan c) (c .pre .0) .limits .lists
+few c = limits (plan c) (c .pre .0) .lists
 
 count : (c : tie.Start Inv-loop μ-loop) → length (linesOf (plan c)) ≡ length (c .args .sizes .now) + length (c .args .uppers .now) + 2
-count c = lines-count (plan c) (sound (plan c) (c .pre .0) .limits .ends-long)
+count c = lines-count (plan c) (limits (plan c) (c .pre .0) .ends-long)
 
 add-lines : tie.Need-add-lines Inv-loop μ-loop
 add-lines c = omega (arith, few (c .before .before .before .before .before .before))

@@ -1,0 +1,5 @@
+pub mod ReadLaws
+pub mod Short
+pub mod TextLaws
+pub mod PlanRead
+pub mod BackLaws

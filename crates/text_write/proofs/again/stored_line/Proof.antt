@@ -1,0 +1,77 @@
+-- `text_write::again::stored_line` meets its contract: the parts lent are the plan's data.
+use Rattle.text_write.specs.inner.Stored.{StoredLimits}
+use lib.Seq.{length-take-le}
+use lib.ListN.{length}
+use Rattle.plan.specs.Limits.{maxLevels, maxVertices, maxSegments}
+use borrow.Author.Needs.{needs}
+use native.Mathlib.Omega.{arith}
+use mathlib.Core.Path.{_≡_, sym}
+use Rattle.text_write.proofs.again.stored_line.Statement.{statement}
+use Rattle.text_write.proofs.again.stored_line.Tie as tie
+
+stored : (c : tie.Start) → StoredLimits (c .args .plan) (c .args .vertices) (c .args .segments)
+stored c = c .pre .0
+
+long-sizes : (c : tie.Start) → length (c .args .plan .sizes) ≡ maxLevels
+long-sizes c = search needs
+
+long-vias : (c : tie.Start) → length (c .args .plan .vias) ≡ maxVertices
+long-vias c = search needs
+
+long-halves : (c : tie.Start) → length (c .args .plan .halves) ≡ maxVertices
+long-halves c = search needs
+
+long-uppers : (c : tie.Start) → length (c .args .plan .uppers) ≡ maxSegments
+long-uppers c = search needs
+
+long-lowers : (c : tie.Start) → length (c .args .plan .lowers) ≡ maxSegments
+long-lowers c = search needs
+
+array-share-prefix-sizes : tie.Need-array-share-prefix-sizes
+array-share-prefix-sizes c = omega (arith, long-sizes (c .before .before .before .before .before .before .before), stored (c .before .before .before .before .before .before .before) .levels, c .before .before .before .before .before .wide .ensures)
+
+slice-aggregate-line : tie.Need-slice-aggregate-line
+slice-aggregate-line c = sym (length-take-le _ _ (omega (arith, long-sizes (c .before .before .before .before .before .before .before .before), stored (c .before .before .before .before .before .before .before .before) .levels, c .before .before .before .before .before .before .wide .ensures)))
+
+array-share-prefix-vias : tie.Need-array-share-prefix-vias
+array-share-prefix-vias c = omega (arith, long-vias (c .before .before .before .before .before .before .before .before), stored (c .before .before .before .before .before .before .before .before) .vertices)
+
+slice-aggregate-line-2 : tie.Need-slice-aggregate-line-2
+slice-aggregate-line-2 c = sym (length-take-le _ _ (omega (arith, long-vias (c .before .before .before .before .before .before .before .before .before), stored (c .before .before .before .before .before .before .before .before .before) .vertices)))
+
+array-share-prefix-halves : tie.Need-array-share-prefix-halves
+array-share-prefix-halves c = omega (arith, long-halves (c .before .before .before .before .before .before .before .before .before), stored (c .before .before .before .before .before .before .before .before .before) .vertices)
+
+slice-aggregate-line-3 : tie.Need-slice-aggregate-line-3
+slice-aggregate-line-3 c = sym (length-take-le _ _ (omega (arith, long-halves (c .before .before .before .before .before .before .before .before .before .before), stored (c .before .before .before .before .before .before .before .before .before .before) .vertices)))
+
+array-share-prefix-uppers : tie.Need-array-share-prefix-uppers
+array-share-prefix-uppers c = omega (arith, long-uppers (c .before .before .before .before .before .before .before .before .before .before), stored (c .before .before .before .before .before .before .before .before .before .before) .segments)
+
+slice-aggregate-line-4 : tie.Need-slice-aggregate-line-4
+slice-aggregate-line-4 c = sym (length-take-le _ _ (omega (arith, long-uppers (c .before .before .before .before .before .before .before .before .before .before .before), stored (c .before .before .before .before .before .before .before .before .before .before .before) .segments)))
+
+array-share-prefix-lowers : tie.Need-array-share-prefix-lowers
+array-share-prefix-lowers c = omega (arith, long-lowers (c .before .before .before .before .before .before .before .before .before .before .before), stored (c .before .before .before .before .before .before .before .before .before .before .before) .segments)
+
+slice-aggregate-line-5 : tie.Need-slice-aggregate-line-5
+slice-aggregate-line-5 c = sym (length-take-le _ _ (omega (arith, long-lowers (c .before .before .before .before .before .before .before .before .before .before .before .before), stored (c .before .before .before .before .before .before .before .before .before .before .before .before) .segments)))
+
+line-requires : tie.Need-line-requires
+line-requires c κs =
+    let k = c .before .before .before .before .before .before .before .before .before .before .before .wide .ensures in
+    let s = c .before .before .before .before .before .before .before .before .before .before .before .before .before in
+    rw k (s .pre .1)
+
+same-length : tie.Need-same-length
+same-length c = c .before .before .line .kept .1 .1 .1 .1 .1 .1 .1 .1 .1 .0
+
+returns : tie.Need-returns
+returns c = rw (c .before .before .before .before .before .before .before .before .before .before .before .before .before .before .wide .ensures) at (c .before .before .line .ensures)
+
+pub stored-line-spec : {M : Type 1} → statement M
+stored-line-spec =
+    tie.close
+    (tie.spec (λ c κs. tt) array-share-prefix-sizes slice-aggregate-line array-share-prefix-vias slice-aggregate-line-2
+    array-share-prefix-halves slice-aggregate-line-3 array-share-prefix-uppers slice-aggregate-line-4 array-share-prefix-lowers
+    slice-aggregate-line-5 line-requires same-length returns)
