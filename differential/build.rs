@@ -3,5 +3,8 @@ fn main() {
     let libraries = root.join("target/staticlib");
     println!("cargo:rustc-link-search=native={}", libraries.display());
     println!("cargo:rustc-link-lib=static=c_calls");
-    println!("cargo:rerun-if-changed={}", libraries.join("libc_calls.a").display());
+    println!(
+        "cargo:rerun-if-changed={}",
+        libraries.join("libc_calls.a").display()
+    );
 }

@@ -23,5 +23,7 @@ pub fn about(kind: &str, vertices: usize) -> Option<Vec<u8>> {
     let is_near = |plan_text: &Vec<u8>| {
         text::read(plan_text).is_ok_and(|plan| plan.vertices().abs_diff(vertices) <= vertices / 40)
     };
-    (0..2_000).filter_map(|seed| generate::generate(kind, seed)).find(is_near)
+    (0..2_000)
+        .filter_map(|seed| generate::generate(kind, seed))
+        .find(is_near)
 }

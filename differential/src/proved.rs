@@ -135,7 +135,14 @@ pub fn write_text_back(text: &[u8], out: &mut [u8]) -> Result<usize, u32> {
 pub fn write_untangled(text: &[u8], out: &mut [u8], numbers: &mut [u16]) -> Result<usize, u32> {
     // The function reads and writes the lent slices alone, within their lengths.
     answer(unsafe {
-        untangle_c(text.as_ptr(), text.len(), out.as_mut_ptr(), out.len(), numbers.as_mut_ptr(), numbers.len())
+        untangle_c(
+            text.as_ptr(),
+            text.len(),
+            out.as_mut_ptr(),
+            out.len(),
+            numbers.as_mut_ptr(),
+            numbers.len(),
+        )
     })
 }
 
@@ -149,7 +156,16 @@ pub fn write_answers(script: &[u8], out: &mut [u8]) -> Result<usize, u32> {
 /// refused are told by 100 and their line.
 pub fn write_picture(text: &[u8], names: &[u8], out: &mut [u8]) -> Result<usize, u32> {
     // The function reads and writes the lent slices alone, within their lengths.
-    answer(unsafe { picture_c(text.as_ptr(), text.len(), names.as_ptr(), names.len(), out.as_mut_ptr(), out.len()) })
+    answer(unsafe {
+        picture_c(
+            text.as_ptr(),
+            text.len(),
+            names.as_ptr(),
+            names.len(),
+            out.as_mut_ptr(),
+            out.len(),
+        )
+    })
 }
 
 /// Writes the marks of a plan's drawing into the buffer, five numbers each: how many marks there are. Else as for `reread`.
@@ -189,7 +205,16 @@ pub fn marks(text: &[u8]) -> Result<Vec<Mark>, u32> {
 }
 
 fn mark(numbers: &[f64]) -> Mark {
-    let (p, q) = (Point { x: numbers[1], y: numbers[2] }, Point { x: numbers[3], y: numbers[4] });
+    let (p, q) = (
+        Point {
+            x: numbers[1],
+            y: numbers[2],
+        },
+        Point {
+            x: numbers[3],
+            y: numbers[4],
+        },
+    );
     match numbers[0] {
         0.0 => Mark::Box(p, q.x),
         1.0 => Mark::Bend(p),

@@ -19,10 +19,16 @@ pub fn scripts() -> Vec<PathBuf> {
 }
 
 fn files(folder_name: &str, extension: &str) -> Vec<PathBuf> {
-    let files = fs::read_dir(folder(folder_name)).expect("the vectors").map(|entry| entry.expect("a file").path());
-    files.filter(|file| file.extension().is_some_and(|found| found == extension)).collect()
+    let files = fs::read_dir(folder(folder_name))
+        .expect("the vectors")
+        .map(|entry| entry.expect("a file").path());
+    files
+        .filter(|file| file.extension().is_some_and(|found| found == extension))
+        .collect()
 }
 
 fn folder(name: &str) -> PathBuf {
-    Path::new(env!("CARGO_MANIFEST_DIR")).join("../reference/tests").join(name)
+    Path::new(env!("CARGO_MANIFEST_DIR"))
+        .join("../reference/tests")
+        .join(name)
 }

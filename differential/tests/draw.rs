@@ -20,7 +20,12 @@ fn expected(plan_text: &[u8], length: usize) -> (i64, Vec<i64>) {
         Err(number) => return (-i64::from(number), buffer),
     };
     let drawing = passes::draw(&plan);
-    let positions: Vec<i64> = drawing.preliminary.iter().chain(&drawing.position).copied().collect();
+    let positions: Vec<i64> = drawing
+        .preliminary
+        .iter()
+        .chain(&drawing.position)
+        .copied()
+        .collect();
     if length < positions.len() {
         return (-14, buffer);
     }
@@ -41,16 +46,23 @@ fn compare(plan_text: &[u8], length: usize, name: &str) -> bool {
 /// Compares on random plans of a kind; how many were drawn.
 fn random_plans(kind: &str, seeds: u64) -> u64 {
     let text_of = |seed| generate::generate(kind, seed).expect("a kind");
-    let drawn = (0..seeds).filter(|&seed| compare(&text_of(seed), ROOM, &format!("{kind} {seed}"))).count() as u64;
+    let drawn = (0..seeds)
+        .filter(|&seed| compare(&text_of(seed), ROOM, &format!("{kind} {seed}")))
+        .count() as u64;
     println!("{kind}: {drawn} drawn, {} refused", seeds - drawn);
     drawn
 }
 
 #[test]
 fn every_kind() {
-    for (kind, seeds) in
-        [("small", 8_000), ("medium", 4_000), ("wide", 1_500), ("deep", 1_500), ("vias", 2_500), ("max", 500)]
-    {
+    for (kind, seeds) in [
+        ("small", 8_000),
+        ("medium", 4_000),
+        ("wide", 1_500),
+        ("deep", 1_500),
+        ("vias", 2_500),
+        ("max", 500),
+    ] {
         assert_eq!(random_plans(kind, seeds), seeds, "{kind}");
     }
     assert!(random_plans("tangled", 3_000) > 100);
@@ -60,7 +72,11 @@ fn every_kind() {
 #[test]
 fn vectors() {
     for plan in plans() {
-        compare(&fs::read(&plan).expect("a plan"), ROOM, &plan.display().to_string());
+        compare(
+            &fs::read(&plan).expect("a plan"),
+            ROOM,
+            &plan.display().to_string(),
+        );
     }
 }
 
@@ -68,23 +84,37 @@ fn vectors() {
 fn short_buffers() {
     for seed in 0..200 {
         let plan_text = generate::generate("small", seed).expect("a kind");
-        let room = 2 * text::read(&plan_text).expect("an acceptable plan").vertices();
+        let room = 2 * text::read(&plan_text)
+            .expect("an acceptable plan")
+            .vertices();
         for length in [0, room / 2, room.saturating_sub(1), room, room + 1] {
-            assert_eq!(compare(&plan_text, length, &format!("small {seed} in {length}")), length >= room);
+            assert_eq!(
+                compare(&plan_text, length, &format!("small {seed} in {length}")),
+                length >= room
+            );
         }
     }
 }
 
 #[test]
 fn two_mebibytes_of_stack() {
-    let largest: Vec<PathBuf> =
-        plans().into_iter().filter(|file| fs::read(file).expect("a plan").len() > 4_000).collect();
+    let largest: Vec<PathBuf> = plans()
+        .into_iter()
+        .filter(|file| fs::read(file).expect("a plan").len() > 4_000)
+        .collect();
     assert!(largest.len() > 10);
     let draw_all = move || {
         for file in largest {
-            compare(&fs::read(&file).expect("a plan"), ROOM, &file.display().to_string());
+            compare(
+                &fs::read(&file).expect("a plan"),
+                ROOM,
+                &file.display().to_string(),
+            );
         }
     };
-    let thread = std::thread::Builder::new().stack_size(2 << 20).spawn(draw_all).expect("a thread");
+    let thread = std::thread::Builder::new()
+        .stack_size(2 << 20)
+        .spawn(draw_all)
+        .expect("a thread");
     thread.join().expect("it ends");
 }

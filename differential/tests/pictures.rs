@@ -33,23 +33,46 @@ fn compare(name: &str, plan_text: &[u8], names: &[u8]) -> bool {
     let document = expected.clone().unwrap_or_default();
     let mut out = vec![OLD; document.len() + BEYOND];
     let answer = proved::write_picture(plan_text, names, &mut out);
-    assert_eq!(answer, expected.as_ref().map(Vec::len).map_err(|&number| number), "{name}");
+    assert_eq!(
+        answer,
+        expected.as_ref().map(Vec::len).map_err(|&number| number),
+        "{name}"
+    );
     assert!(out[..document.len()] == document, "{name}: another picture");
-    assert!(out[document.len()..].iter().all(|&byte| byte == OLD), "{name}");
+    assert!(
+        out[document.len()..].iter().all(|&byte| byte == OLD),
+        "{name}"
+    );
     expected.is_ok()
 }
 
 /// Names for some of a plan's boxes in any order, and now and then something wrong.
 fn names(plan_text: &[u8], random: &mut Random) -> Vec<u8> {
-    const WORDS: [&str; 12] =
-        ["pump", "a", "<&>", "Kühlbox", "漁船", "electronics", "x]]>y", "\"'", "…", "𝛑", "&amp;", "uninterruptible"];
-    let Ok(plan) = text::read(plan_text) else { return b"0 a\n".to_vec() };
+    const WORDS: [&str; 12] = [
+        "pump",
+        "a",
+        "<&>",
+        "Kühlbox",
+        "漁船",
+        "electronics",
+        "x]]>y",
+        "\"'",
+        "…",
+        "𝛑",
+        "&amp;",
+        "uninterruptible",
+    ];
+    let Ok(plan) = text::read(plan_text) else {
+        return b"0 a\n".to_vec();
+    };
     let mut boxes: Vec<usize> = (0..plan.vertices()).filter(|&v| !plan.is_via(v)).collect();
     let mut lines = String::new();
     while !boxes.is_empty() {
         let v = boxes.swap_remove(random.below(boxes.len()));
         if random.below(4) > 0 {
-            let words: Vec<&str> = (0..1 + random.below(5)).map(|_| random.pick(&WORDS)).collect();
+            let words: Vec<&str> = (0..1 + random.below(5))
+                .map(|_| random.pick(&WORDS))
+                .collect();
             lines += &format!("{v} {}\n", words.join(" "));
         }
     }
@@ -73,7 +96,11 @@ fn compare_kind(kind: &str, times: u64) -> u64 {
         let plan_text = generate(kind, seed).expect("a kind");
         let names = names(&plan_text, &mut random);
         compare(&format!("{kind} {seed}"), &plan_text, b"");
-        drawn += u64::from(compare(&format!("{kind} {seed} with names"), &plan_text, &names));
+        drawn += u64::from(compare(
+            &format!("{kind} {seed} with names"),
+            &plan_text,
+            &names,
+        ));
     }
     println!("{kind}: {times} texts, {drawn} drawn with names");
     drawn
@@ -81,9 +108,14 @@ fn compare_kind(kind: &str, times: u64) -> u64 {
 
 #[test]
 fn accepted_texts() {
-    for (kind, times) in
-        [("small", 10_000), ("medium", 3_000), ("wide", 300), ("deep", 300), ("vias", 1_000), ("max", 60)]
-    {
+    for (kind, times) in [
+        ("small", 10_000),
+        ("medium", 3_000),
+        ("wide", 300),
+        ("deep", 300),
+        ("vias", 1_000),
+        ("max", 60),
+    ] {
         let drawn = compare_kind(kind, times);
         assert!(drawn > times / 2 && drawn < times, "{kind}");
     }
@@ -98,7 +130,12 @@ fn refused_texts() {
 #[test]
 fn at_the_edges() {
     for edge in edges() {
-        assert_eq!(compare(&edge.name, &edge.text, b""), edge.refusal == 0, "{}", edge.name);
+        assert_eq!(
+            compare(&edge.name, &edge.text, b""),
+            edge.refusal == 0,
+            "{}",
+            edge.name
+        );
     }
 }
 
@@ -119,14 +156,25 @@ fn forms_of_names() {
     let plan_text = b"(plan 1 1 10)\n(level (box 9) (box 9))\n(end)\n";
     for (a, b) in (0..=0xff).flat_map(|a| (0..=0xff).map(move |b| (a, b))) {
         for name in [&[b'x', a, b][..], &[a, b, 0x80], &[a, b, 0x9f, 0xbf]] {
-            compare(&format!("{name:x?}"), plan_text, &[b"1 ", name, b"\n"].concat());
+            compare(
+                &format!("{name:x?}"),
+                plan_text,
+                &[b"1 ", name, b"\n"].concat(),
+            );
         }
     }
     for length in [65_535, 65_536, 65_537, 100_000] {
         let mut names = [&b"0 "[..], &vec![b'a'; length - 3], b"\n"].concat();
-        assert_eq!(compare(&format!("{length} bytes"), plan_text, &names), length <= 65_536);
+        assert_eq!(
+            compare(&format!("{length} bytes"), plan_text, &names),
+            length <= 65_536
+        );
         names[length / 2] = b'\n';
-        assert!(!compare(&format!("{length} bytes in two lines"), plan_text, &names));
+        assert!(!compare(
+            &format!("{length} bytes in two lines"),
+            plan_text,
+            &names
+        ));
     }
 }
 
@@ -136,13 +184,21 @@ fn short_buffers() {
     for seed in 0..200 {
         let plan_text = generate("small", seed).expect("a kind");
         let names = names(&plan_text, &mut random);
-        let Ok(document) = picture(&plan_text, &names) else { continue };
+        let Ok(document) = picture(&plan_text, &names) else {
+            continue;
+        };
         for length in [0, 1, document.len() / 2, document.len() - 1] {
             let mut out = vec![OLD; length];
-            assert_eq!(proved::write_picture(&plan_text, &names, &mut out), Err(SHORT));
+            assert_eq!(
+                proved::write_picture(&plan_text, &names, &mut out),
+                Err(SHORT)
+            );
             assert!(out.iter().all(|&byte| byte == OLD));
         }
-        assert_eq!(proved::write_picture(&plan_text, &names, &mut vec![OLD; document.len()]), Ok(document.len()));
+        assert_eq!(
+            proved::write_picture(&plan_text, &names, &mut vec![OLD; document.len()]),
+            Ok(document.len())
+        );
     }
     assert_eq!(proved::write_picture(b"", b"", &mut []), Err(1));
 }
@@ -152,12 +208,18 @@ fn short_buffers() {
 fn no_picture_is_longer() {
     for plan in plans() {
         let plan_text = fs::read(&plan).expect("a plan");
-        let Ok(read) = text::read(&plan_text) else { continue };
+        let Ok(read) = text::read(&plan_text) else {
+            continue;
+        };
         let boxes: Vec<usize> = (0..read.vertices()).filter(|&v| !read.is_via(v)).collect();
         let name = "&".repeat(65_536 / boxes.len() - 6);
         let names: String = boxes.iter().map(|v| format!("{v} {name}\n")).collect();
         let document = picture(&plan_text, names.as_bytes()).expect("a picture");
         assert!(document.len() <= proved::MAX_PICTURE, "{}", plan.display());
-        assert!(compare(&plan.display().to_string(), &plan_text, names.as_bytes()));
+        assert!(compare(
+            &plan.display().to_string(),
+            &plan_text,
+            names.as_bytes()
+        ));
     }
 }

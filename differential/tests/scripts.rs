@@ -22,7 +22,10 @@ fn compare(commands: &[u8]) {
     assert_eq!(proved::write_answers(commands, &mut out), Ok(length));
     assert_eq!(out[..length], expected);
     assert!(out[length..].iter().all(|&byte| byte == OLD));
-    assert_eq!(proved::write_answers(commands, &mut out[..length]), Ok(length));
+    assert_eq!(
+        proved::write_answers(commands, &mut out[..length]),
+        Ok(length)
+    );
     if length > 0 {
         let mut short = vec![OLD; length - 1];
         assert_eq!(proved::write_answers(commands, &mut short), Err(SHORT));
@@ -41,7 +44,11 @@ fn compare_random(seed: u64, script: fn(u64) -> String) {
     }
     let expected = script::answers(commands.as_bytes());
     let mut out = vec![OLD; expected.len()];
-    assert_eq!(proved::write_answers(commands.as_bytes(), &mut out), Ok(expected.len()), "script {seed}");
+    assert_eq!(
+        proved::write_answers(commands.as_bytes(), &mut out),
+        Ok(expected.len()),
+        "script {seed}"
+    );
     assert!(out == expected, "script {seed}");
 }
 
@@ -104,7 +111,11 @@ fn remembered_numbers() {
         "clear 1\npoke 1 k 1\npoke 1 g 1\npoke 1 s 1\npoke 1 size 0 2\npoke 1 vertex 0 box 1\npoke 1 vertex 1 box 1\n\
                    poke 1 stage loaded 2 0\ndraw 1\npoke 1 size 0 1\npoke 1 stage loaded 1 0\ndraw 1\nlines 1\n";
     for way in ["", "poke 1 tangled 0\n", "poke 1 tangled 1\n"] {
-        compare([&loads, way, exchanged, small, &loads, way, by_hand].concat().as_bytes());
+        compare(
+            [&loads, way, exchanged, small, &loads, way, by_hand]
+                .concat()
+                .as_bytes(),
+        );
     }
 }
 
@@ -128,7 +139,9 @@ fn edges() {
         "stage 2",
         "poke 1 size 64 1",
     ];
-    edges.iter().for_each(|commands| compare(commands.as_bytes()));
+    edges
+        .iter()
+        .for_each(|commands| compare(commands.as_bytes()));
 }
 
 /// A line of so many bytes fills the room of the program `script`.
@@ -137,23 +150,41 @@ const LINE_ROOM: usize = 2_097_152;
 /// What the program `script` answers.
 fn run(commands: &[u8]) -> Vec<u8> {
     let program = Path::new(env!("CARGO_MANIFEST_DIR")).join("../target/bin/script");
-    let mut child =
-        Command::new(program).stdin(Stdio::piped()).stdout(Stdio::piped()).spawn().expect("the program script");
-    child.stdin.take().expect("its input").write_all(commands).expect("a script sent");
+    let mut child = Command::new(program)
+        .stdin(Stdio::piped())
+        .stdout(Stdio::piped())
+        .spawn()
+        .expect("the program script");
+    child
+        .stdin
+        .take()
+        .expect("its input")
+        .write_all(commands)
+        .expect("a script sent");
     child.wait_with_output().expect("its answers").stdout
 }
 
 /// A line that fits the room is answered as the reference answers it; a longer one is no command, or a remark that is passed over.
 #[test]
 fn long_lines_of_the_program() {
-    let long =
-        |front: &str, length: usize| [front.as_bytes(), &vec![b'a'; length - front.len()], b"\nstage 1\n"].concat();
+    let long = |front: &str, length: usize| {
+        [
+            front.as_bytes(),
+            &vec![b'a'; length - front.len()],
+            b"\nstage 1\n",
+        ]
+        .concat()
+    };
     for length in [65_536 + 14, 65_537 + 14, 300_000, LINE_ROOM - 1] {
         let commands = long("load 1 strict ", length);
         assert_eq!(run(&commands), script::answers(&commands), "{length}");
     }
     for length in [LINE_ROOM, LINE_ROOM + 1, 2 * LINE_ROOM, 3 * LINE_ROOM + 5] {
-        assert_eq!(run(&long("load 1 strict ", length)), b"unknown\nok empty\n", "{length}");
+        assert_eq!(
+            run(&long("load 1 strict ", length)),
+            b"unknown\nok empty\n",
+            "{length}"
+        );
         assert_eq!(run(&long("#", length)), b"ok empty\n", "{length}");
     }
 }

@@ -21,14 +21,25 @@ fn compare(name: &str, bytes: &[u8]) -> usize {
     let mut out = vec![OLD; bytes.len() + BEYOND];
     let answer = proved::reread(bytes, &mut out);
     let written = expected.clone().unwrap_or_default();
-    assert_eq!(answer, expected.as_ref().map(Vec::len).map_err(|&number| number), "{name}");
+    assert_eq!(
+        answer,
+        expected.as_ref().map(Vec::len).map_err(|&number| number),
+        "{name}"
+    );
     assert_eq!(out[..written.len()], written, "{name}");
-    assert!(out[written.len()..].iter().all(|&byte| byte == OLD), "{name}");
+    assert!(
+        out[written.len()..].iter().all(|&byte| byte == OLD),
+        "{name}"
+    );
     if expected.is_ok() {
         let mut short = vec![OLD; written.len() - 1];
         assert_eq!(proved::reread(bytes, &mut short), Err(SHORT), "{name}");
         assert!(short.iter().all(|&byte| byte == OLD), "{name}");
-        assert_eq!(proved::reread(bytes, &mut out[..written.len()]), Ok(written.len()), "{name}");
+        assert_eq!(
+            proved::reread(bytes, &mut out[..written.len()]),
+            Ok(written.len()),
+            "{name}"
+        );
     }
     number as usize
 }
@@ -37,7 +48,10 @@ fn compare(name: &str, bytes: &[u8]) -> usize {
 fn compare_kind(kind: &str, times: u64) -> [u64; 7] {
     let mut outcomes = [0; 7];
     for seed in 0..times {
-        outcomes[compare(&format!("{kind} {seed}"), &generate(kind, seed).expect("a kind"))] += 1;
+        outcomes[compare(
+            &format!("{kind} {seed}"),
+            &generate(kind, seed).expect("a kind"),
+        )] += 1;
     }
     println!("{kind}: {times} texts, accepted and refused with 1 to 6: {outcomes:?}");
     outcomes
@@ -46,7 +60,12 @@ fn compare_kind(kind: &str, times: u64) -> [u64; 7] {
 #[test]
 fn at_the_edges() {
     for edge in edges() {
-        assert_eq!(compare(&edge.name, &edge.text), edge.refusal as usize, "{}", edge.name);
+        assert_eq!(
+            compare(&edge.name, &edge.text),
+            edge.refusal as usize,
+            "{}",
+            edge.name
+        );
     }
 }
 
@@ -64,8 +83,14 @@ fn tangled_texts() {
 
 #[test]
 fn accepted_texts() {
-    let kinds =
-        [("small", 20_000), ("medium", 10_000), ("wide", 2_000), ("deep", 2_000), ("vias", 5_000), ("max", 300)];
+    let kinds = [
+        ("small", 20_000),
+        ("medium", 10_000),
+        ("wide", 2_000),
+        ("deep", 2_000),
+        ("vias", 5_000),
+        ("max", 300),
+    ];
     for (kind, times) in kinds {
         assert_eq!(compare_kind(kind, times)[0], times);
     }

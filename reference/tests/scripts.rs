@@ -14,7 +14,7 @@ fn scripts() -> Vec<PathBuf> {
 #[test]
 fn answers_are_those_of_the_vectors() {
     let scripts = scripts();
-    assert_eq!(scripts.len(), 55);
+    assert_eq!(scripts.len(), 82);
     for file in scripts {
         let expected = fs::read(file.with_extension("answers")).expect("answers");
         assert!(script::answers(&fs::read(&file).expect("a script")) == expected, "{}", file.display());
@@ -59,7 +59,13 @@ fn every_command() {
         ("placerun r=0 old= counts= nbrs= dist=", "ok"),
         ("poke 1 pos 0 -3", "ok"),
         ("mark 1 0", "ok box -1.5 0 1"),
+        ("text 1 0", "refused 15"),
+        ("load 1 tangled (plan 1 1 1)\\n(level (box 1))\\n(end)\\n", "ok"),
+        ("text 1 1", "ok 16 (level (box 1))"),
+        ("text 1 1 15", "refused 14"),
+        ("texts 1", "ok 13 (plan 1 1 1)\nok 16 (level (box 1))\nok 6 (end)\nrefused 7"),
         ("clear 1", "ok"),
+        ("texts 1", "refused 11"),
         ("stage 1", "ok empty"),
     ]);
 }
@@ -182,7 +188,7 @@ fn other_lines_change_nothing() {
         "poke 1 tangled 2",
         "poke 1 tangled 01",
         "poke 1 tangled 1 1",
-        "text 1 0",
+        "text 1",
         "placerun r=1 old=0 counts=0 nbrs= dist= ratings=",
         "placerun r=1 old=0 old=0 counts=0 nbrs= dist=",
         "placerun r=1 old=0, counts=0 nbrs= dist=",

@@ -24,8 +24,14 @@ fn place_run(boxes: usize, neighbours: usize, name: &str, scale: Scale) {
     let requests: Vec<Request> = (0..REQUESTS as u64)
         .map(|seed| Request::accepted(&mut Random::new("bench", seed), boxes, neighbours, scale))
         .collect();
-    let distances: Vec<Vec<i64>> = requests.iter().map(|q| q.distances.iter().map(|&d| d as i64).collect()).collect();
-    let counts: Vec<Vec<usize>> = requests.iter().map(|q| q.counts.iter().map(|&c| c as usize).collect()).collect();
+    let distances: Vec<Vec<i64>> = requests
+        .iter()
+        .map(|q| q.distances.iter().map(|&d| d as i64).collect())
+        .collect();
+    let counts: Vec<Vec<usize>> = requests
+        .iter()
+        .map(|q| q.counts.iter().map(|&c| c as usize).collect())
+        .collect();
     let mut ours = vec![vec![0; boxes]; REQUESTS];
     let mut theirs = ours.clone();
     let mut placer = Placer::new();

@@ -38,10 +38,19 @@ fn measure(name: &str, plan_text: &[u8]) {
 }
 
 fn main() {
-    for (kind, vertices) in
-        [("medium", 100), ("vias", 100), ("wide", 100), ("deep", 100), ("wide", 300), ("deep", 300), ("max", 1_000)]
-    {
-        measure(&format!("{kind} {vertices}"), &about(kind, vertices).expect("a plan"));
+    for (kind, vertices) in [
+        ("medium", 100),
+        ("vias", 100),
+        ("wide", 100),
+        ("deep", 100),
+        ("wide", 300),
+        ("deep", 300),
+        ("max", 1_000),
+    ] {
+        measure(
+            &format!("{kind} {vertices}"),
+            &about(kind, vertices).expect("a plan"),
+        );
     }
     for name in [
         "max-1",

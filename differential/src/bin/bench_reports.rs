@@ -33,13 +33,15 @@ fn measure(name: &str, plan_text: &[u8]) {
     let mut times = [Vec::new(), Vec::new(), Vec::new(), Vec::new()];
     for _ in 0..ROUNDS {
         times[0].push(seconds(calls, || {
-            black_box(proved::write_report(black_box(plan_text), &mut out)).expect("an acceptable plan");
+            black_box(proved::write_report(black_box(plan_text), &mut out))
+                .expect("an acceptable plan");
         }));
         times[1].push(seconds(calls, || {
             black_box(report::answer(black_box(plan_text)));
         }));
         times[2].push(seconds(calls, || {
-            black_box(proved::write_marks(black_box(plan_text), &mut numbers)).expect("an acceptable plan");
+            black_box(proved::write_marks(black_box(plan_text), &mut numbers))
+                .expect("an acceptable plan");
         }));
         times[3].push(seconds(calls, || {
             let plan = text::read(black_box(plan_text)).expect("an acceptable plan");
@@ -56,31 +58,66 @@ fn process(program: &Path, words: &[&str], plan: &Path) -> f64 {
     seconds(1, || {
         let input = File::open(plan).expect("a plan");
         let mut command = Command::new(program);
-        let status = command.args(words).stdin(input).stdout(Stdio::null()).status().expect("the program");
+        let status = command
+            .args(words)
+            .stdin(input)
+            .stdout(Stdio::null())
+            .status()
+            .expect("the program");
         assert!(status.success());
     })
 }
 
 fn measure_process(name: &str, root: &Path, plan: &Path) {
-    let (counter, reference) = (root.join("target/bin/counter"), root.join("reference/target/release/reference"));
+    let (counter, reference) = (
+        root.join("target/bin/counter"),
+        root.join("reference/target/release/reference"),
+    );
     let (mut proved_times, mut reference_times) = (Vec::new(), Vec::new());
     for _ in 0..STARTS {
         proved_times.push(process(&counter, &[], plan));
         reference_times.push(process(&reference, &["report"], plan));
     }
-    let vertices = text::read(&fs::read(plan).expect("a plan")).expect("an acceptable plan").vertices();
-    print("process", name, vertices, median(proved_times), median(reference_times));
+    let vertices = text::read(&fs::read(plan).expect("a plan"))
+        .expect("an acceptable plan")
+        .vertices();
+    print(
+        "process",
+        name,
+        vertices,
+        median(proved_times),
+        median(reference_times),
+    );
 }
 
 fn main() {
-    for (kind, vertices) in
-        [("medium", 100), ("vias", 100), ("wide", 100), ("deep", 100), ("wide", 300), ("deep", 300), ("max", 1_000)]
-    {
-        measure(&format!("{kind} {vertices}"), &about(kind, vertices).expect("a plan"));
+    for (kind, vertices) in [
+        ("medium", 100),
+        ("vias", 100),
+        ("wide", 100),
+        ("deep", 100),
+        ("wide", 300),
+        ("deep", 300),
+        ("max", 1_000),
+    ] {
+        measure(
+            &format!("{kind} {vertices}"),
+            &about(kind, vertices).expect("a plan"),
+        );
     }
     let root = PathBuf::from(env!("CARGO_MANIFEST_DIR")).join("..");
-    let plans = ["case-1", "max-1", "max-2", "max-3", "far", "longest", "staircase", "zigzag", "chains-1"]
-        .map(|name| (name, vectors::plan(name)));
+    let plans = [
+        "case-1",
+        "max-1",
+        "max-2",
+        "max-3",
+        "far",
+        "longest",
+        "staircase",
+        "zigzag",
+        "chains-1",
+    ]
+    .map(|name| (name, vectors::plan(name)));
     for (name, plan) in &plans {
         measure(name, &fs::read(plan).expect("a plan"));
     }

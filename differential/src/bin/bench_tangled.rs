@@ -15,14 +15,17 @@ const PLANS: u64 = 12;
 
 /// The report of a tangled plan against that of its rearranged text, and the reference's.
 fn reports(name: &str, plan_text: &[u8]) {
-    let plan = tangled::read(plan_text).expect("a plan that may be tangled").plan;
+    let plan = tangled::read(plan_text)
+        .expect("a plan that may be tangled")
+        .plan;
     let straight = text::write(&plan);
     let mut out = vec![0; MAX_REPORT];
     let mut times = [Vec::new(), Vec::new(), Vec::new()];
     // Either way is measured after the reference: what ran before has left its traces in the caches.
     for _ in 0..ROUNDS {
         times[0].push(seconds(5, || {
-            black_box(proved::write_tangled_report(black_box(plan_text), &mut out)).expect("a plan");
+            black_box(proved::write_tangled_report(black_box(plan_text), &mut out))
+                .expect("a plan");
         }));
         times[2].push(seconds(5, || {
             black_box(report::answer_tangled(black_box(plan_text)));
@@ -53,10 +56,19 @@ fn rearranging(name: &str, plan_text: &[u8]) {
     let mut times = [Vec::new(), Vec::new()];
     for _ in 0..ROUNDS {
         times[0].push(seconds(5, || {
-            black_box(proved::write_untangled(black_box(plan_text), &mut out, &mut numbers)).expect("a plan");
+            black_box(proved::write_untangled(
+                black_box(plan_text),
+                &mut out,
+                &mut numbers,
+            ))
+            .expect("a plan");
         }));
         times[1].push(seconds(5, || {
-            black_box(tangled::read(black_box(plan_text)).map(|loaded| text::write(&loaded.plan)).expect("a plan"));
+            black_box(
+                tangled::read(black_box(plan_text))
+                    .map(|loaded| text::write(&loaded.plan))
+                    .expect("a plan"),
+            );
         }));
     }
     let [proved, reference] = times.map(median);
@@ -71,7 +83,10 @@ fn rearranging(name: &str, plan_text: &[u8]) {
 /// A plan whose segments are as far from sorted as can be: 16 vias at each end of a level change places across 32 boxes, which have
 /// nearly all segments.
 fn far_from_sorted() -> Vec<u8> {
-    let (boxes, vias) = (|count| vec![Vertex::new_box(1); count], |count| vec![Vertex::via(); count]);
+    let (boxes, vias) = (
+        |count| vec![Vertex::new_box(1); count],
+        |count| vec![Vertex::via(); count],
+    );
     let straight = (0..32).map(|i| (i, 32 + i));
     let crossed = (0..32).map(|i| (32 + i, if i < 16 { 127 - i } else { 95 - i }));
     let ends = (0..64).flat_map(|i| match i {
@@ -83,16 +98,30 @@ fn far_from_sorted() -> Vec<u8> {
         gap: 1,
         spacing: 1,
         sizes: vec![32, 32, 64, 64],
-        vertices: [boxes(32), vias(32), vias(16), boxes(32), vias(16), boxes(64)].concat(),
+        vertices: [
+            boxes(32),
+            vias(32),
+            vias(16),
+            boxes(32),
+            vias(16),
+            boxes(64),
+        ]
+        .concat(),
         segments: straight.chain(crossed).chain(ends).collect(),
     };
     text::write_form(&draft)
 }
 
 fn main() {
-    let crossed =
-        (0..PLANS).map(|seed| (format!("crossed-max {seed}"), generate("crossed-max", seed).expect("a kind")));
-    let plans: Vec<(String, Vec<u8>)> = crossed.filter(|(_, plan_text)| text::read(plan_text).is_err()).collect();
+    let crossed = (0..PLANS).map(|seed| {
+        (
+            format!("crossed-max {seed}"),
+            generate("crossed-max", seed).expect("a kind"),
+        )
+    });
+    let plans: Vec<(String, Vec<u8>)> = crossed
+        .filter(|(_, plan_text)| text::read(plan_text).is_err())
+        .collect();
     for (name, plan_text) in &plans {
         reports(name, plan_text);
     }

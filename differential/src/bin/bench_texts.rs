@@ -15,9 +15,15 @@ fn plan_text(name: &str, bytes: &[u8]) {
     let calls = 200_000 / bytes.len() + 1;
     let mut times = [Vec::new(), Vec::new()];
     for _ in 0..20 * ROUNDS {
-        times[0].push(seconds(calls, || assert!(black_box(proved::reread(black_box(bytes), &mut out)).is_ok())));
+        times[0].push(seconds(calls, || {
+            assert!(black_box(proved::reread(black_box(bytes), &mut out)).is_ok())
+        }));
         times[1].push(seconds(calls, || {
-            black_box(text::read(black_box(bytes)).map(|plan| text::write(&plan)).expect("an acceptable plan"));
+            black_box(
+                text::read(black_box(bytes))
+                    .map(|plan| text::write(&plan))
+                    .expect("an acceptable plan"),
+            );
         }));
     }
     assert_eq!(out, bytes);
@@ -32,7 +38,10 @@ fn plan_text(name: &str, bytes: &[u8]) {
 
 fn main() {
     let large = [
-        ("longest", include_bytes!("../../../reference/tests/vectors/longest.plan").to_vec()),
+        (
+            "longest",
+            include_bytes!("../../../reference/tests/vectors/longest.plan").to_vec(),
+        ),
         ("max 0", generate("max", 0).expect("a kind")),
         ("max 1", generate("max", 1).expect("a kind")),
         ("max 2", generate("max", 2).expect("a kind")),
@@ -40,5 +49,8 @@ fn main() {
     for (name, bytes) in large {
         plan_text(name, &bytes);
     }
-    plan_text("case 1", include_bytes!("../../../reference/tests/vectors/case-1.plan"));
+    plan_text(
+        "case 1",
+        include_bytes!("../../../reference/tests/vectors/case-1.plan"),
+    );
 }
