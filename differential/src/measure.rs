@@ -18,6 +18,11 @@ pub fn median(mut values: Vec<f64>) -> f64 {
     values[values.len() / 2]
 }
 
+/// The least of some times.
+pub fn least(values: Vec<f64>) -> f64 {
+    values.into_iter().fold(f64::INFINITY, f64::min)
+}
+
 /// The first random plan of the kind that has this many vertices, give or take one in forty.
 pub fn about(kind: &str, vertices: usize) -> Option<Vec<u8>> {
     let is_near = |plan_text: &Vec<u8>| {

@@ -39,7 +39,7 @@ const SCRIPTS: u64 = 10_500;
 /// Compares on a buffer that has room; on each fiftieth script also on others.
 fn compare_random(seed: u64, script: fn(u64) -> String) {
     let commands = script(seed);
-    if seed % 50 == 0 {
+    if seed.is_multiple_of(50) {
         return compare(commands.as_bytes());
     }
     let expected = script::answers(commands.as_bytes());
@@ -82,11 +82,21 @@ fn more_random_scripts_with_lines_of_the_text() {
     (SCRIPTS..2 * SCRIPTS).for_each(|seed| compare_random(seed, scripts::text_script));
 }
 
+#[test]
+fn random_walk_scripts() {
+    (0..SCRIPTS).for_each(|seed| compare_random(seed, scripts::walk_script));
+}
+
+#[test]
+fn more_random_walk_scripts() {
+    (SCRIPTS..2 * SCRIPTS).for_each(|seed| compare_random(seed, scripts::walk_script));
+}
+
 /// Each script gives the answers that stand beside it.
 #[test]
 fn vectors() {
     let scripts = vectors::scripts();
-    assert_eq!(scripts.len(), 82);
+    assert_eq!(scripts.len(), 109);
     for file in scripts {
         let expected = fs::read(file.with_extension("answers")).expect("answers");
         let mut out = vec![OLD; expected.len()];
@@ -138,6 +148,10 @@ fn edges() {
         "lines 1\nmarks 1",
         "stage 2",
         "poke 1 size 64 1",
+        "walk 1",
+        "walk 1 ",
+        "walk 1 \\",
+        "walk 1 (end)\\n\nwalk 1 (end)\\n",
     ];
     edges
         .iter()
@@ -175,16 +189,19 @@ fn long_lines_of_the_program() {
         ]
         .concat()
     };
-    for length in [65_536 + 14, 65_537 + 14, 300_000, LINE_ROOM - 1] {
-        let commands = long("load 1 strict ", length);
-        assert_eq!(run(&commands), script::answers(&commands), "{length}");
+    let fronts = ["load 1 strict ", "walk 1 "];
+    for front in fronts {
+        let room = |text: usize| front.len() + text;
+        for length in [room(65_536), room(65_537), 300_000, LINE_ROOM - 1] {
+            let commands = long(front, length);
+            assert_eq!(run(&commands), script::answers(&commands), "{length}");
+        }
     }
     for length in [LINE_ROOM, LINE_ROOM + 1, 2 * LINE_ROOM, 3 * LINE_ROOM + 5] {
-        assert_eq!(
-            run(&long("load 1 strict ", length)),
-            b"unknown\nok empty\n",
-            "{length}"
-        );
+        for front in fronts {
+            let commands = long(front, length);
+            assert_eq!(run(&commands), b"unknown\nok empty\n", "{length}");
+        }
         assert_eq!(run(&long("#", length)), b"ok empty\n", "{length}");
     }
 }

@@ -1,8 +1,10 @@
 //! The proved reader and writer of plan texts against the reference's, on texts at the edges and on random ones.
 
 use differential::proved;
+use reference::cables;
 use reference::edges::edges;
 use reference::generate::generate;
+use reference::plan::Plan;
 use reference::text;
 
 /// What stands in a buffer before it is lent.
@@ -46,14 +48,15 @@ fn compare(name: &str, bytes: &[u8]) -> usize {
 
 /// Compares on as many texts of a kind; how many were accepted, and refused with 1 to 6.
 fn compare_kind(kind: &str, times: u64) -> [u64; 7] {
+    compare_texts(kind, times, |seed| generate(kind, seed).expect("a kind"))
+}
+
+fn compare_texts(name: &str, times: u64, plan_text: impl Fn(u64) -> Vec<u8>) -> [u64; 7] {
     let mut outcomes = [0; 7];
     for seed in 0..times {
-        outcomes[compare(
-            &format!("{kind} {seed}"),
-            &generate(kind, seed).expect("a kind"),
-        )] += 1;
+        outcomes[compare(&format!("{name} {seed}"), &plan_text(seed))] += 1;
     }
-    println!("{kind}: {times} texts, accepted and refused with 1 to 6: {outcomes:?}");
+    println!("{name}: {times} texts, accepted and refused with 1 to 6: {outcomes:?}");
     outcomes
 }
 
@@ -79,6 +82,16 @@ fn damaged_texts() {
 fn tangled_texts() {
     let [accepted, .., crossing] = compare_kind("tangled", 20_000);
     assert!(accepted > 1_000 && crossing > 1_000);
+}
+
+/// Up to 64 vias on a level, the first crossing at the start, at the end or between.
+#[test]
+fn cables_side_by_side() {
+    for (most, times) in [(cables::FEW, 20_000), (Plan::MAX_ON_LEVEL, 4_000)] {
+        let [accepted, others @ .., crossing] =
+            compare_texts("cables", times, |seed| cables::text(seed, most));
+        assert!(accepted > times / 4 && crossing > times / 4 && others == [0; 5]);
+    }
 }
 
 #[test]

@@ -1,7 +1,8 @@
-//! Level diagrams for boat supply plans: a second reading of document 01, and of document 02's first requests, E1 and E2.
+//! Level diagrams for boat supply plans: a second reading of document 01, and of the first requests of document 02, E1 to E3.
 //!
 //! From text to picture, one module for each part of the paper:
 //! - [`text`] reads a plan text (check 1) and writes it again; [`plan`] holds the plan and makes checks 2 to 6;
+//! - [`walk`] is check 6 between two levels, with its count (E3);
 //! - [`tangled`] reads a plan text whose inner segments may cross, and rearranges the plan (E1);
 //! - [`preliminary`] gives every vertex its preliminary position;
 //! - [`place_run`] places one run: [`half_steps`] is the definition, [`jumps`] the fast way to the same outcome;
@@ -11,9 +12,9 @@
 //! - [`sheet`] has the calls on a sheet with their refusals, [`stored`] what its record holds; [`script`] answers scripts of
 //!   such calls.
 //!
-//! Beside them: [`generate`] makes random plan texts, [`edges`] those at the edge of each check, [`readings`] lists texts with
-//! what reading them gives, [`requests`] makes requests for place-run, [`scripts`] random scripts, and [`check`] judges a
-//! finished drawing by what was promised of it, without following the method.
+//! Beside them: [`generate`] makes random plan texts, [`cables`] those for the walk, [`edges`] those at the edge of each check,
+//! [`readings`] lists texts with what reading them gives, [`requests`] makes requests for place-run, [`scripts`] random
+//! scripts, and [`check`] judges a finished drawing by what was promised of it, without following the method.
 //!
 //! Positions are whole half steps throughout, except inside [`preliminary`], where the two placements are in steps.
 //! Vertices, levels and lines count from 0; printed levels and passes count from 1.
@@ -21,6 +22,7 @@
 #![forbid(unsafe_code)]
 #![warn(missing_docs)]
 
+pub mod cables;
 pub mod check;
 mod cursor;
 mod damage;
@@ -49,6 +51,8 @@ pub mod sheet;
 pub mod stored;
 pub mod tangled;
 pub mod text;
+pub mod walk;
+mod walk_lines;
 mod words;
 
 /// The number of a refusal, as document 01 counts them.
@@ -70,7 +74,7 @@ pub mod refusal {
     pub const VIA: Refusal = 5;
     /// Two inner segments cross.
     pub const CROSSING: Refusal = 6;
-    /// There is no such line or mark.
+    /// There is no such line or mark, or there are no such two levels.
     pub const NO_SUCH: Refusal = 7;
     /// What was handed to place-run is not a run.
     pub const RUN: Refusal = 8;

@@ -29,6 +29,8 @@ reference scripts COUNT SEED tangled
                                  the same with tangled loads, and pokes of what a sheet remembers
 reference scripts COUNT SEED text
                                  the same with lines of the text besides
+reference scripts COUNT SEED walk
+                                 the same with walks along a level besides
 reference answers DIR START      compares the answers to every NAME.script whose name starts so with NAME.answers
 KIND: small medium wide deep vias max tangled crossed crossed-max damaged
 ";
@@ -72,6 +74,7 @@ fn run(words: &[&str]) -> io::Result<bool> {
             print(scripts::tangled_scripts(number(count)?, number(seed)?).as_bytes())
         }
         ["scripts", count, seed, "text"] => print(scripts::text_scripts(number(count)?, number(seed)?).as_bytes()),
+        ["scripts", count, seed, "walk"] => print(scripts::walk_scripts(number(count)?, number(seed)?).as_bytes()),
         ["answers", folder, start] => answers(Path::new(folder), start),
         _ => Err(wrong(USAGE)),
     }

@@ -6,7 +6,7 @@
 use std::iter;
 use std::ops::{Range, RangeInclusive};
 
-use crate::{refusal, Refusal};
+use crate::{refusal, walk, Refusal};
 
 /// A box or a via.
 #[derive(Clone, Copy, Debug, PartialEq, Eq)]
@@ -124,7 +124,8 @@ impl Plan {
         Ok(plan)
     }
 
-    /// The same without check 6: inner segments may cross, so this is to be rearranged, see [`crate::tangled`].
+    /// The same without check 6: inner segments may cross. It is to be rearranged, see [`crate::tangled`], or walked along,
+    /// see [`crate::walk`].
     pub(crate) fn up_to_check_5(draft: Draft) -> Result<Plan, Refusal> {
         check_sayable(&draft)?;
         check_limits(&draft)?;
@@ -147,14 +148,9 @@ impl Plan {
         vias.all(threaded).then_some(()).ok_or(refusal::VIA)
     }
 
-    /// Check 6, one walk along each level: the lower ends of its inner segments, from left to right, must rise too.
-    /// After check 5 inner segments between two levels share no end, so a crossing is a descent.
+    /// Check 6, level after level from the top, up to the first descent.
     fn check_crossings(&self) -> Result<(), Refusal> {
-        let falls = |l| {
-            let lower_ends = self.level(l).filter_map(|v| self.joined_via(v, Side::Below));
-            !lower_ends.is_sorted()
-        };
-        if (0..self.levels()).any(falls) {
+        if (0..self.levels()).any(|level| walk::walk(self, level).is_crossed) {
             return Err(refusal::CROSSING);
         }
         Ok(())

@@ -10,6 +10,7 @@
 //! text S n [BUF], texts S      the same of the plan text as it was read
 //! mark S n                     ok box X Y HALF-WIDTH, ok bend X Y, ok line X Y X Y; X with one decimal
 //! marks S                      mark 0, mark 1, .. up to and with the refusal
+//! walk l TEXT                  ok clear N, ok crossed N: the walk along level l of the text, and how many it took
 //! placerun ..                  ok and the positions
 //! poke S ..                    ok
 //! ```
@@ -19,6 +20,7 @@
 
 use crate::marks::Mark;
 use crate::sheet::{Sheet, MAX_LINE};
+use crate::walk::{self, Walk};
 use crate::words::{number, unescaped};
 use crate::{poke, refusal, run_line, Refusal};
 
@@ -57,6 +59,9 @@ impl Script {
         if let Some(rest) = line.strip_prefix(b"load ") {
             return self.load(rest).map(|answer| vec![answer]);
         }
+        if let Some(rest) = line.strip_prefix(b"walk ") {
+            return walked(rest).map(|answer| vec![answer]);
+        }
         let words: Vec<&str> = std::str::from_utf8(line).ok()?.split(' ').collect();
         match words[..] {
             ["placerun", ref words @ ..] => {
@@ -84,6 +89,14 @@ impl Script {
     fn sheet(&mut self, number: &str) -> Option<&mut Sheet> {
         (number == "1").then_some(&mut self.sheet)
     }
+}
+
+/// `l TEXT`, after the word walk.
+fn walked(rest: &[u8]) -> Option<String> {
+    let mut parts = rest.splitn(2, |&byte| byte == b' ');
+    let level = number(std::str::from_utf8(parts.next()?).ok()?)?;
+    let text = unescaped(parts.next()?)?;
+    Some(said(walk::of_text(&text, level).map(walk_said)))
 }
 
 /// Does what a command on a sheet says: its name, and the words after the sheet's number.
@@ -157,6 +170,10 @@ fn mark_said(mark: Mark) -> String {
         Mark::Bend(p) => format!("bend {:.1} {:.0}", p.x, p.y),
         Mark::Line(p, q) => format!("line {:.1} {:.0} {:.1} {:.0}", p.x, p.y, q.x, q.y),
     }
+}
+
+fn walk_said(Walk { is_crossed, taken }: Walk) -> String {
+    format!("{} {taken}", if is_crossed { "crossed" } else { "clear" })
 }
 
 fn spaced(numbers: &[i64]) -> String {

@@ -1,17 +1,17 @@
 //! Random scripts, the same for the same seed.
 //!
 //! A script is answered while it is made, so that its commands know how many lines, marks and entries there are to ask for
-//! or to alter. Scripts come with the commands of no request, of E1 (tangled loads, and pokes of what a sheet remembers) or of
-//! E1 and E2 (also lines of the text as it was read).
+//! or to alter. Scripts come with the commands of no request, of E1 (tangled loads, and pokes of what a sheet remembers), of
+//! E1 and E2 (also lines of the text as it was read) or of E1 to E3 (also walks along a level).
 
 use crate::generate::generate;
 use crate::pokes::{self, Damage};
 use crate::random::Random;
 use crate::requests::Request;
-use crate::run_line;
 use crate::script::Script;
 use crate::sheet::Stage;
 use crate::words::escaped;
+use crate::{cables, run_line, text, walk_lines};
 
 /// Most bytes in the line of a load.
 const MOST_IN_LOAD: usize = 200_000;
@@ -97,22 +97,22 @@ const EDGES: [&str; 10] = [
     "poke 1 stage loaded 18446744073709551615 18446744073709551615",
 ];
 
-/// Commands of later requests, as long as they have not landed no commands either.
-const LATER: [&str; 14] = [
-    "draw 2",
-    "mark 1 1 0",
-    "marks 1 1",
-    "load 1 generous (plan 1 1 1)\\n(level (box 1))\\n(end)\\n",
-    "walk 1 (plan 1 1 1)\\n(level (box 1))\\n(end)\\n",
-    "placerun r=1 old=0 counts=1 nbrs=3 dist= ratings=1",
-    "poke 1 slope none",
-    "poke 1 seg 0 0 1 1",
-    "tidy 1 0",
-    "hide 1 1 1",
-    "exchange 1 0",
-    "preview 1 0 0",
-    "taps 1 0 0,0",
-    "total",
+/// Commands of later requests, each with the number of its request; until that has landed they are no commands either.
+const LATER: [(u32, &str); 14] = [
+    (13, "draw 2"),
+    (9, "mark 1 1 0"),
+    (9, "marks 1 1"),
+    (8, "load 1 generous (plan 1 1 1)\\n(level (box 1))\\n(end)\\n"),
+    (3, "walk 1 (plan 1 1 1)\\n(level (box 1))\\n(end)\\n"),
+    (5, "placerun r=1 old=0 counts=1 nbrs=3 dist= ratings=1"),
+    (6, "poke 1 slope none"),
+    (5, "poke 1 seg 0 0 1 1"),
+    (8, "tidy 1 0"),
+    (9, "hide 1 1 1"),
+    (10, "exchange 1 0"),
+    (10, "preview 1 0 0"),
+    (11, "taps 1 0 0,0"),
+    (13, "total"),
 ];
 
 /// So many scripts from a seed on, as one: each starts with a remark that has its seed, and a clear.
@@ -128,6 +128,11 @@ pub fn tangled_scripts(count: u64, seed: u64) -> String {
 /// The same with the commands of E1 and E2.
 pub fn text_scripts(count: u64, seed: u64) -> String {
     joined(count, seed, text_script)
+}
+
+/// The same with the commands of E1 to E3.
+pub fn walk_scripts(count: u64, seed: u64) -> String {
+    joined(count, seed, walk_script)
 }
 
 fn joined(count: u64, seed: u64, script: fn(u64) -> String) -> String {
@@ -148,6 +153,11 @@ pub fn tangled_script(seed: u64) -> String {
 /// The script of a seed, with the commands of E1 and E2.
 pub fn text_script(seed: u64) -> String {
     made(Random::new("text script", seed), 2)
+}
+
+/// The script of a seed, with the commands of E1 to E3.
+pub fn walk_script(seed: u64) -> String {
+    made(Random::new("walk script", seed), 3)
 }
 
 fn made(random: Random, requests: u32) -> String {
@@ -198,13 +208,14 @@ impl Maker {
             3..=5 => self.say("draw 1"),
             6 => self.say("stage 1"),
             7 | 8 if self.requests >= 2 => self.text_line(),
+            10 | 13 | 18 if self.requests >= 3 => self.walk(),
             7..=10 => self.line(),
             11..=13 => self.mark(),
             14 | 15 => self.ask(),
             16..=18 => self.place_run(),
             19 => self.say("clear 1"),
             20 => self.say_one_of(&UNKNOWN),
-            21 => self.say_one_of(&LATER),
+            21 => self.later(),
             22 => self.say_one_of(&EDGES),
             _ => self.say_one_of(&["", "# a remark", "#draw 1"]),
         }
@@ -215,11 +226,22 @@ impl Maker {
         self.say(line);
     }
 
+    /// A command of a request beyond those that the script has the commands of.
+    fn later(&mut self) {
+        let beyond = LATER.iter().filter(|(request, _)| *request > self.requests);
+        let lines: Vec<&str> = beyond.map(|&(_, line)| line).collect();
+        self.say_one_of(&lines);
+    }
+
     /// A text of any kind, drawn at once two times in three.
     fn load(&mut self) {
         let kinds = ["small", "small", "small", "medium", "vias", "vias", "tangled", "damaged", "damaged"];
         let large = ["wide", "deep", "max"];
-        if self.requests >= 1 && !self.random.once_in(3) {
+        if self.requests >= 3 && self.random.once_in(4) {
+            let way = self.random.pick(&["strict", "tangled"]);
+            let draft = cables::draft(&mut self.random, cables::FEW);
+            self.load_text(way, &text::write_form(&draft));
+        } else if self.requests >= 1 && !self.random.once_in(3) {
             let kinds = ["small", "vias", "tangled", "crossed", "crossed", "crossed", "damaged", "damaged"];
             self.load_one_of("tangled", &kinds, &["wide", "max", "crossed-max"]);
         } else {
@@ -233,7 +255,11 @@ impl Maker {
     fn load_one_of(&mut self, way: &str, kinds: &[&str], large: &[&str]) {
         let kind = if self.random.once_in(50) { self.random.pick(large) } else { self.random.pick(kinds) };
         let seed = self.random.next();
-        let line = format!("load 1 {way} {}", escaped(&generate(kind, seed).unwrap_or_default()));
+        self.load_text(way, &generate(kind, seed).unwrap_or_default());
+    }
+
+    fn load_text(&mut self, way: &str, text: &[u8]) {
+        let line = format!("load 1 {way} {}", escaped(text));
         if line.len() <= MOST_IN_LOAD {
             self.say(&line);
             self.repairs.clear();
@@ -280,6 +306,10 @@ impl Maker {
     fn mark(&mut self) {
         let n = self.number_below(self.run.sheet.marks().unwrap_or_default().len());
         self.say(&format!("mark 1 {n}"));
+    }
+
+    fn walk(&mut self) {
+        walk_lines::lines(&mut self.random).iter().for_each(|line| self.say(line));
     }
 
     /// A number that one of so many items has, or the next, or seldom any.
@@ -330,9 +360,13 @@ mod tests {
     use super::*;
     use crate::script;
 
+    /// How many requests there are the commands of.
+    const LANDED: u32 = 3;
+
     #[test]
     fn lines_that_are_no_commands() {
-        for line in UNKNOWN.iter().chain(&LATER) {
+        let later = LATER.iter().filter(|(request, _)| *request > LANDED).map(|(_, line)| line);
+        for line in UNKNOWN.iter().chain(later) {
             assert_eq!(Script::new().answers(line.as_bytes()), ["unknown"], "{line}");
         }
     }
@@ -386,6 +420,7 @@ mod tests {
         meet_every_answer(&scripts(300, 0), &numbers[..12]);
         meet_every_answer(&tangled_scripts(300, 0), &numbers[..12]);
         meet_every_answer(&text_scripts(300, 0), &numbers);
+        meet_every_answer(&walk_scripts(300, 0), &numbers);
     }
 
     fn meet_every_answer(script: &str, numbers: &[u32]) {
@@ -433,6 +468,20 @@ mod tests {
         let met = |start: &str| answers.iter().filter(|answer| answer.starts_with(start)).count();
         let counts = ["ok ", "refused 7", "refused 11", "refused 13", "refused 14", "refused 15", "unknown"].map(met);
         assert!(counts.iter().all(|&count| count > 10), "{counts:?}");
+        assert_eq!(counts.iter().sum::<usize>(), answers.len());
+    }
+
+    /// Without E3 there is one walk among the commands of later requests, of a plan with one level.
+    #[test]
+    fn walks_in_scripts() {
+        for without in [scripts(300, 0), tangled_scripts(300, 0), text_scripts(300, 0)] {
+            assert_eq!(answers_to("walk", &without).iter().find(|answer| *answer != "refused 7"), None);
+        }
+        let answers = answers_to("walk", &walk_scripts(300, 0));
+        let met = |start: &str| answers.iter().filter(|answer| answer.starts_with(start)).count();
+        let others = ["refused 1", "refused 2", "refused 3", "refused 4", "refused 5", "refused 7", "unknown"];
+        let counts = [["ok clear ", "ok crossed "].map(met).to_vec(), others.map(met).to_vec()].concat();
+        assert!(counts.iter().all(|&count| count > 5), "{counts:?}");
         assert_eq!(counts.iter().sum::<usize>(), answers.len());
     }
 

@@ -6,7 +6,7 @@
 //! which they stand once their own level is rearranged.
 
 use crate::plan::{Draft, Plan, Side};
-use crate::{refusal, text, Refusal};
+use crate::{text, Refusal};
 
 /// A plan that was loaded, and what is remembered of its text.
 #[derive(Clone, Debug, PartialEq, Eq)]
@@ -26,7 +26,7 @@ impl Loaded {
 
 /// Reads a plan text by the second way: checks 1 to 5 in their order, never 6.
 pub fn read(text: &[u8]) -> Result<Loaded, Refusal> {
-    let crossed = Plan::up_to_check_5(text::read_form(text).ok_or(refusal::FORM)?)?;
+    let crossed = text::read_up_to_check_5(text)?;
     let numbers = order(&crossed);
     let plan = Plan::new(renumbered(crossed.draft(), &numbers)).expect("a rearranged plan passes all checks");
     Ok(Loaded { plan, numbers })

@@ -22,6 +22,11 @@ pub fn read(text: &[u8]) -> Result<Plan, Refusal> {
     Plan::new(read_form(text).ok_or(refusal::FORM)?)
 }
 
+/// The same without check 6, see [`Plan::up_to_check_5`].
+pub(crate) fn read_up_to_check_5(text: &[u8]) -> Result<Plan, Refusal> {
+    Plan::up_to_check_5(read_form(text).ok_or(refusal::FORM)?)
+}
+
 /// What the text says, if it is in the text's form (check 1).
 pub fn read_form(text: &[u8]) -> Option<Draft> {
     if text.len() > MAX_BYTES {

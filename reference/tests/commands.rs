@@ -152,6 +152,8 @@ fn scripts_and_their_answers() {
     assert_eq!((code, String::from_utf8_lossy(&scripts)), (WELL, reference::scripts::scripts(3, 7).into()));
     let (code, tangled) = run(&["scripts", "3", "7", "tangled"], b"");
     assert_eq!((code, String::from_utf8_lossy(&tangled)), (WELL, reference::scripts::tangled_scripts(3, 7).into()));
+    let (code, walks) = run(&["scripts", "3", "7", "walk"], b"");
+    assert_eq!((code, String::from_utf8_lossy(&walks)), (WELL, reference::scripts::walk_scripts(3, 7).into()));
     let starts: Vec<&[u8]> =
         scripts.split(|&byte| byte == b'\n').filter(|line| line.starts_with(b"# script ")).collect();
     assert_eq!(starts, [b"# script 7", b"# script 8", b"# script 9"]);

@@ -14,7 +14,7 @@ fn scripts() -> Vec<PathBuf> {
 #[test]
 fn answers_are_those_of_the_vectors() {
     let scripts = scripts();
-    assert_eq!(scripts.len(), 82);
+    assert_eq!(scripts.len(), 109);
     for file in scripts {
         let expected = fs::read(file.with_extension("answers")).expect("answers");
         assert!(script::answers(&fs::read(&file).expect("a script")) == expected, "{}", file.display());
@@ -64,6 +64,8 @@ fn every_command() {
         ("text 1 1", "ok 16 (level (box 1))"),
         ("text 1 1 15", "refused 14"),
         ("texts 1", "ok 13 (plan 1 1 1)\nok 16 (level (box 1))\nok 6 (end)\nrefused 7"),
+        ("walk 1 (plan 2 1 1)\\n(level (box 1))\\n(level (box 1))\\n(end)\\n", "ok clear 0"),
+        ("walk 2 (plan 2 1 1)\\n(level (box 1))\\n(level (box 1))\\n(end)\\n", "refused 7"),
         ("clear 1", "ok"),
         ("texts 1", "refused 11"),
         ("stage 1", "ok empty"),
@@ -138,6 +140,43 @@ fn a_tangled_load_and_what_it_remembers() {
     ]);
 }
 
+/// A walk is about no sheet: what is loaded stays, and an empty sheet stays empty.
+#[test]
+fn walks_along_levels() {
+    let cables = |text: &str| {
+        let levels = "(level (box 1))\\n(level (via) (via))\\n(level (via) (via))\\n(level (box 1))\\n";
+        format!("(plan 4 1 5)\\n{levels}(seg 0 1)\\n(seg 0 2)\\n{text}(seg 3 5)\\n(seg 4 5)\\n(end)\\n")
+    };
+    let (straight, crossed) = (cables("(seg 1 3)\\n(seg 2 4)\\n"), cables("(seg 1 4)\\n(seg 2 3)\\n"));
+    answered(&[
+        (&format!("walk 1 {crossed}"), "ok clear 0"),
+        (&format!("walk 2 {crossed}"), "ok crossed 2"),
+        (&format!("walk 3 {crossed}"), "ok clear 0"),
+        (&format!("walk 2 {straight}"), "ok clear 2"),
+        (&format!("walk 0 {crossed}"), "refused 7"),
+        (&format!("walk 4 {crossed}"), "refused 7"),
+        (&format!("walk 18446744073709551615 {crossed}"), "refused 7"),
+        (&format!("walk 18446744073709551616 {crossed}"), "unknown"),
+        (&format!("walk 02 {crossed}"), "unknown"),
+        (&format!("walk -2 {crossed}"), "unknown"),
+        (&format!("walk 2  {crossed}"), "refused 1"),
+        (&format!("walk 0 {crossed}\\n"), "refused 1"),
+        (&format!("walk 0 {}", crossed.replace("(plan 4 1", "(plan 4 0")), "refused 2"),
+        (&format!("walk 0 {}", crossed.replace("(seg 4 5)", "(seg 4 4)")), "refused 3"),
+        (&format!("walk 0 {}", crossed.replace("(seg 4 5)", "(seg 3 5)")), "refused 4"),
+        (&format!("walk 0 {}", crossed.replace("(seg 4 5)\\n", "")), "refused 5"),
+        ("stage 1", "ok empty"),
+        (CASE_2, "ok"),
+        ("draw 1", "ok"),
+        (&format!("walk 2 {crossed}"), "ok crossed 2"),
+        ("walk 1 (end)\\n", "refused 1"),
+        ("stage 1", "ok drawn 1 0 2"),
+        ("line 1 1", "ok 13 (at 0 0 0 0)"),
+        (&format!("load 1 strict {crossed}"), "refused 6"),
+        (&format!("load 1 strict {straight}"), "ok"),
+    ]);
+}
+
 #[test]
 fn other_lines_change_nothing() {
     let lines = [
@@ -189,6 +228,12 @@ fn other_lines_change_nothing() {
         "poke 1 tangled 01",
         "poke 1 tangled 1 1",
         "text 1",
+        "walk",
+        "walk 1",
+        "walk 1.5 (plan 2 1 1)\\n(level (box 1))\\n(level (box 1))\\n(end)\\n",
+        "walk 1\\t(plan 2 1 1)\\n(level (box 1))\\n(level (box 1))\\n(end)\\n",
+        "walk 1 (plan 2 1 1)\\n(level (box 1))\\n(level (box 1))\\n(end)\\n\\q",
+        "walk (plan 2 1 1)\\n(level (box 1))\\n(level (box 1))\\n(end)\\n",
         "placerun r=1 old=0 counts=0 nbrs= dist= ratings=",
         "placerun r=1 old=0 old=0 counts=0 nbrs= dist=",
         "placerun r=1 old=0, counts=0 nbrs= dist=",
@@ -219,4 +264,6 @@ fn texts_hold_any_bytes() {
     let spelled = b"load 1 strict \\x28plan 1 1 1)\\x0a(level (box 1))\\x0A(end)\\n\n";
     assert_eq!(script::answers(spelled), b"ok\n");
     assert_eq!(script::answers(&[&b"load 1 strict "[..], &[b' '; 70_000]].concat()), b"refused 1\n");
+    assert_eq!(script::answers(b"walk 1 \xff\\x80\\x00 \t\nwalk 1 \n"), b"refused 1\nrefused 1\n");
+    assert_eq!(script::answers(b"walk \xff (end)\\n\nwalk 1\xff (end)\\n\n"), b"unknown\nunknown\n");
 }

@@ -45,6 +45,14 @@ module _ (xs : List ℕ) (i : ℕ) where
   unfolding sum
   sum-end h = rw (drop-of-length-le xs h)
 
+-- ---- the sum of the first k
+pub take-more : (ns : List ℕ) (k : ℕ) → sum (take (suc k) ns) ≡ sum (take k ns) + getD ns k 0
+unfolding sum
+take-more [] zero = refl
+take-more [] (suc k) = refl
+take-more (n ∷ ns) zero = omega arith
+take-more (n ∷ ns) (suc k) = omega (arith, take-more ns k)
+
 -- ---- lists one after another
 module _ {A : Type 0} where
   pub concat-append : (a b : List (List A)) → concat (a ++ b) ≡ concat a ++ concat b

@@ -24,6 +24,14 @@ unfoldable pub concat : {A : Type 0} → List (List A) → List A
 concat [] = []
 concat (l ∷ ls) = l ++ concat ls
 
+-- The members of a list that pass a test.
+unfoldable pub chosen : {A : Type 0} → (A → Bool) → List A → List A
+chosen t [] = []
+chosen t (x ∷ xs) =
+    let more = chosen t xs in
+    let here = x ∷ more in
+    cond (t x) here more
+
 -- How many members of a list pass a test, and how often v is one of them.
 unfoldable pub countIf : {A : Type 0} → (A → Bool) → List A → ℕ
 countIf t [] = 0

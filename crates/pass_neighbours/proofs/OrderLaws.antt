@@ -64,13 +64,6 @@ pub turn-down : (q k n : ℕ) → (q ≡ 2 → ⊥) → k ≡ turnOf q k n
 turn-down q k n e = rw (ne-eqb q 2 e)
 
 -- ---- where the levels start
-pub sum-more : (ns : List ℕ) (i : ℕ) → sum (take (suc i) ns) ≡ sum (take i ns) + getD ns i 0
-unfolding sum
-sum-more [] zero = refl
-sum-more [] (suc i) = refl
-sum-more (n ∷ ns) zero = omega arith
-sum-more (n ∷ ns) (suc i) = omega (arith, sum-more ns i)
-
 pub sum-front : (ns : List ℕ) (i : ℕ) → sum (take i ns) ≤ sum ns
 unfolding sum
 sum-front [] zero = omega arith

@@ -18,12 +18,12 @@ use Rattle.plan.specs.inner.Graph.{segment}
 use Rattle.ints.specs.inner.Members.{Mem}
 use Rattle.plan.proofs.Sound.{mem-above, mem-below, Joined as Segmented, sound as sound-plan}
 use Rattle.ints.proofs.Tests.{_and_}
+use Rattle.ints.proofs.Lists.{take-more}
 use Rattle.passes.specs.Ready.{preceding, firstVia, joinedVia}
 use Rattle.plan.specs.inner.Levels.{firstOn, sizeOn, On, HasLevel}
 use Rattle.plan.proofs.Levels.{level-on, has-level}
 use Rattle.passes.proofs.Sound.{sound, via-vertex}
 use Rattle.passes.proofs.Options.{never}
-use Rattle.passes.proofs.Tally.{take-more}
 use Rattle.pass_tables.proofs.RunEnds.{same-some}
 use Rattle.pass_tables.specs.inner.Moments.{Range}
 

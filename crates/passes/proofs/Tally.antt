@@ -5,9 +5,9 @@ use mathlib.Core.List.{List, [], _∷_, _++_, map, reverse, reverse-cons, List·
 use mathlib.Core.Option.{Option}
 use Prim.Native.Nat.{ℕ, zero, suc, _+_, _*_, _≤_}
 use native.Mathlib.Omega.{arith}
-use lib.ListN.{length, getD, take, length-append, length-map, length-reverse}
+use lib.ListN.{length, length-append, length-map, length-reverse}
 use Rattle.plan.specs.Plan.{PlanData, numbers}
-use Rattle.ints.specs.Lists.{sum}
+use Rattle.ints.proofs.Lists.{take-more}
 use Rattle.passes.specs.Runs.{Run, runsOn, runsOfLevels, runsOf}
 use Rattle.plan.proofs.All.{All, all-nil, all-cons}
 use Rattle.plan.proofs.Levels.{length-numbers, first-suc, size-suc, level-within}
@@ -30,13 +30,6 @@ sum-reverse : (f : ℕ → ℕ) (ls : List ℕ) → sumOver f (reverse ls) ≡ s
 unfolding sumOver
 sum-reverse f [] = refl
 sum-reverse f (l ∷ ls) = ap (sumOver f) (reverse-cons l ls) ∙ omega (arith, sum-append f (reverse ls) (l ∷ []), sum-reverse f ls)
-
-pub take-more : (ns : List ℕ) (k : ℕ) → sum (take (suc k) ns) ≡ sum (take k ns) + getD ns k 0
-unfolding sum
-take-more [] zero = refl
-take-more [] (suc k) = refl
-take-more (n ∷ ns) zero = omega arith
-take-more (n ∷ ns) (suc k) = omega (arith, take-more ns k)
 
 next-first : (p : PlanData) (k : ℕ) → firstOn p (suc (suc k)) ≡ firstOn p (suc k) + sizeOn p (suc k)
 next-first p k = omega (arith, first-suc p (suc k), first-suc p k, size-suc p k, take-more (p .sizes) k)

@@ -1,31 +1,29 @@
--- Check 6 by one walk: where checks 3 and 4 hold, two inner segments cross exactly if the lower end of some inner segment is
--- less than that of the inner segment before it. Segments are sorted by upper end, so of two that cross the one with the
--- upper end on the left comes first. And each goes one level down, so lower ends that fall are on one level. Assumes nothing.
-use Prim.Native.Nat.{ℕ, _+_, _-_, _<_, _≤_}
-use mathlib.Core.Path.{_≡_, refl, sym}
+-- Check 6 by walks: where check 4 holds, two inner segments cross exactly if the walk of some level comes to a descent. Segments are
+-- sorted by upper end, so of two that cross the one with the upper end on the left comes first, and both stand in the walk of
+-- one level. Assumes nothing.
+use Prim.Native.Nat.{ℕ, _+_, _<_, _≤_}
+use mathlib.Core.Path.{_≡_, refl, sym, _∙_, ap}
 use mathlib.Core.Bool.{Bool, true, false, cond, not, _&&_}
 use mathlib.Core.List.{List, [], _∷_}
 use native.Mathlib.Omega.{arith}
 use borrow.Author.Tests.{lt-ltb, le-ltb, eq-eqb, ltb-true, eqb-true}
 use lib.Dec.{ltb, eqb}
+use Rattle.ints.specs.Lists.{chosen}
 use Rattle.ints.proofs.Laws.{cases, if-ind}
-use Rattle.plan.specs.Plan.{PlanData, vertexCount, levelIn, levelOf}
+use Rattle.ints.proofs.Tests.{test, and-left, and-right, cond-left, cond-right}
+use Rattle.plan.specs.Plan.{PlanData, levelOf}
 use Rattle.plan.specs.Segments.{Segment, segmentsOf, isInner, innerIn, innerSegments}
-use Rattle.plan.specs.Checks.{any, goesOneDown, check3, comesBefore, rising, check4, crosses, check6}
-use Rattle.plan.specs.inner.Graph.{lowersRise}
-use Rattle.plan.proofs.LevelLaws.{level-low}
-use Rattle.plan.proofs.All.{All, all-nil, all-cons, all-map, every-all}
-use Rattle.ints.proofs.Tests.{and-left, and-right, cond-left, cond-right}
+use Rattle.plan.specs.Checks.{any, comesBefore, rising, check4, crosses, check6}
+use Rattle.plan.specs.Walk.{innerBelow, walkFrom, walk}
+use Rattle.plan.proofs.All.{All, all-nil, all-cons, all-map, all-tail, no-true}
 
 -- ---- Bool
-not-same : (x y : Bool) → (x ≡ false → y ≡ true) → (y ≡ true → x ≡ false) → not x ≡ y
-not-same true true f g = sym (g refl)
-not-same true false f g = refl
-not-same false true f g = refl
-not-same false false f g = sym (f refl)
+not-true : (b : Bool) → not b ≡ true → b ≡ false
+not-true true e = no-true e
+not-true false e = refl
 
 -- ---- what holds of every member, and of every two in their order
-data Pairs {A : Type 0} (R : A → A → Type 0) : List A → Type 0 where
+pub data Pairs {A : Type 0} (R : A → A → Type 0) : List A → Type 0 where
   pairs-none : Pairs R []
   pairs-more : {x : A} {xs : List A} → All (R x) xs → Pairs R xs → Pairs R (x ∷ xs)
 
@@ -42,10 +40,14 @@ some-none t (x ∷ xs) e = go (t x) refl e (some-none t xs)
     go true q h more = let z : _≡_ {A = ℕ} 0 1 = cc in absurd (omega arith)
     go false q h more = all-cons q (more h)
 
-none-some : {A : Type 0} (t : A → Bool) {xs : List A} → All (λ x. t x ≡ false) xs → any t xs ≡ false
+pub none-some : {A : Type 0} (t : A → Bool) {xs : List A} → All (λ x. t x ≡ false) xs → any t xs ≡ false
 unfolding any
 none-some t all-nil = refl
 none-some t (all-cons h k) = rw (h, none-some t k)
+
+pairs-with : {A : Type 0} {P : A → Type 0} {R : A → A → Type 0} {xs : List A} → All P xs → Pairs R xs → Pairs (λ x y. (P x × P y) × R x y) xs
+pairs-with all-nil pairs-none = pairs-none
+pairs-with (all-cons p ps) (pairs-more r rs) = pairs-more (all-map (λ y w. ((p, w .0), w .1)) (all-both ps r)) (pairs-with ps rs)
 
 -- what holds both ways of every two, and of each with itself, holds of any two
 any-two : {A : Type 0} {R : A → A → Type 0} {xs : List A} → ((x : A) → R x x) → Pairs (λ x y. R x y × R y x) xs → All (λ x. All (R x) xs) xs
@@ -55,9 +57,6 @@ any-two r (pairs-more {x} h k) = all-cons
     (all-map (λ y w. all-cons (w .0 .1) (w .1)) (all-both h (any-two r k)))
 
 -- and what holds of any two holds of every two in their order
-all-tail : {A : Type 0} {P : A → Type 0} {x : A} {xs : List A} → All P (x ∷ xs) → All P xs
-all-tail (all-cons h k) = k
-
 in-order : {A : Type 0} {R : A → A → Type 0} (xs : List A) → All (λ x. All (R x) xs) xs → Pairs R xs
 in-order [] all-nil = pairs-none
 in-order (x ∷ xs) (all-cons h m) = pairs-more (all-tail h) (in-order xs (all-map (λ y w. all-tail w) m))
@@ -71,9 +70,9 @@ pairs-both pairs-none pairs-none = pairs-none
 pairs-both (pairs-more h k) (pairs-more h' k') = pairs-more (all-both h h') (pairs-both k k')
 
 -- ---- segments in order
-record Before (s t : Segment) : Type 0 where
-  le : s .upper ≤ t .upper
-  lt : s .upper ≡ t .upper → s .lower < t .lower
+pub record Before (s t : Segment) : Type 0 where
+  pub le : s .upper ≤ t .upper
+  pub lt : s .upper ≡ t .upper → s .lower < t .lower
 
 before-of : (s t : Segment) → comesBefore s t ≡ true → Before s t
 before-of s t e = cases (t .upper) (s .upper)
@@ -89,7 +88,7 @@ before-trans a b = record { le = omega arith; lt = λ q. omega (arith, a .lt (om
 pairs-head : {A : Type 0} {R : A → A → Type 0} {x : A} {xs : List A} → Pairs R (x ∷ xs) → All (R x) xs
 pairs-head (pairs-more h k) = h
 
-sorted : (ss : List Segment) → rising ss ≡ true → Pairs Before ss
+pub sorted : (ss : List Segment) → rising ss ≡ true → Pairs Before ss
 unfolding rising
 sorted [] e = pairs-none
 sorted (s ∷ []) e = pairs-more all-nil pairs-none
@@ -98,54 +97,89 @@ sorted (s ∷ t ∷ ss) e =
     let more = sorted (t ∷ ss) (cond-right (comesBefore s t) (rising (t ∷ ss)) e) in
     pairs-more (all-cons b (all-map (λ u h. before-trans b h) (pairs-head more))) more
 
--- ---- of the inner segments holds what holds of all
-module _ (p : PlanData) where
-  inner-all : {P : Segment → Type 0} {ss : List Segment} → All P ss → All P (innerIn p ss)
-  unfolding innerIn
-  inner-all all-nil = all-nil
-  inner-all {P} (all-cons {x = s} {xs = ss} h k) =
-      if-ind (isInner p s) (s ∷ innerIn p ss) (innerIn p ss) (λ l. All P l) (λ e. all-cons h (inner-all k)) (λ e. inner-all k)
+-- ---- of the members that pass a test holds what holds of all
+module _ {A : Type 0} (t : A → Bool) where
+  pub chosen-all : {P : A → Type 0} {xs : List A} → All P xs → All P (chosen t xs)
+  unfolding chosen
+  chosen-all all-nil = all-nil
+  chosen-all {P} (all-cons {x = x} {xs = xs} h k) =
+      if-ind (t x) (x ∷ chosen t xs) (chosen t xs) (λ l. All P l) (λ e. all-cons h (chosen-all k)) (λ e. chosen-all k)
 
-  inner-pairs : {R : Segment → Segment → Type 0} {ss : List Segment} → Pairs R ss → Pairs R (innerIn p ss)
-  unfolding innerIn
-  inner-pairs pairs-none = pairs-none
-  inner-pairs {R} (pairs-more {x = s} {xs = ss} h k) =
-      if-ind (isInner p s) (s ∷ innerIn p ss) (innerIn p ss) (λ l. Pairs R l) (λ e. pairs-more (inner-all h) (inner-pairs k)) (λ e. inner-pairs k)
+  chosen-pairs : {R : A → A → Type 0} {xs : List A} → Pairs R xs → Pairs R (chosen t xs)
+  unfolding chosen
+  chosen-pairs pairs-none = pairs-none
+  chosen-pairs {R} (pairs-more {x = x} {xs = xs} h k) =
+      if-ind (t x) (x ∷ chosen t xs) (chosen t xs) (λ l. Pairs R l) (λ e. pairs-more (chosen-all h) (chosen-pairs k)) (λ e. chosen-pairs k)
 
--- ---- levels
-pub level-rises : (ns : List ℕ) (v w : ℕ) → v ≤ w → levelIn ns v ≤ levelIn ns w
-unfolding levelIn
-level-rises [] v w h = omega arith
-level-rises (n ∷ ns) v w h = cases n v
-    (λ k. rw (le-ltb v n k, le-ltb w n (omega arith)) (omega (arith, level-rises ns (v - n) (w - n) (omega arith))))
-    (λ k. rw (lt-ltb v n k) (level-low (n ∷ ns) w))
+  chosen-same : (xs : List A) → All (λ x. t x ≡ true) (chosen t xs)
+  unfolding chosen
+  chosen-same [] = all-nil
+  chosen-same (x ∷ xs) = if-ind (t x) (x ∷ chosen t xs) (chosen t xs) (All (λ y. t y ≡ true)) (λ e. all-cons e (chosen-same xs)) (λ e. chosen-same xs)
+
+  -- and what holds of these holds of all that pass
+  all-chosen : {P : A → Type 0} (xs : List A) → All P (chosen t xs) → All (λ x. t x ≡ true → P x) xs
+  unfolding chosen
+  all-chosen [] h = all-nil
+  all-chosen {P} (x ∷ xs) h = go (t x) refl h (all-chosen xs)
+    where
+      go : (b : Bool) → t x ≡ b → All P (cond b (x ∷ chosen t xs) (chosen t xs)) → (All P (chosen t xs) → All (λ y. t y ≡ true → P y) xs)
+          → All (λ y. t y ≡ true → P y) (x ∷ xs)
+      go true q (all-cons k ks) more = all-cons (λ e. k) (more ks)
+      go false q ks more = all-cons (λ e. no-true (sym q ∙ e)) (more ks)
+
+  tail-pairs : {R : A → A → Type 0} (x : A) (xs : List A) → Pairs R (chosen t (x ∷ xs)) → Pairs R (chosen t xs)
+  unfolding chosen
+  tail-pairs {R} x xs h = go (t x) h
+    where
+      go : (b : Bool) → Pairs R (cond b (x ∷ chosen t xs) (chosen t xs)) → Pairs R (chosen t xs)
+      go true (pairs-more k ks) = ks
+      go false ks = ks
+
+-- what holds of every two of each group, in their order, holds of every two of one group
+pairs-each : {A : Type 0} {R : A → A → Type 0} (group : A → ℕ) (xs : List A) → ((l : ℕ) → Pairs R (chosen (λ x. eqb (group x) l) xs))
+    → Pairs (λ x y. group y ≡ group x → R x y) xs
+unfolding chosen
+pairs-each group [] h = pairs-none
+pairs-each {A} {R} group (x ∷ xs) h =
+    let same : A → Bool = λ y. eqb (group y) (group x) in
+    let here = h (group x) in
+    let first : Pairs R (x ∷ chosen same xs) = rw (eq-eqb (group x) (group x) refl) at here in
+    pairs-more
+    (all-map (λ y k e. k (eq-eqb (group y) (group x) e)) (all-chosen same xs (pairs-head first)))
+    (pairs-each group xs (λ l. tail-pairs (λ y. eqb (group y) l) x xs (h l)))
+
+pub inner-chosen : (p : PlanData) (ss : List Segment) → innerIn p ss ≡ chosen (isInner p) ss
+unfolding innerIn chosen
+inner-chosen p [] = refl
+inner-chosen p (s ∷ ss) = rw (inner-chosen p ss)
 
 -- ---- two segments that cross, of two in order
+cond-false : (c : Bool) → cond c false false ≡ false
+cond-false true = refl
+cond-false false = refl
+
 module _ (p : PlanData) where
-  OneDown : Segment → Type 0
-  OneDown s = levelOf p (s .lower) ≡ levelOf p (s .upper) + 1
+  abbrev level : Segment → ℕ
+  level s = levelOf p (s .upper)
 
-  down-of : (s : Segment) → goesOneDown p s ≡ true → OneDown s
-  unfolding OneDown
-  down-of s e =
-      let one = eqb (levelOf p (s .lower)) (levelOf p (s .upper) + 1) in
-      eqb-true (levelOf p (s .lower)) (levelOf p (s .upper) + 1) (and-right (ltb (s .upper) (vertexCount p) && ltb (s .lower) (vertexCount p)) one e)
-
-  fall-crosses : (s t : Segment) → Before s t → OneDown s → OneDown t → t .lower < s .lower → crosses p s t ≡ true
-  unfolding crosses OneDown levelOf
-  fall-crosses s t b d e h =
+  fall-crosses : (s t : Segment) → Before s t → level s ≡ level t → t .lower < s .lower → crosses p s t ≡ true
+  unfolding crosses
+  fall-crosses s t b same h =
       let less : s .upper < t .upper = cases (t .upper) (s .upper) (λ k. absurd (omega (arith, b .lt (omega arith)))) (λ k. k) in
-      let ns = p .sizes in
-      let same : levelIn ns (s .upper) ≡ levelIn ns (t .upper) =
-      omega (arith, level-rises ns (s .upper) (t .upper) (omega arith), level-rises ns (t .lower) (s .lower) (omega arith)) in
-      rw (lt-ltb (s .upper) (t .upper) less, lt-ltb (t .lower) (s .lower) h, eq-eqb (levelIn ns (s .upper)) (levelIn ns (t .upper)) same)
+      rw (lt-ltb (s .upper) (t .upper) less, lt-ltb (t .lower) (s .lower) h, eq-eqb (level s) (level t) same)
 
-  rise-apart : (s t : Segment) → Before s t → s .lower ≤ t .lower → (crosses p s t ≡ false) × (crosses p t s ≡ false)
+  no-fall : (s t : Segment) → Before s t → crosses p s t ≡ false → level t ≡ level s → s .lower ≤ t .lower
+  no-fall s t b c e = cases (s .lower) (t .lower) (λ k. k) (λ k. no-true (sym c ∙ fall-crosses s t b (sym e) k))
+
+  rise-apart : (s t : Segment) → Before s t → (level t ≡ level s → s .lower ≤ t .lower) → (crosses p s t ≡ false) × (crosses p t s ≡ false)
   unfolding crosses
   rise-apart s t b h = (
-    cases (t .upper) (s .upper)
+    test (eqb (level s) (level t))
+        (λ e. let up = h (sym (eqb-true (level s) (level t) e)) in
+        cases (t .upper) (s .upper)
         (λ k. rw (le-ltb (s .upper) (t .upper) k))
-        (λ k. rw (lt-ltb (s .upper) (t .upper) k, le-ltb (t .lower) (s .lower) h)),
+        (λ k. rw (lt-ltb (s .upper) (t .upper) k, le-ltb (t .lower) (s .lower) up)))
+        (λ e. rw e (cond-false (ltb (s .upper) (t .upper) && ltb (t .lower) (s .lower)))),
     rw (le-ltb (t .upper) (s .upper) (b .le)),
   )
 
@@ -153,44 +187,43 @@ module _ (p : PlanData) where
   unfolding crosses
   self-apart s = rw (le-ltb (s .upper) (s .upper) (omega arith))
 
-  -- ---- lower ends that rise
-  risen : (last : ℕ) (ss : List Segment) → lowersRise last ss ≡ true → All (λ t. last ≤ t .lower) ss × Pairs (λ s t. s .lower ≤ t .lower) ss
-  unfolding lowersRise
-  risen last [] e = (all-nil, pairs-none)
-  risen last (s ∷ ss) e = cases last (s .lower)
-      (λ h. let more = risen (s .lower) ss (rw (le-ltb (s .lower) last h) at e) in
+  -- ---- a walk that comes to no descent
+  risen : (n last : ℕ) (ss : List Segment) → walkFrom n last ss .crossed ≡ false → All (λ t. last ≤ t .lower) ss × Pairs (λ s t. s .lower ≤ t .lower) ss
+  unfolding walkFrom
+  risen n last [] e = (all-nil, pairs-none)
+  risen n last (s ∷ ss) e = cases last (s .lower)
+      (λ h. let more = risen (n + 1) (s .lower) ss (rw (le-ltb (s .lower) last h) at e) in
       (all-cons h (all-map (λ t k. omega arith) (more .0)), pairs-more (more .0) (more .1)))
-      (λ h. let e' = rw (lt-ltb (s .lower) last h) at e in let z : _≡_ {A = ℕ} 0 1 = cc in absurd (omega arith))
+      (λ h. no-true (sym (rw (lt-ltb (s .lower) last h) at e)))
 
-  apart-all : (ss : List Segment) → Pairs Before ss → lowersRise 0 ss ≡ true → any (λ s. any (crosses p s) ss) ss ≡ false
-  apart-all ss b e =
-      let up = risen 0 ss e in
-      let two = any-two {R = λ s t. crosses p s t ≡ false} self-apart (pairs-map (λ s t w. rise-apart s t (w .0) (w .1)) (pairs-both b (up .1))) in
-      none-some (λ s. any (crosses p s) ss) (all-map (λ s h. none-some (crosses p s) h) two)
+  rises : (n last : ℕ) (ss : List Segment) → Pairs (λ s t. s .lower ≤ t .lower) ss → All (λ t. last ≤ t .lower) ss → walkFrom n last ss .crossed ≡ false
+  unfolding walkFrom
+  rises n last [] up h = refl
+  rises n last (s ∷ ss) (pairs-more up ups) (all-cons h hs) = rw (le-ltb (s .lower) last h) (rises (n + 1) (s .lower) ss ups up)
 
-  no-fall : (s t : Segment) → Before s t → OneDown s → OneDown t → crosses p s t ≡ false → s .lower ≤ t .lower
-  no-fall s t b d e c = cases (s .lower) (t .lower)
-      (λ k. k)
-      (λ k. let f = fall-crosses s t b d e k in let z : _≡_ {A = ℕ} 0 1 = cc in absurd (omega arith))
+  -- ---- both ways
+  inner-sorted : check4 p ≡ true → Pairs Before (innerSegments p)
+  unfolding check4 innerSegments
+  inner-sorted c4 = rw inner-chosen (chosen-pairs (isInner p) (sorted (segmentsOf p) c4))
 
-  rises : (last : ℕ) (ss : List Segment) → Pairs Before ss → All OneDown ss → Pairs (λ s t. crosses p s t ≡ false) ss → All (λ t. last ≤ t .lower) ss → lowersRise last ss ≡ true
-  unfolding lowersRise
-  rises last [] b d c h = refl
-  rises last (s ∷ ss) (pairs-more b bs) (all-cons d ds) (pairs-more c cs) (all-cons h hs) =
-      let up = all-map (λ t w. no-fall s t (w .0 .0) d (w .1) (w .0 .1)) (all-both (all-both b c) ds) in
-      rw (le-ltb (s .lower) last h) (rises (s .lower) ss bs ds cs up)
+  pub walks-clear : check4 p ≡ true → check6 p ≡ true → (l : ℕ) → walk p l .crossed ≡ false
+  unfolding check6 walk innerBelow
+  walks-clear c4 c6 l =
+      let inner = innerSegments p in
+      let on : Segment → Bool = λ s. eqb (level s) l in
+      let two = all-map (λ s h. some-none (crosses p s) inner h) (some-none (λ s. any (crosses p s) inner) inner (not-true (any (λ s. any (crosses p s) inner) inner) c6)) in
+      let up = pairs-map (λ s t w. no-fall s t (w .0) (w .1)) (pairs-both (inner-sorted c4) (in-order inner two)) in
+      let same = chosen-same on inner in
+      let ups = pairs-with same (chosen-pairs on up) in
+      rises 0 0 (chosen on inner)
+      (pairs-map (λ s t w. w .1 (eqb-true (level t) l (w .0 .1) ∙ sym (eqb-true (level s) l (w .0 .0)))) ups)
+      (all-map (λ s h. omega arith) same)
 
-  rise-all : (ss : List Segment) → Pairs Before ss → All OneDown ss → any (λ s. any (crosses p s) ss) ss ≡ false → lowersRise 0 ss ≡ true
-  rise-all ss b d e =
-      let two = all-map (λ s h. some-none (crosses p s) ss h) (some-none (λ s. any (crosses p s) ss) ss e) in
-      rises 0 ss b d (in-order ss two) (all-map (λ t k. omega arith) d)
-
-  -- ---- the theorem
-  pub check6-by-walk : check3 p ≡ true → check4 p ≡ true → check6 p ≡ lowersRise 0 (innerSegments p)
-  unfolding check3 check4 check6 innerSegments
-  check6-by-walk c3 c4 =
-      let ss = segmentsOf p in
-      let b = inner-pairs p (sorted ss c4) in
-      let d = inner-all p (all-map down-of (every-all (goesOneDown p) ss c3)) in
-      let inner = innerIn p ss in
-      not-same (any (λ s. any (crosses p s) inner) inner) (lowersRise 0 inner) (rise-all inner b d) (apart-all inner b)
+  pub clear-passes : check4 p ≡ true → ((l : ℕ) → walk p l .crossed ≡ false) → check6 p ≡ true
+  unfolding check6 walk innerBelow
+  clear-passes c4 h =
+      let inner = innerSegments p in
+      let up = pairs-each {R = λ s t. s .lower ≤ t .lower} level inner (λ l. risen 0 0 (chosen (λ s. eqb (level s) l) inner) (h l) .1) in
+      let apart = pairs-map (λ s t w. rise-apart s t (w .0) (w .1)) (pairs-both (inner-sorted c4) up) in
+      let two = any-two {R = λ s t. crosses p s t ≡ false} self-apart apart in
+      ap not (none-some (λ s. any (crosses p s) inner) (all-map (λ s k. none-some (crosses p s) k) two))

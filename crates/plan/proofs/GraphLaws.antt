@@ -8,10 +8,12 @@ use native.Mathlib.Omega.{arith}
 use borrow.Author.Tests.{ltb-true, not-false}
 use lib.Dec.{ltb, eqb}
 use lib.ListN.{length, getD}
+use Rattle.ints.specs.Lists.{chosen}
 use Rattle.ints.specs.Refusals.{Test, check, firstRefusal, noneRefuses}
 use Rattle.plan.specs.Plan.{PlanData, vertexCount, levelOf}
 use Rattle.plan.specs.Segments.{Segment, segmentsFrom, segmentsOf, innerIn, innerSegments}
 use Rattle.plan.specs.Checks.{every, any, goesOneDown, check3, check4, isThrough, check5, crosses, check6, checksOf}
+use Rattle.plan.specs.Walk.{innerBelow, walkFrom, walk}
 use Rattle.plan.specs.inner.Graph.{graphOf, segment, Within, InLimits}
 use Rattle.ints.proofs.Refusals.{none-at, two-pass, two-none, refusal-early, refusal-late}
 use Rattle.ints.proofs.Tests.{and-left, and-right, cond-left, cond-right}
@@ -113,3 +115,7 @@ module _ (p : PlanData) where
   pub same-checks : checksOf p ≡ checksOf (graph p)
   unfolding checksOf
   same-checks = rw (same-3, same-4, same-5, same-6)
+
+  pub same-walk : (l : ℕ) → walk p l ≡ walk (graph p) l
+  unfolding walk innerBelow innerSegments segmentsOf levelOf
+  same-walk l = ap (λ (inner : List Segment). walkFrom 0 0 (chosen (λ s. eqb (levelOf p (s .upper)) l) inner)) (same-inner (segmentsOf p))

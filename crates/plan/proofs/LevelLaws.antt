@@ -1,4 +1,4 @@
--- Laws of `numbers`, `filled` and `levelIn`, these as a walk over the levels meets them. Assumes nothing.
+-- Laws of `numbers`, `filled` and `levelIn`, these as a loop over the levels meets them. Assumes nothing.
 use Prim.Native.Nat.{ℕ, zero, suc, _+_, _-_, _<_, _≤_, min}
 use mathlib.Core.Path.{_≡_, refl, sym, _∙_, ap}
 use mathlib.Core.List.{List, [], _∷_, _++_}
@@ -7,7 +7,7 @@ use native.Mathlib.Omega.{arith}
 use native.Mathlib.Numerals.{add-one}
 use borrow.Author.Tests.{lt-ltb, le-ltb, ltb-false}
 use lib.Dec.{ltb}
-use lib.ListN.{length, getD, drop, set, length-set, drop-of-length-le}
+use lib.ListN.{length, getD, take, drop, set, length-set, drop-of-length-le}
 use lib.Seq.{drop-cons, getD-set-same, getD-set-other}
 use Rattle.ints.specs.Lists.{sum}
 use Rattle.ints.proofs.Laws.{if-ind, cases}
@@ -73,6 +73,26 @@ level-high [] v h = absurd (omega arith)
 level-high (n ∷ ns) v h = if-ind (ltb v n) 1 (suc (levelIn ns (v - n))) (λ l. l ≤ suc (length ns)) (λ t. omega arith)
     (λ t. let k = ltb-false v n t in let j = level-high ns (v - n) (omega arith) in omega arith)
 
+-- the vertices of level k + 1 are those from its first on, up to the next level's first
+pub level-between : (ns : List ℕ) (k v : ℕ) → k < length ns → levelIn ns v ≡ suc k → (sum (take k ns) ≤ v) × (v < sum (take k ns) + getD ns k 0)
+unfolding levelIn sum
+level-between [] k v h e = absurd (omega arith)
+level-between (n ∷ ns) zero v h e = cases n v
+    (λ m. let low = level-low ns (v - n) in let here = rw (le-ltb v n m) at e in absurd (omega arith))
+    (λ m. (omega arith, omega arith))
+level-between (n ∷ ns) (suc k) v h e = cases n v
+    (λ m. let here : suc (levelIn ns (v - n)) ≡ suc (suc k) = rw (le-ltb v n m) at e in
+    let more = level-between ns k (v - n) (omega arith) (omega arith) in
+    (omega (arith, more .0), omega (arith, more .1)))
+    (λ m. let here : 1 ≡ suc (suc k) = rw (lt-ltb v n m) at e in absurd (omega arith))
+
+pub level-rises : (ns : List ℕ) (v w : ℕ) → v ≤ w → levelIn ns v ≤ levelIn ns w
+unfolding levelIn
+level-rises [] v w h = omega arith
+level-rises (n ∷ ns) v w h = cases n v
+    (λ k. rw (le-ltb v n k, le-ltb w n (omega arith)) (omega (arith, level-rises ns (v - n) (w - n) (omega arith))))
+    (λ k. rw (lt-ltb v n k) (level-low (n ∷ ns) w))
+
 -- ---- levelIn, below the first i levels
 module _ (ns : List ℕ) (i v : ℕ) where
   pub level-past : length ns ≤ i → levelIn (drop i ns) v ≡ 1
@@ -87,25 +107,25 @@ module _ (ns : List ℕ) (i v : ℕ) where
   unfolding levelIn
   level-next h k = rw (add-one, drop-cons ns i 0 h, le-ltb v (getD ns i 0) k)
 
--- ---- a walk over the levels: i of them are written, up to vertex `from`
-pub record Walked (sizes level : List ℕ) (from i : ℕ) : Type 0 where
+-- ---- levels written one after another: i of them, up to vertex `from`
+pub record WrittenTo (sizes level : List ℕ) (from i : ℕ) : Type 0 where
   pub written : (v : ℕ) → v < from → getD level v 0 ≡ levelIn sizes v
   pub ahead : (v : ℕ) → from ≤ v → v < length level → levelIn sizes v ≡ i + levelIn (drop i sizes) (v - from)
 
-pub walk-start : (sizes level : List ℕ) → Walked sizes level 0 0
-walk-start sizes level =
+pub levels-start : (sizes level : List ℕ) → WrittenTo sizes level 0 0
+levels-start sizes level =
     record { written = λ v h. absurd (omega arith); ahead = λ v h k. let e : v - 0 ≡ v = omega arith in rw (e, zero-add) }
 
-module _ (sizes level : List ℕ) (from i : ℕ) (w : Walked sizes level from i) where
-  pub walk-end : length sizes ≤ i → (v : ℕ) → v < length level → getD (filled level from (length level - from) (i + 1)) v 0 ≡ levelIn sizes v
-  walk-end h v k = cases from v
+module _ (sizes level : List ℕ) (from i : ℕ) (w : WrittenTo sizes level from i) where
+  pub levels-end : length sizes ≤ i → (v : ℕ) → v < length level → getD (filled level from (length level - from) (i + 1)) v 0 ≡ levelIn sizes v
+  levels-end h v k = cases from v
       (λ m. filled-in level from (length level - from) (i + 1) v m (omega arith) k
       ∙ sym (w .ahead v m k ∙ ap (λ (n : ℕ). i + n) (level-past sizes i (v - from) h)))
       (λ m. filled-before level from (length level - from) (i + 1) v m ∙ w .written v m)
 
-  pub walk-on : (to : ℕ) → i < length sizes → to ≡ min (from + getD sizes i 0) (length level)
-      → Walked sizes (filled level from (to - from) (i + 1)) to (i + 1)
-  walk-on to h e = record {
+  pub levels-on : (to : ℕ) → i < length sizes → to ≡ min (from + getD sizes i 0) (length level)
+      → WrittenTo sizes (filled level from (to - from) (i + 1)) to (i + 1)
+  levels-on to h e = record {
     written = λ v k. cases from v
         (λ m. filled-in level from (to - from) (i + 1) v m (omega arith) (omega arith)
         ∙ sym (w .ahead v m (omega arith) ∙ ap (λ (n : ℕ). i + n) (level-here sizes i (v - from) h (omega arith))))

@@ -61,7 +61,7 @@ level-within p l = part-le (p .sizes) (l - 1)
 
 -- ---- vertex v stands on level l
 
-level-in : (ns : List ℕ) (k v : ℕ) → sum (take k ns) ≤ v → v < sum (take k ns) + getD ns k 0 → levelIn ns v ≡ suc k
+pub level-in : (ns : List ℕ) (k v : ℕ) → sum (take k ns) ≤ v → v < sum (take k ns) + getD ns k 0 → levelIn ns v ≡ suc k
 unfolding levelIn sum
 level-in [] zero v h j = absurd (omega arith)
 level-in [] (suc k) v h j = absurd (omega arith)

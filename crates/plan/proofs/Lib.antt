@@ -4,6 +4,7 @@ pub mod LevelLaws
 pub mod CountLaws
 pub mod SegmentLaws
 pub mod Crossings
+pub mod Walks
 pub mod GraphLaws
 pub mod Sound
 pub mod HeldLaws

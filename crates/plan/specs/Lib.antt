@@ -3,6 +3,7 @@ pub mod Segments
 pub mod Strands
 pub mod Limits
 pub mod Checks
+pub mod Walk
 pub mod Stored
 pub mod Acceptable
 pub mod inner

@@ -4,3 +4,4 @@ pub mod distances;
 pub mod limits;
 pub mod numbers;
 pub mod questions;
+pub mod walk;

@@ -1,3 +1,2 @@
-pub mod InnerLaws
 pub mod SegmentLaws
 pub mod HeightLaws

@@ -5,28 +5,15 @@ use mathlib.Core.Path.{_≡_, refl}
 use mathlib.Core.Bool.{Bool, true, false}
 use mathlib.Core.List.{List, [], _∷_}
 use native.Mathlib.Omega.{arith}
-use native.Mathlib.Numerals.{add-one}
 use borrow.Author.Tests.{lt-ltb, le-ltb}
-use lib.ListN.{length, getD, drop, drop-of-length-le}
-use lib.Seq.{drop-cons}
+use lib.ListN.{length, getD}
 use Rattle.ints.proofs.Laws.{cases}
 use Rattle.plan.specs.Plan.{levelOf}
-use Rattle.plan.specs.Segments.{Segment, segmentsFrom, segmentsOf}
+use Rattle.plan.specs.Segments.{Segment, segmentsOf}
 use Rattle.plan.specs.Checks.{every, goesOneDown, check3, comesBefore, rising}
 use Rattle.plan.specs.inner.Graph.{graphOf, segment, Levelled, oneDown}
-
--- the segments after the first i
-abbrev pub after : List ℕ → List ℕ → ℕ → List Segment
-after «as» bs i = segmentsFrom (drop i «as») (drop i bs)
-
-module _ («as» bs : List ℕ) (i : ℕ) where
-  pub after-all : length «as» ≤ i → after «as» bs i ≡ []
-  unfolding segmentsFrom
-  after-all h = rw (drop-of-length-le «as» h)
-
-  pub after-one : i < length «as» → length «as» ≡ length bs → after «as» bs i ≡ segment (getD «as» i 0) (getD bs i 0) ∷ after «as» bs (i + 1)
-  unfolding segmentsFrom
-  after-one h e = let k : i < length bs = omega arith in rw (add-one, drop-cons «as» i 0 h, drop-cons bs i 0 k)
+use Rattle.plan_walks.specs.inner.Walks.{after}
+use Rattle.plan_walks.proofs.AfterLaws.{after-all, after-one}
 
 -- ---- rising
 module _ («as» bs : List ℕ) (i : ℕ) (e : length «as» ≡ length bs) where

@@ -1,11 +1,11 @@
 // Checks 3 and 4 of document 01, over slices that are as long as the data, and checks 3 to 6 in this order. Each stops at the first
 // that fails.
 use crate::levels::levels;
-use crate::vias::check_inner;
 use crate::vias::check_vias;
 use plan::data::Plan;
 use plan::questions::comes_before;
 use plan::questions::one_down;
+use plan_walks::check_inner;
 ghost use mathlib.Core.Path.{_≡_};
 ghost use mathlib.Core.Bool.{Bool};
 ghost use mathlib.Core.List.{List, [], _∷_};
@@ -79,6 +79,6 @@ pub fn check_plan(sizes: &[u16], vias: &[bool], uppers: &[u32], lowers: &[u32]) 
         return failed;
     }
     let through = check_vias(vias, uppers, lowers);
-    let apart = check_inner(vias, uppers, lowers);
+    let apart = check_inner(sizes, vias, uppers, lowers);
     first_of(5, through, 6, apart)
 }

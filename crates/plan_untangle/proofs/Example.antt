@@ -3,7 +3,8 @@ use mathlib.Core.Path.{_≡_, refl}
 use mathlib.Core.Bool.{true, false}
 use mathlib.Core.List.{[], _∷_}
 use Rattle.sorting.specs.Sort.{insertBy, sortBy}
-use Rattle.sorting.specs.Share.{chosen, refill, shareOut}
+use Rattle.ints.specs.Lists.{chosen}
+use Rattle.sorting.specs.Share.{refill, shareOut}
 use Rattle.plan.specs.Plan.{PlanData, dataOf, numbers, levelIn, levelOf}
 use Rattle.plan.specs.Segments.{segmentsFrom, segmentsOf, aboveIn, above}
 use Rattle.plan_renumber.specs.Renumber.{placeIn, movedSegments, renumbered}

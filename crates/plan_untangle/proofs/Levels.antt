@@ -1,13 +1,14 @@
 -- What the program keeps as it rearranges level after level: the order is that of the definition after as many levels. Assumes nothing.
-use Prim.Native.Nat.{ℕ, zero, suc, _+_, _-_, _<_, _≤_}
+use Prim.Native.Nat.{ℕ, suc, _+_, _-_, _<_, _≤_}
 use mathlib.Core.Path.{_≡_, refl, sym, _∙_, ap}
 use mathlib.Core.Bool.{true, cond, _&&_}
-use mathlib.Core.List.{List, [], _∷_}
+use mathlib.Core.List.{List}
 use native.Mathlib.Omega.{arith}
 use borrow.Author.Tests.{eqb-true}
 use lib.ListN.{length, getD, take}
 use Rattle.ints.specs.Lists.{sum}
 use Rattle.ints.proofs.Tests.{test}
+use Rattle.ints.proofs.Lists.{take-more}
 use Rattle.plan.specs.Plan.{PlanData, vertexCount, isVia, levelOf}
 use Rattle.plan.specs.Limits.{maxVertices}
 use Rattle.plan.specs.inner.Levels.{firstOn, sizeOn, On}
@@ -21,15 +22,7 @@ use Rattle.plan_untangle.specs.inner.Ordering.{Ordering, SomeOrdering, S
 use Rattle.plan_untangle.proofs.Orders.{order-start, order-once, order-to-own}
 use Rattle.plan_untangle.proofs.Steps.{upper-below, step-is}
 
--- ---- where a level begins
-take-more : (ns : List ℕ) (k : ℕ) → sum (take (suc k) ns) ≡ sum (take k ns) + getD ns k 0
-unfolding sum
-take-more [] zero = refl
-take-more [] (suc k) = refl
-take-more (n ∷ ns) zero = omega arith
-take-more (n ∷ ns) (suc k) = omega (arith, take-more ns k)
-
--- a vertex whose turn comes on level l stands there
+-- ---- a vertex whose turn comes on level l stands there
 module _ (p : PlanData) (sizes turn upper order₀ : List ℕ) (o : Ordering p sizes turn upper order₀) where
   turn-level : (l v : ℕ) → 2 ≤ l → v < vertexCount p → isTurn turn l v ≡ true → levelOf p v ≡ l
   turn-level l v h k e =

@@ -11,7 +11,8 @@ use lib.Dec.{eqb}
 use lib.ListN.{length}
 use Rattle.ints.proofs.Laws.{cases}
 use Rattle.sorting.specs.Sort.{sortBy}
-use Rattle.sorting.specs.Share.{chosen, refill, shareOut}
+use Rattle.ints.specs.Lists.{chosen}
+use Rattle.sorting.specs.Share.{refill, shareOut}
 use Rattle.ints.specs.inner.Members.{Mem}
 use Rattle.sorting.specs.inner.Words.{Same, Sorted}
 use Rattle.sorting.proofs.Counts.{same-refl, same-trans}

@@ -12,7 +12,7 @@ use Rattle.plan.specs.Plan.{PlanData, vertexCount, levelOf}
 use Rattle.plan.specs.Segments.{segmentsOf, aboveIn, belowIn, innerSegments}
 use Rattle.plan.specs.Strands.{firstOr}
 use Rattle.plan.proofs.Sound.{Sound, mem-above, mem-below, above-mem, below-mem}
-use Rattle.plan.proofs.Crossings.{level-rises}
+use Rattle.plan.proofs.LevelLaws.{level-rises}
 use Rattle.preliminary.proofs.Strands.{Link, link, link-up, link-down}
 use Rattle.prelim_classes.specs.inner.Strands.{StrandLists, Strung}
 use Rattle.prelim_classes.proofs.StrandLaws.{Mutual, strung}

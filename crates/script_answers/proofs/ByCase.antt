@@ -1,6 +1,6 @@
--- Positions in words, by the case that the program meets.
+-- Positions and walks in words, by the case that the program meets.
 use mathlib.Core.Path.{_≡_, refl}
-use mathlib.Core.Bool.{cond}
+use mathlib.Core.Bool.{true, false, cond}
 use mathlib.Core.List.{List, [], _∷_, _++_}
 use Prim.Native.Nat.{ℕ, suc, _+_, _≤_, _<_}
 use native.Mathlib.Numerals.{add-one}
@@ -12,7 +12,8 @@ use Rattle.ints.proofs.Tests.{test}
 use Rattle.text.specs.Bytes.{bytes}
 use Rattle.text.specs.Decimal.{decimal, signed}
 use Rattle.text_write.proofs.Written.{signed-neg, signed-pos}
-use Rattle.script_answers.specs.Answers.{positionWords}
+use Rattle.plan.specs.declared.walk.Walk.{Walk}
+use Rattle.script_answers.specs.Answers.{walked, positionWords, lineOf}
 
 pub signed-is : (z : ℤ) → signed z ≡ cond (ltZ z (pos 0)) (45 ∷ decimal (natAbs z)) (decimal (natAbs z))
 signed-is z = test (ltZ z (pos 0)) (λ h. rw h (signed-neg z h)) (λ h. rw h (signed-pos z h))
@@ -28,3 +29,16 @@ module _ (xs : List ℤ) (i : ℕ) where
   pub words-end : length xs ≤ i → positionWords (drop i xs) ≡ []
   unfolding positionWords
   words-end l = rw (drop-of-length-le xs l)
+
+module _ (w : Walk) where
+  -- the line of a walk that begins with these words
+  abbrev pub walkLine : List ℕ → List ℕ
+  walkLine words = words ++ decimal (w .taken) ++ bytes "\n"
+
+  pub walk-crossed : w .crossed ≡ true → lineOf (walked w) ≡ walkLine (bytes "ok crossed ")
+  unfolding lineOf
+  walk-crossed e = rw e
+
+  pub walk-clear : w .crossed ≡ false → lineOf (walked w) ≡ walkLine (bytes "ok clear ")
+  unfolding lineOf
+  walk-clear e = rw e

@@ -1,5 +1,6 @@
 -- No answer has more than 1,500 bytes. The longest are a report line with its length, and 64 positions of at most 17 bytes with a space
 -- before each.
+use mathlib.Core.Bool.{Bool, true, false, cond}
 use mathlib.Core.List.{List, [], _∷_}
 use Prim.Native.Nat.{ℕ, suc, _+_, _*_, _^_, _≤_, _<_}
 use native.Mathlib.Omega.{arith}
@@ -8,6 +9,7 @@ use lib.IntN.{ℤ, pos, negsuc}
 use Rattle.ints.specs.Ints.{size, SizedTo}
 use Rattle.ints.proofs.Reach.{sized-tail}
 use Rattle.run.specs.Call.{maxBoxes}
+use Rattle.text.specs.Bytes.{bytes}
 use Rattle.text.specs.Decimal.{signed}
 use Rattle.text.proofs.DecimalLaws.{decimal-length}
 use Rattle.text_write.specs.inner.Written.{Room}
@@ -19,7 +21,7 @@ use Rattle.sheet.specs.declared.types.Stage.the-variants.{Empty, Loaded, Drawn}
 use Rattle.report_lines.specs.inner.Stored.{maxLine}
 use Rattle.script_marks.specs.inner.Floats.{wholeIn, markIn}
 use Rattle.script_marks.proofs.Lengths.{number-short, whole-low, point-in-short, mark-short}
-use Rattle.script_answers.specs.Answers.{Said, unknown, refused, done, stage, text, mark, positions, stageWords, positionWords, lineOf}
+use Rattle.script_answers.specs.Answers.{Said, unknown, refused, done, stage, text, mark, walked, positions, stageWords, positionWords, lineOf}
 use Rattle.script_answers.specs.inner.MarkLine.{markLineIn}
 use Rattle.script_answers.specs.inner.Lengths.{maxAnswer, maxPosition, maxStage}
 
@@ -61,6 +63,11 @@ positions-short (x ∷ xs) h =
     let a = signed-short x (h .each 0) in
     simp length-append (omega (arith, positions-short xs (sized-tail maxPosition x xs h)))
 
+-- ---- walks
+walk-short : (crossed : Bool) → length (cond crossed (bytes "ok crossed ") (bytes "ok clear ")) ≤ 11
+walk-short true = omega arith
+walk-short false = omega arith
+
 -- ---- answers
 -- With counts that 64 bits hold, and a run of no more boxes than place-run takes.
 abbrev pub Short : Said → Type 0
@@ -70,6 +77,7 @@ Short done = Unit {0}
 Short (stage s) = SmallStage s
 Short (text l) = length l ≤ maxLine
 Short (mark m) = Fits m
+Short (walked w) = w .taken < 2 ^ 64
 Short (positions xs) = (length xs ≤ maxBoxes) × SizedTo maxPosition xs
 
 pub said-short : (a : Said) → Short a → length (lineOf a) ≤ maxAnswer
@@ -80,6 +88,7 @@ said-short done h = omega arith
 said-short (stage s) h = let a = stage-short s h in simp length-append (omega arith)
 said-short (text l) h = let a = decimal-length 3 (length l) (omega arith) in simp length-append (omega arith)
 said-short (mark m) h = let a = mark-short m h in simp length-append (omega arith)
+said-short (walked w) h = let a = number-short (w .taken) h in let b = walk-short (w .crossed) in simp length-append (omega arith)
 said-short (positions xs) h = let a = positions-short xs (h .1) in simp length-append (omega (arith, h .0))
 
 -- so where there is room for the longest, there is room for each

@@ -1,10 +1,12 @@
 -- The answers to a script's commands, a line each with its LF, as lists of bytes.
+use mathlib.Core.Bool.{cond}
 use mathlib.Core.List.{List, [], _∷_, _++_}
 use Prim.Native.Nat.{ℕ}
 use lib.ListN.{length}
 use lib.IntN.{ℤ}
 use Rattle.text.specs.Bytes.{bytes}
 use Rattle.text.specs.Decimal.{decimal, signed}
+use Rattle.plan.specs.declared.walk.Walk.{Walk}
 use Rattle.marks.specs.Marks.{WholeMark}
 use Rattle.sheet.specs.declared.types.Stage.{Stage}
 use Rattle.sheet.specs.declared.types.Stage.the-variants.{Empty, Loaded, Drawn}
@@ -24,6 +26,8 @@ pub data Said : Type 0 where
   text : List ℕ → Said
   -- a mark
   mark : WholeMark → Said
+  -- what a walk found
+  walked : Walk → Said
   -- the positions of a run
   positions : List ℤ → Said
 
@@ -46,4 +50,5 @@ lineOf done = bytes "ok\n"
 lineOf (stage s) = bytes "ok " ++ stageWords s ++ bytes "\n"
 lineOf (text l) = bytes "ok " ++ decimal (length l) ++ bytes " " ++ l
 lineOf (mark m) = bytes "ok " ++ markWords m ++ bytes "\n"
+lineOf (walked w) = cond (w .crossed) (bytes "ok crossed ") (bytes "ok clear ") ++ decimal (w .taken) ++ bytes "\n"
 lineOf (positions xs) = bytes "ok" ++ positionWords xs ++ bytes "\n"

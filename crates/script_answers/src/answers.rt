@@ -2,6 +2,7 @@
 use crate::words::put_positions;
 use crate::words::put_stage;
 use marks::types::Mark;
+use plan::walk::Walk;
 use script_marks::mark_words::put_mark;
 use sheet::types::Stage;
 use text_write::number::put_then;
@@ -9,7 +10,7 @@ use text_write::number::put_word;
 ghost use Prim.Native.Nat.{_+_, _≤_};
 ghost use lib.ListN.{length};
 ghost use Rattle.text_write.specs.inner.Written.{Room, Wrote};
-ghost use Rattle.script_answers.specs.Answers.{unknown, refused, done, stage as staged, text, positions, lineOf};
+ghost use Rattle.script_answers.specs.Answers.{unknown, refused, done, stage as staged, text, walked, positions, lineOf};
 ghost use Rattle.script_answers.specs.inner.MarkLine.{markLineIn};
 ghost use Rattle.script_answers.specs.inner.Lengths.{maxAnswer};
 
@@ -69,6 +70,19 @@ pub fn say_mark(out: &mut [u8], at: usize, mark: Mark) -> usize
     let words = put_word(out, at, b"ok ");
     let end = put_mark(out, words, mark);
     put_word(out, end, b"\n")
+}
+
+// "ok clear N", "ok crossed N"
+pub fn say_walk(out: &mut [u8], at: usize, walk: Walk) -> usize
+    requires { ⌜ Room (lineOf (walked walk)) (now out) at ⌝ }
+    ensures { λ r. ⌜ Wrote (lineOf (walked walk)) (now (out .entry)) at r (now (out .exit)) ⌝ }
+{
+    if walk.crossed {
+        let number = put_word(out, at, b"ok crossed ");
+        return put_then(out, number, walk.taken as u64, b"\n");
+    }
+    let number = put_word(out, at, b"ok clear ");
+    put_then(out, number, walk.taken as u64, b"\n")
 }
 
 // "ok x1 x2 .."

@@ -1,4 +1,4 @@
--- What a script answers to a call of a sheet, and to place-run.
+-- What a script answers to a call of a sheet, to a walk and to place-run.
 use mathlib.Core.Bool.{Bool, true, false, cond}
 use mathlib.Core.List.{List}
 use Prim.Native.Nat.{ℕ}
@@ -14,7 +14,9 @@ use Rattle.calls.specs.declared.types.Call.the-variants.{Load, LoadTangled, Dra
 use Rattle.calls.specs.Replies as value
 use Rattle.calls.specs.Replies.{Value, written, marked}
 use Rattle.calls.specs.Step.{Lent, step}
-use Rattle.script_answers.specs.Answers.{Said, refused, done, text, mark, positions}
+use Rattle.text_walk.specs.declared.WalkAnswer.{WalkAnswer}
+use Rattle.text_walk.specs.declared.WalkAnswer.the-variants.{Walked, Refused}
+use Rattle.script_answers.specs.Answers.{Said, refused, done, text, mark, walked, positions}
 
 -- By what the call gives: nothing to say; a text of that length, which stands at the front of the lent buffer; a mark, which is w in
 -- whole numbers.
@@ -50,6 +52,11 @@ callSaid q l s =
 abbrev pub isRefusal : Result Value → Bool
 isRefusal (gives v) = false
 isRefusal (refuses n) = true
+
+-- To a walk.
+abbrev pub walkSaid : WalkAnswer → Said
+walkSaid (Walked w) = walked w
+walkSaid (Refused n) = refused n
 
 -- To place-run.
 abbrev pub runSaid : Out → Said

@@ -1,3 +1,4 @@
-// Answers of calls and of place-run written.
+// Answers of calls, of walks and of place-run written.
 pub mod reply;
 pub mod run_call;
+pub mod walk_call;

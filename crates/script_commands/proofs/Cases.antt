@@ -15,7 +15,7 @@ use Rattle.script_runs.specs.Lists.{isList, wholesIn, signedsIn}
 use Rattle.script_runs.specs.Names.{valuesOf}
 use Rattle.script_runs.specs.Runs.{hasParts, hasOptions, hasNumbers, hasLists, isRequest, requestIn}
 use Rattle.script_commands.specs.declared.types.Poke.the-variants.{Drawn, Vertex, Remembered, Tangled, Final, Listed}
-use Rattle.script_commands.specs.Commands.{skip, unknown, load, loadTangled, draw, line, textLine, texts, mark, placeRun, poke}
+use Rattle.script_commands.specs.Commands.{skip, unknown, load, loadTangled, draw, line, textLine, texts, mark, walk, placeRun, poke}
 use Rattle.script_commands.specs.Table.{longEnough, calls, planPokes, loadingPokes, drawingPokes, saidBy, commandOf}
 
 record Lines : Type 0 where
@@ -46,6 +46,10 @@ record Lines : Type 0 where
   no-way : commandOf (bytes "poke 1 tangled 2") ≡ unknown
   position : commandOf (bytes "poke 1 pos 4 -1099511627777") ≡ poke (Final 4 (negsuc 1099511627776))
   box : commandOf (bytes "poke 1 box 0 1 1 1099511627777") ≡ poke (Listed 0 1 1 (pos 1099511627777))
+  walked : commandOf (bytes "walk 3 (end)\\n") ≡ walk 3 (bytes "(end)\n")
+  walked-empty : commandOf (bytes "walk 0 ") ≡ walk 0 []
+  walk-without : commandOf (bytes "walk 1") ≡ unknown
+  walk-below-zero : commandOf (bytes "walk -1 (end)") ≡ unknown
   run : commandOf (bytes "placerun r=2 old=-9,2 left=-7 counts=2,0 nbrs=-9,-3 dist=1,15") ≡ placeRun (record {
     boxes = 2;
     left = At (negsuc 6);
@@ -98,6 +102,10 @@ lines = record {
   no-way = refl;
   position = refl;
   box = refl;
+  walked = refl;
+  walked-empty = refl;
+  walk-without = refl;
+  walk-below-zero = refl;
   run = refl;
   run-room = refl;
   run-twice = refl;

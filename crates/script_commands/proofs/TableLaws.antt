@@ -3,13 +3,19 @@ use mathlib.Core.Path.{_≡_, refl, sym, _∙_, ap}
 use mathlib.Core.Bool.{Bool, true, false, cond, false≢true}
 use mathlib.Core.List.{List, [], _∷_, _++_, map}
 use mathlib.Core.Option.{Option, none, some}
-use Prim.Native.Nat.{ℕ, zero, suc, _+_, _≤_, _<_}
+use Prim.Native.Nat.{ℕ, zero, suc, _+_, _-_, _≤_, _<_}
 use native.Mathlib.Omega.{arith}
+use borrow.Author.Tests.{lt-ltb, le-ltb}
 use lib.Dec.{eqb}
-use lib.ListN.{length, getD, take}
+use lib.ListN.{length, getD, take, drop}
+use lib.Seq.{length-take-le}
+use Rattle.ints.proofs.Tests.{and-false}
 use Rattle.text.specs.Bytes.{bytes}
 use Rattle.text.specs.Parser.{got, nothing, word}
-use Rattle.script_words.specs.Parts.{parts, words}
+use Rattle.script_words.specs.Parts.{parts, words, wordAt}
+use Rattle.script_words.specs.Numbers.{numberIn, isWhole}
+use Rattle.script_words.specs.inner.Ends.{PartEnds}
+use Rattle.script_words.proofs.PartLaws.{part-first}
 use Rattle.script_texts.specs.Texts.{unescaped}
 use Rattle.script_texts.specs.declared.types.Text.{Text}
 use Rattle.script_texts.specs.declared.types.Text.the-variants.{Bytes, Bad}
@@ -17,13 +23,13 @@ use Rattle.script_texts.specs.inner.Units.{cut, textIn}
 use Rattle.script_runs.specs.declared.types.RunRequest.{RunRequest}
 use Rattle.script_runs.specs.Runs.{isRequest, requestIn, roomIn}
 use Rattle.script_runs.specs.inner.Filled.{Asks}
-use Rattle.script_forms.specs.Forms.{hasForm}
+use Rattle.script_forms.specs.Forms.{hasForm, wholeAt}
 use Rattle.script_forms.specs.inner.First.{firstForm}
-use Rattle.script_commands.specs.Commands.{Command, skip, unknown, load, loadTangled}
-use Rattle.script_commands.specs.Table.{Row, calls, planPokes, loadingPokes, drawingPokes, saidBy, isSkipped, loading, placing, commandOf}
+use Rattle.script_commands.specs.Commands.{Command, skip, unknown, load, loadTangled, walk}
+use Rattle.script_commands.specs.Table.{Row, calls, planPokes, loadingPokes, drawingPokes, saidBy, isSkipped, loading, walking, placing, commandOf}
 use Rattle.script_commands.specs.inner.Held.{Lent, commandIn, shortened, Inside, Commands, isBare, Bare}
 use Rattle.script_commands.specs.declared.types.Command.{Command as Found}
-use Rattle.script_commands.specs.declared.types.Command.the-variants.{Skip, Unknown, Load, LoadTangled, Draw, Clear, Stage, Line, Lines, TextLine, Texts, Mark, Marks, PlaceRun, Poke}
+use Rattle.script_commands.specs.declared.types.Command.the-variants.{Skip, Unknown, Load, LoadTangled, Draw, Clear, Stage, Line, Lines, TextLine, Texts, Mark, Marks, Walk, PlaceRun, Poke}
 
 -- What row k says.
 abbrev pub saysAt : List Row → ℕ → List ℕ → Command
@@ -90,13 +96,18 @@ module _ (l : List ℕ) where
       command-tangled rest q = rw (e, f, q)
 
       module _ (g : word (bytes "load 1 tangled ") l ≡ nothing) where
-        pub command-place : (rest : List ℕ) → word (bytes "placerun ") l ≡ got tt rest → commandOf l ≡ placing (words rest)
+        pub command-walk : (rest : List ℕ) → word (bytes "walk ") l ≡ got tt rest → commandOf l ≡ walking rest
         unfolding commandOf
-        command-place rest q = rw (e, f, g, q)
+        command-walk rest q = rw (e, f, g, q)
 
-        pub command-said : word (bytes "placerun ") l ≡ nothing → commandOf l ≡ saidBy (calls ++ planPokes ++ loadingPokes ++ drawingPokes) l
-        unfolding commandOf
-        command-said q = rw (e, f, g, q)
+        module _ (h : word (bytes "walk ") l ≡ nothing) where
+          pub command-place : (rest : List ℕ) → word (bytes "placerun ") l ≡ got tt rest → commandOf l ≡ placing (words rest)
+          unfolding commandOf
+          command-place rest q = rw (e, f, g, h, q)
+
+          pub command-said : word (bytes "placerun ") l ≡ nothing → commandOf l ≡ saidBy (calls ++ planPokes ++ loadingPokes ++ drawingPokes) l
+          unfolding commandOf
+          command-said q = rw (e, f, g, h, q)
 
 -- ---- what the program found
 loading-cut : (b : Lent) (say : List ℕ → Command) → ((t : List ℕ) → shortened b (say t) ≡ say (take (length (b .text)) t))
@@ -112,6 +123,21 @@ module _ (before : Lent) (say : List ℕ → Command) (s : (t : List ℕ) → sh
 
   pub load-bad : r ≡ Bad → unknown ≡ shortened before (loading say o)
   load-bad q = ap (loading say) (sym (ap (λ (t : Text). textIn t out) q) ∙ e) ∙ sym (loading-cut before say s o)
+
+-- the words of a walk; `end` is where its number ends
+module _ (given : List ℕ) (end : ℕ) (p : PartEnds 32 given 0 end) where
+  level : wordAt given 0 ≡ take end given
+  level = let e : end - 0 ≡ end = omega arith in part-first 32 given 0 end p ∙ ap (λ (n : ℕ). take n given) e
+
+  pub walk-no-number : (before : Lent) → isWhole (numberIn (take end given)) ≡ false → unknown ≡ shortened before (walking given)
+  walk-no-number before e = rw (level, e)
+
+  pub walk-no-text : (before : Lent) → length given ≤ end → unknown ≡ shortened before (walking given)
+  walk-no-text before h = rw (level, length-take-le end given (p .inside), le-ltb end (length given) h, and-false)
+
+  pub walking-is : isWhole (numberIn (take end given)) ≡ true → end < length given
+      → walking given ≡ loading (walk (wholeAt given 0)) (unescaped (drop (end + 1) given))
+  walking-is e h = rw (level, length-take-le end given (p .inside), e, lt-ltb end (length given) h)
 
 module _ (ws : List (List ℕ)) (before : Lent) where
   pub place-not : isRequest ws ≡ false → unknown ≡ shortened before (placing ws)
@@ -136,6 +162,7 @@ keeps b (TextLine n m) e = refl
 keeps b Texts e = refl
 keeps b (Mark n) e = refl
 keeps b Marks e = refl
+keeps b (Walk l n) e = absurd (false≢true e)
 keeps b (PlaceRun q) e = absurd (false≢true e)
 keeps b (Poke p) e = refl
 
@@ -153,6 +180,7 @@ bare-inside b (TextLine n m) e = tt
 bare-inside b Texts e = tt
 bare-inside b (Mark n) e = tt
 bare-inside b Marks e = tt
+bare-inside b (Walk l n) e = absurd (false≢true e)
 bare-inside b (PlaceRun q) e = absurd (false≢true e)
 bare-inside b (Poke p) e = tt
 

@@ -17,7 +17,7 @@ use Rattle.text.specs.Reading.{maxBytes, testsBy, refused, readAs, readingBy, r
 use Rattle.run.specs.Call.{Request}
 use Rattle.script_runs.specs.inner.Filled.{shortened as shortenedRun}
 use Rattle.script_commands.specs.declared.types.Command.{Command as Found}
-use Rattle.script_commands.specs.Commands.{Command, skip, unknown, load, loadTangled, draw, clear, stage, line, lines, textLine, texts, mark, marks, placeRun, poke}
+use Rattle.script_commands.specs.Commands.{Command, skip, unknown, load, loadTangled, draw, clear, stage, line, lines, textLine, texts, mark, marks, walk, placeRun, poke}
 use Rattle.script_commands.specs.inner.Held.{Lent, commandIn, shortened, Commands}
 
 -- ---- a text
@@ -48,6 +48,7 @@ tangled-cut m s h = cut-by tangledChecksOf m s h
 module _ {X : Type 0} (f : Command → X) (b : Lent)
     (text : (t : List ℕ) → f (load (take (length (b .text)) t)) ≡ f (load t))
     (tangled : (t : List ℕ) → f (loadTangled (take (length (b .text)) t)) ≡ f (loadTangled t))
+    (walks : (l : ℕ) (t : List ℕ) → f (walk l (take (length (b .text)) t)) ≡ f (walk l t))
     (run : (q : Request) (n : ℕ) → f (placeRun (shortenedRun (b .run) q) n) ≡ f (placeRun q n)) where
   pub same-cut : (c : Command) → f (shortened b c) ≡ f c
   same-cut skip = refl
@@ -63,6 +64,7 @@ module _ {X : Type 0} (f : Command → X) (b : Lent)
   same-cut texts = refl
   same-cut (mark n) = refl
   same-cut marks = refl
+  same-cut (walk l t) = walks l t
   same-cut (placeRun q n) = run q n
   same-cut (poke p) = refl
 

@@ -24,6 +24,8 @@ pub data Command : Type 0 where
   texts : Command
   mark : ℕ → Command
   marks : Command
+  -- `walk l TEXT`: a level, and the bytes that TEXT stands for.
+  walk : ℕ → List ℕ → Command
   -- `placerun ..`: a request for place-run, and the length of the answer buffer.
   placeRun : Request → ℕ → Command
   poke : Poke → Command

@@ -1,19 +1,21 @@
 -- "A script has one command a line": the forms of its lines, and what a line in each of them says. S, the number of the sheet, is 1.
-use mathlib.Core.Bool.{Bool, true, false, cond}
+use mathlib.Core.Bool.{Bool, true, false, cond, _&&_}
 use mathlib.Core.List.{List, [], _∷_, _++_}
 use mathlib.Core.Option.{Option, none, some}
-use Prim.Native.Nat.{ℕ}
+use Prim.Native.Nat.{ℕ, _+_}
 use Prim.Native.String.{String}
-use lib.Dec.{eqb}
+use lib.Dec.{ltb, eqb}
+use lib.ListN.{length, drop}
 use Rattle.text.specs.Bytes.{bytes}
 use Rattle.text.specs.Parser.{Got, got, nothing, word}
-use Rattle.script_words.specs.Parts.{words}
+use Rattle.script_words.specs.Parts.{words, wordAt}
+use Rattle.script_words.specs.Numbers.{numberIn, isWhole}
 use Rattle.script_texts.specs.Texts.{unescaped}
 use Rattle.script_forms.specs.Forms.{hasForm, wholeAt, signedAt}
 use Rattle.script_runs.specs.Runs.{isRequest, requestIn, roomIn}
 use Rattle.script_commands.specs.declared.types.Poke.the-variants.{Empty, Loaded, Drawn, Levels, Gap, Spacing, Size, Vertex, Segment}
 use Rattle.script_commands.specs.declared.types.Poke.the-variants.{Remembered, Tangled, Preliminary, Final, Pass, Level, Listed}
-use Rattle.script_commands.specs.Commands.{Command, skip, unknown, load, loadTangled, draw, clear, stage, line, lines, textLine, texts, mark, marks, placeRun, poke}
+use Rattle.script_commands.specs.Commands.{Command, skip, unknown, load, loadTangled, draw, clear, stage, line, lines, textLine, texts, mark, marks, walk, placeRun, poke}
 
 -- A form, and what a line in that form says.
 pub record Row : Type 0 where
@@ -88,7 +90,7 @@ abbrev pub isSkipped : List ℕ → Bool
 isSkipped [] = true
 isSkipped (b ∷ l) = eqb b 35
 
--- "TEXT goes to the line's end". `say` is which load.
+-- "TEXT goes to the line's end". `say` is what the text is for.
 abbrev pub loading : (List ℕ → Command) → Option (List ℕ) → Command
 loading say none = unknown
 loading say (some text) = say text
@@ -96,6 +98,17 @@ loading say (some text) = say text
 abbrev pub loadOr : (List ℕ → Command) → Got (Unit {0}) → Command → Command
 loadOr say (got u text) other = loading say (unescaped text)
 loadOr say nothing other = other
+
+-- `walk l TEXT`: a number without a sign up to the first space, and the text after it.
+abbrev pub walking : List ℕ → Command
+walking given =
+    let level = wordAt given 0 in
+    let said = loading (walk (wholeAt given 0)) (unescaped (drop (length level + 1) given)) in
+    cond (isWhole (numberIn level) && ltb (length level) (length given)) said unknown
+
+abbrev pub walkOr : Got (Unit {0}) → Command → Command
+walkOr (got u given) other = walking given
+walkOr nothing other = other
 
 -- What follows placerun is a request, or the line is unknown.
 abbrev pub placing : List (List ℕ) → Command
@@ -111,6 +124,7 @@ unfoldable pub commandOf : List ℕ → Command
 commandOf l =
     let other = saidBy (calls ++ planPokes ++ loadingPokes ++ drawingPokes) l in
     let run = placeOr (word (bytes "placerun ") l) other in
-    let tangled = loadOr loadTangled (word (bytes "load 1 tangled ") l) run in
+    let walked = walkOr (word (bytes "walk ") l) run in
+    let tangled = loadOr loadTangled (word (bytes "load 1 tangled ") l) walked in
     let said = loadOr load (word (bytes "load 1 strict ") l) tangled in
     cond (isSkipped l) skip said

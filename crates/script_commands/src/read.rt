@@ -8,6 +8,9 @@ use script_runs::runs::is_request;
 use script_runs::runs::request;
 use script_texts::texts::unescape;
 use script_texts::types::Text;
+use script_words::numbers::is_whole;
+use script_words::numbers::number;
+use script_words::parts::end_of;
 use text_scan::scanners::word_at;
 ghost use mathlib.Core.Path.{_≡_};
 ghost use mathlib.Core.List.{List, _++_};
@@ -16,7 +19,7 @@ ghost use Rattle.script_words.specs.Parts.{words};
 ghost use Rattle.script_texts.specs.Texts.{unescaped};
 ghost use Rattle.script_runs.specs.inner.Filled.{Buffers, buffers};
 ghost use Rattle.script_commands.specs.Commands.{load as strictLoad, loadTangled};
-ghost use Rattle.script_commands.specs.Table.{calls, planPokes, loadingPokes, drawingPokes, saidBy, isSkipped, loading, placing, commandOf};
+ghost use Rattle.script_commands.specs.Table.{calls, planPokes, loadingPokes, drawingPokes, saidBy, isSkipped, loading, walking, placing, commandOf};
 ghost use Rattle.script_commands.specs.inner.Held.{lent, Commands, Bare};
 
 // No line has more bytes.
@@ -132,6 +135,24 @@ fn load_tangled(escaped: &[u8], text: &mut [u8]) -> Command
     }
 }
 
+// What follows walk: a level, and a text.
+fn walk(given: &[u8], text: &mut [u8]) -> Command
+    ensures { λ r. ⌜ ((b : Buffers) → Commands (walking (now (given .entry))) (lent (now (text .entry)) b) r (lent (now (text .exit)) b)) ⌝ }
+{
+    let end = end_of(given, b' ', 0);
+    if !is_whole(number(&given[..end])) {
+        return Command::Unknown;
+    }
+    if given.len() <= end {
+        return Command::Unknown;
+    }
+    let r = unescape(&given[end + 1..], text);
+    match r {
+        Text::Bytes(n) => Command::Walk(whole_at(given, 0), n),
+        Text::Bad => Command::Unknown,
+    }
+}
+
 // What follows placerun.
 fn place_run(
     given: &[u8],
@@ -150,7 +171,7 @@ fn place_run(
     Command::PlaceRun(request(given, old, distances, counts, neighbours))
 }
 
-// What a line says; the text of a load and the lists of a run in lent buffers, what they have no room for left out.
+// What a line says; the text of a load or a walk and the lists of a run in lent buffers, what they have no room for left out.
 pub fn command(
     line: &[u8],
     text: &mut [u8],
@@ -171,6 +192,9 @@ pub fn command(
     }
     if word_at(line, 0, b"load 1 tangled ") {
         return load_tangled(&line[15..], text);
+    }
+    if word_at(line, 0, b"walk ") {
+        return walk(&line[5..], text);
     }
     if word_at(line, 0, b"placerun ") {
         return place_run(&line[9..], old, distances, counts, neighbours);

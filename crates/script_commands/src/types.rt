@@ -24,8 +24,8 @@ pub enum Poke {
     Listed(usize, usize, usize, i64),
 }
 
-// A command. The text of Load and of LoadTangled lies in a lent buffer, and the number is how many bytes it has; the lists of
-// PlaceRun lie in others.
+// A command. The text of Load, LoadTangled and Walk lies in a lent buffer, and the last number is how many bytes it has; the
+// lists of PlaceRun lie in others.
 pub enum Command {
     Skip,
     Unknown,
@@ -40,6 +40,7 @@ pub enum Command {
     Texts,
     Mark(usize),
     Marks,
+    Walk(usize, usize),
     PlaceRun(RunRequest),
     Poke(Poke),
 }

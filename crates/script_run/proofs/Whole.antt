@@ -14,11 +14,12 @@ use Rattle.calls.specs.Step.{step}
 use Rattle.script_runs.specs.inner.Filled.{buffers, shortened}
 use Rattle.script_runs.proofs.Short.{Roomy, call-short}
 use Rattle.script_commands.specs.declared.types.Command.{Command as Found}
-use Rattle.script_commands.specs.declared.types.Command.the-variants.{Skip, Unknown, Load, LoadTangled, Draw, Clear, Stage, Line, Lines, TextLine, Texts, Mark, Marks, PlaceRun, Poke}
-use Rattle.script_commands.specs.Commands.{Command, load, loadTangled, placeRun}
+use Rattle.script_commands.specs.declared.types.Command.the-variants.{Skip, Unknown, Load, LoadTangled, Draw, Clear, Stage, Line, Lines, TextLine, Texts, Mark, Marks, Walk, PlaceRun, Poke}
+use Rattle.script_commands.specs.Commands.{Command, load, loadTangled, walk, placeRun}
 use Rattle.script_commands.specs.inner.Held.{Lent, lent, commandIn, Inside, Commands}
 use Rattle.script_commands.proofs.Whole.{reading-cut, tangled-cut, same-answer}
 use Rattle.script_answers.specs.inner.Lengths.{maxAnswer}
+use Rattle.text_walk.specs.Walks.{textWalk}
 use Rattle.script_calls.specs.Said.{callSaid, runSaid}
 use Rattle.script_told.specs.Turns.{saying, turnOf}
 use Rattle.script_run.specs.inner.Laid.{Turned}
@@ -32,12 +33,16 @@ module _ (b : Lent) (long : maxBytes < length (b .text)) (roomy : Roomy (b .run)
   unfolding turnOf callSaid step sheet.loadTangled
   tangled t = rw (tangled-cut (length (b .text)) t long)
 
+  walked : (l : ℕ) (t : List ℕ) → turnOf (walk l (take (length (b .text)) t)) s ≡ turnOf (walk l t) s
+  unfolding turnOf textWalk
+  walked l t = rw (tangled-cut (length (b .text)) t long)
+
   run : (q : Request) (room : ℕ) → turnOf (placeRun (shortened (b .run) q) room) s ≡ turnOf (placeRun q room) s
   unfolding turnOf
   run q room = ap (λ (o : Out). saying (runSaid o) s) (call-short (b .run) roomy q (replicate room (pos 0)))
 
   pub same-turn : (c : Command) (r : Found) (after : Lent) → Commands c b r after → turnOf (commandIn r after) s ≡ turnOf c s
-  same-turn c r after h = same-answer (λ (d : Command). turnOf d s) b text tangled run c r after h
+  same-turn c r after h = same-answer (λ (d : Command). turnOf d s) b text tangled walked run c r after h
 
 -- ---- what lies in the buffers lies in them when they are given back
 pub record SameLong (b d : Lent) : Type 0 where
@@ -61,6 +66,7 @@ inside-after b d (TextLine n room) l i = tt
 inside-after b d Texts l i = tt
 inside-after b d (Mark n) l i = tt
 inside-after b d Marks l i = tt
+inside-after b d (Walk k n) l i = omega (arith, l .text)
 inside-after b d (PlaceRun q) l i = record {
   old = omega (arith, l .old, i .old);
   distances = omega (arith, l .distances, i .distances);

@@ -29,7 +29,7 @@ use Rattle.calls.specs.declared.types.Call.the-variants.{Line, TextLine, Mark}
 use Rattle.calls.specs.Replies as value
 use Rattle.calls.specs.Replies.{Value, written, marked}
 use Rattle.calls.specs.Step.{Lent, step}
-use Rattle.script_commands.specs.Commands.{Command, skip, unknown, load, loadTangled, draw, clear, stage, line, lines, textLine, texts, mark, marks, placeRun, poke}
+use Rattle.script_commands.specs.Commands.{Command, skip, unknown, load, loadTangled, draw, clear, stage, line, lines, textLine, texts, mark, marks, walk, placeRun, poke}
 use Rattle.script_commands.specs.Table.{longEnough}
 use Rattle.script_answers.specs.Answers.{Said}
 use Rattle.script_calls.specs.Said.{valueSaid, resultSaid, callSaid, isRefusal}
@@ -162,5 +162,6 @@ few-answers (textLine n room) s = omega arith
 few-answers texts s = most (textSaid s) 0 mostAnswers
 few-answers (mark n) s = omega arith
 few-answers marks s = most (markSaid s) 0 mostAnswers
+few-answers (walk l t) s = omega arith
 few-answers (placeRun q room) s = omega arith
 few-answers (poke p) s = omega arith

@@ -18,7 +18,7 @@ use Rattle.calls.specs.Replies as value
 use Rattle.calls.specs.Replies.{Value, written, marked}
 use Rattle.calls.specs.Step.{Lent, step}
 use Rattle.calls.proofs.Unchanged as call
-use Rattle.script_commands.specs.Commands.{Command, skip, unknown, load, loadTangled, draw, clear, stage, line, lines, textLine, texts, mark, marks, placeRun, poke}
+use Rattle.script_commands.specs.Commands.{Command, skip, unknown, load, loadTangled, draw, clear, stage, line, lines, textLine, texts, mark, marks, walk, placeRun, poke}
 use Rattle.script_commands.specs.declared.types.Poke.{Poke}
 use Rattle.script_commands.specs.declared.types.Poke.the-variants.{Empty, Loaded, Drawn, Levels, Gap, Spacing, Size, Vertex, Segment, Remembered, Tangled, Preliminary, Final, Pass, Level, Listed}
 use Rattle.script_poke.specs.Poked as pokes
@@ -56,6 +56,7 @@ refused-changes-nothing (textLine k room) s n e = refused-call (TextLine k) (len
 refused-changes-nothing texts s n e = refl
 refused-changes-nothing (mark k) s n e = refused-call (Mark k) (lending [] 0) s n (cc)
 refused-changes-nothing marks s n e = refl
+refused-changes-nothing (walk l t) s n e = refl
 refused-changes-nothing (placeRun q room) s n e = refl
 refused-changes-nothing (poke p) s n e = absurd (knows (pokes.poke p s .known) {n = n} (cc))
 
@@ -108,10 +109,11 @@ unknown-changes-nothing (textLine k room) s e = absurd (known-call (TextLine k) 
 unknown-changes-nothing texts s e = refl
 unknown-changes-nothing (mark k) s e = absurd (known-call (Mark k) (lending [] 0) s (cc))
 unknown-changes-nothing marks s e = refl
+unknown-changes-nothing (walk l t) s e = refl
 unknown-changes-nothing (placeRun q room) s e = refl
 unknown-changes-nothing (poke p) s e = poke-missed p s (cc)
 
--- ---- stage, line, lines, text, texts, mark, marks, placerun
+-- ---- stage, line, lines, text, texts, mark, marks, walk, placerun
 abbrev pub shows : Command → Bool
 shows skip = true
 shows unknown = true
@@ -126,6 +128,7 @@ shows (textLine k room) = true
 shows texts = true
 shows (mark k) = true
 shows marks = true
+shows (walk l t) = true
 shows (placeRun q room) = true
 shows (poke p) = false
 
@@ -144,6 +147,7 @@ show-leaves (textLine k room) s e = refl
 show-leaves texts s e = refl
 show-leaves (mark k) s e = refl
 show-leaves marks s e = refl
+show-leaves (walk l t) s e = refl
 show-leaves (placeRun q room) s e = refl
 show-leaves (poke p) s e = never (cc)
 
@@ -163,5 +167,6 @@ several-leave (textLine k room) s l = absurd (omega arith)
 several-leave texts s l = refl
 several-leave (mark k) s l = absurd (omega arith)
 several-leave marks s l = refl
+several-leave (walk k t) s l = refl
 several-leave (placeRun q room) s l = refl
 several-leave (poke p) s l = absurd (omega arith)

@@ -8,16 +8,17 @@ use Rattle.ints.specs.Lists.{concat}
 use Rattle.plan.specs.Limits.{maxVertices}
 use Rattle.passes.specs.Words.{maxListed}
 use Rattle.run.specs.Call.{callOf}
+use Rattle.text_walk.specs.Walks.{textWalk}
 use Rattle.sheet.specs.declared.types.Sheet.{Sheet}
 use Rattle.calls.specs.declared.types.Call.{Call}
 use Rattle.calls.specs.declared.types.Call.the-variants.{Load, LoadTangled, Draw, Line, TextLine, Mark, Clear}
 use Rattle.calls.specs.Step.{Lent, lent, step}
-use Rattle.script_commands.specs.Commands.{Command, skip, unknown, load, loadTangled, draw, clear, stage, line, lines, textLine, texts, mark, marks, placeRun, poke}
+use Rattle.script_commands.specs.Commands.{Command, skip, unknown, load, loadTangled, draw, clear, stage, line, lines, textLine, texts, mark, marks, walk, placeRun, poke}
 use Rattle.script_commands.specs.Table.{longEnough}
 use Rattle.script_poke.specs.declared.types.Poked.{Poked}
 use Rattle.script_poke.specs.Poked as pokes
-use Rattle.script_answers.specs.Answers.{Said, unknown as notKnown, refused, done, stage as standing, text, mark as marked, positions, lineOf}
-use Rattle.script_calls.specs.Said.{callSaid, runSaid}
+use Rattle.script_answers.specs.Answers.{Said, unknown as notKnown, refused, done, stage as standing, text, mark as marked, walked, positions, lineOf}
+use Rattle.script_calls.specs.Said.{callSaid, walkSaid, runSaid}
 
 pub record Turn : Type 0 where
   pub said : List Said
@@ -45,6 +46,7 @@ isRefused done = false
 isRefused (standing t) = false
 isRefused (text l) = false
 isRefused (marked m) = false
+isRefused (walked w) = false
 isRefused (positions xs) = false
 
 -- "n = 0, 1, .. each as its own answer, up to and with the refusal", from n on, at most so many.
@@ -86,6 +88,7 @@ turnOf (textLine n room) s = calling (TextLine n) (lending [] room) s
 turnOf texts s = turn (upToRefusal (textSaid s) 0 mostAnswers) s
 turnOf (mark n) s = calling (Mark n) (lending [] 0) s
 turnOf marks s = turn (upToRefusal (markSaid s) 0 mostAnswers) s
+turnOf (walk l t) s = saying (walkSaid (textWalk l t)) s
 turnOf (placeRun q room) s = saying (runSaid (callOf q (replicate room (pos 0)))) s
 turnOf (poke p) s = saying (pokeSaid (pokes.poke p s)) (pokes.poke p s .sheet)
 

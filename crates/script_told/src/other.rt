@@ -4,6 +4,7 @@ use script_answers::answers::say_done;
 use script_answers::answers::say_stage;
 use script_answers::answers::say_unknown;
 use script_calls::run_call::answer_run;
+use script_calls::walk_call::answer_walk;
 use script_commands::types::Poke;
 use script_poke::poke::poke;
 use script_runs::types::RunRequest;
@@ -18,7 +19,8 @@ ghost use Rattle.script_runs.specs.inner.Filled.{buffers, requestWith, Within};
 ghost use Rattle.script_poke.specs.Poked as pokes;
 ghost use Rattle.script_answers.specs.Answers.{unknown as notKnown, stage as standing, lineOf};
 ghost use Rattle.script_answers.specs.inner.Lengths.{maxAnswer};
-ghost use Rattle.script_calls.specs.Said.{runSaid};
+ghost use Rattle.text_walk.specs.Walks.{textWalk};
+ghost use Rattle.script_calls.specs.Said.{walkSaid, runSaid};
 ghost use Rattle.script_calls.specs.inner.Answered.{Fitted};
 ghost use Rattle.script_told.specs.Turns.{pokeSaid};
 ghost use Rattle.script_told.specs.inner.One.{Single};
@@ -85,6 +87,17 @@ pub fn at_most(room: usize, limit: usize) -> usize
         return room;
     }
     limit
+}
+
+pub fn walk(sheet: Sheet, l: usize, text: &[u8], out: &mut [u8]) -> OneAnswer
+    requires { ⌜ maxAnswer ≤ length (now out) ⌝ }
+    ensures { λ r. ⌜ Single (walkSaid (textWalk l (now (text .entry)))) sheet (now (out .entry)) (r .sheet) (r .written) (r .more) (now (out .exit)) ⌝ }
+{
+    OneAnswer {
+        sheet,
+        written: answer_walk(l, text, out, 0),
+        more: false,
+    }
 }
 
 // Places a run whose lists lie in lent buffers.

@@ -16,13 +16,14 @@ use Rattle.calls.specs.Step.{step}
 use Rattle.script_runs.specs.declared.types.RunRequest.{RunRequest}
 use Rattle.script_runs.specs.inner.Filled.{requestWith}
 use Rattle.script_commands.specs.declared.types.Command.{Command as Found}
-use Rattle.script_commands.specs.declared.types.Command.the-variants.{Skip, Unknown, Load, LoadTangled, Draw, Clear, Stage, Line, Lines, TextLine, Texts, Mark, Marks, PlaceRun, Poke}
+use Rattle.script_commands.specs.declared.types.Command.the-variants.{Skip, Unknown, Load, LoadTangled, Draw, Clear, Stage, Line, Lines, TextLine, Texts, Mark, Marks, Walk, PlaceRun, Poke}
 use Rattle.script_commands.specs.declared.types.Poke.{Poke as Altering}
 use Rattle.script_commands.specs.inner.Held.{Lent, commandIn}
 use Rattle.script_commands.specs.Table.{longEnough}
 use Rattle.script_poke.specs.Poked as pokes
 use Rattle.script_answers.specs.Answers.{Said, unknown as notKnown, stage as standing, lineOf}
-use Rattle.script_calls.specs.Said.{runSaid}
+use Rattle.text_walk.specs.Walks.{textWalk}
+use Rattle.script_calls.specs.Said.{walkSaid, runSaid}
 use Rattle.script_told.specs.Turns.{Turn, turn, saying, lending, calling, upToRefusal, mostAnswers, lineSaid, textSaid, markSaid, pokeSaid, turnOf}
 use Rattle.script_told.specs.inner.One.{Single}
 use Rattle.script_turn.specs.inner.One.{Nth, Asked, Answers}
@@ -115,6 +116,10 @@ module _ {c : Found} (b : Lent) (s : Sheet) where
   pub is-marks : c ≡ Marks → turnOf (commandIn c b) s ≡ turn (upToRefusal (markSaid s) 0 mostAnswers) s
   unfolding turnOf
   is-marks e = rw e
+
+  pub is-walk : {l k : ℕ} → c ≡ Walk l k → turnOf (commandIn c b) s ≡ saying (walkSaid (textWalk l (take k (b .text)))) s
+  unfolding turnOf
+  is-walk e = rw e
 
   pub is-place : {q : RunRequest} → c ≡ PlaceRun q
       → turnOf (commandIn c b) s ≡ saying (runSaid (callOf (requestWith q (b .run)) (replicate (q .room) (pos 0)))) s

@@ -9,6 +9,7 @@ use script_told::other::at_most;
 use script_told::other::place;
 use script_told::other::show_stage;
 use script_told::other::unknown;
+use script_told::other::walk;
 use script_told::types::OneAnswer;
 use sheet::types::Sheet;
 ghost use Rattle.script_runs.specs.inner.Filled.{buffers};
@@ -16,7 +17,7 @@ ghost use Rattle.script_commands.specs.inner.Held.{lent, commandIn};
 ghost use Rattle.script_told.specs.Turns.{turnOf};
 ghost use Rattle.script_turn.specs.inner.One.{Asked, Answers};
 
-// Answer n of a command, at the front of `out`; the text of a load and the lists of a run lie in lent buffers.
+// Answer n of a command, at the front of `out`; the text of a load or a walk and the lists of a run lie in lent buffers.
 pub fn turn(
     sheet: Sheet,
     command: Command,
@@ -62,6 +63,7 @@ pub fn turn(
         Command::Texts => next_call(sheet, Call::TextLine(n), n, LONG_ENOUGH, out),
         Command::Mark(k) => one_call(sheet, Call::Mark(k), b"", 0, out),
         Command::Marks => next_call(sheet, Call::Mark(n), n, 0, out),
+        Command::Walk(l, size) => walk(sheet, l, &text[..size], out),
         Command::PlaceRun(run) => place(sheet, run, old, distances, counts, neighbours, out),
         Command::Poke(what) => alter(sheet, what, out),
     }

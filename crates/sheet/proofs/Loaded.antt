@@ -22,7 +22,7 @@ use Rattle.text.proofs.BothWays.{taken-both, refused-6}
 use Rattle.text.proofs.WhenRefused.{read-refused}
 use Rattle.text.proofs.RoundTrip.{read-written, read-acceptable}
 use Rattle.text_read.specs.Answer.{planOf, answerOf}
-use Rattle.text_untangle.proofs.SecondWay.{untangled-ok}
+use Rattle.text_untangle.proofs.ArrayLaws.{untangled-ok}
 use Rattle.text_write.proofs.AgainLaws.{Again, read-accepted}
 use Rattle.sheet.specs.declared.types.Sheet.{Sheet}
 use Rattle.sheet.specs.Sheet.{planIn, rememberedIn, loadedSheet, loadedAsRead, loadedUntangled}

@@ -18,7 +18,7 @@ use Rattle.plan_untangle.proofs.Untangled.{untangled-own}
 use Rattle.text.specs.Reading.{accepted, reading, tangledReading}
 use Rattle.text.proofs.RoundTrip.{read-acceptable}
 use Rattle.text_read.specs.Answer.{planOf}
-use Rattle.text_untangle.proofs.SecondWay.{untangled-ok}
+use Rattle.text_untangle.proofs.ArrayLaws.{untangled-ok}
 use Rattle.passes.specs.Drawing.{Drawing, drawingOf}
 use Rattle.passes.specs.Demand3.{Demand3}
 use Rattle.report.specs.Lines.{reportLines}

@@ -13,4 +13,5 @@ pub mod PlanLimits
 pub mod TextLength
 pub mod WhenRefused
 pub mod BothWays
+pub mod LastCheck
 pub mod RoundTrip

@@ -24,7 +24,7 @@ pub record Reads (checks : PlanData → List Test) (s : List ℕ) (o : Option Li
 
 -- Of any checks that have numbers.
 module _ (checks : PlanData → List Test) (s : List ℕ) (numbers : (l : Lines) → numbered (testsBy checks s (some l)) ≡ true) where
-  by-refused : (o : Option Lines) (m : ℕ) → (readAs (firstRefusal (testsBy checks s o)) o ≡ refused m) ↔ (isFirst m (testsBy checks s o) ≡ true)
+  pub by-refused : (o : Option Lines) (m : ℕ) → (readAs (firstRefusal (testsBy checks s o)) o ≡ refused m) ↔ (isFirst m (testsBy checks s o) ≡ true)
   unfolding testsBy firstRefusal isFirst
   by-refused none m = (λ e. eq-eqb 1 m (cc), λ e. ap refused (eqb-true 1 m e))
   by-refused (some l) m =
@@ -54,7 +54,7 @@ module _ (checks : PlanData → List Test) (s : List ℕ) (numbers : (l : Lines)
   passes-as none e = never e
   passes-as (some l) e = (stored l, record { lines = l; form = refl; stores = refl; passed = e })
 
-  by-given : (o : Option Lines) → ((p : PlanData) × (readAs (firstRefusal (testsBy checks s o)) o ≡ accepted p)) ↔ (noneRefuses (testsBy checks s o) ≡ true)
+  pub by-given : (o : Option Lines) → ((p : PlanData) × (readAs (firstRefusal (testsBy checks s o)) o ≡ accepted p)) ↔ (noneRefuses (testsBy checks s o) ≡ true)
   by-given o = (λ r. reads-of o (r .0) (r .1) .passed, λ e. let r = passes-as o e in (r .0, reads-as o (r .0) (r .1)))
 
 module _ (s : List ℕ) where

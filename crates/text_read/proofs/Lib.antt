@@ -3,3 +3,4 @@ pub mod Rows
 pub mod SegmentLines
 pub mod Texts
 pub mod Verdict
+pub mod SecondWay

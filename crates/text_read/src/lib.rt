@@ -13,7 +13,7 @@ ghost use Rattle.ints.specs.Refusals.{firstRefusal};
 ghost use Rattle.text.specs.Reading.{refused, reading};
 ghost use Rattle.text_read.specs.Answer.{answerOf};
 ghost use Rattle.text_read.specs.inner.Failed.{Fronts, checksIn};
-ghost use Rattle.text_read.specs.inner.Taken.{Arrays, Finds};
+ghost use Rattle.text_read.specs.inner.Taken.{Arrays, Finds, refusesBoth};
 
 // "over 65,536 bytes" is no plan text.
 pub const MAX_BYTES: usize = 65536;
@@ -91,6 +91,16 @@ pub fn read_into(
     let scanned = scan(text, sizes, vias, halves, uppers, lowers);
     let failed = first_failed(scanned, sizes, vias, uppers, lowers);
     Found { failed, scanned }
+}
+
+// Whether a text is refused by a check other than 6.
+pub fn refuses_both(failed: u32) -> bool
+    ensures { λ r. ⌜ r ≡ refusesBoth failed ⌝ }
+{
+    if failed == 0 {
+        return false;
+    }
+    failed != 6
 }
 
 // Reads a plan text.

@@ -16,7 +16,7 @@ use Rattle.text.specs.Reading.{Reading, accepted, refused, reading, tangledRead
 use Rattle.text.proofs.BothWays.{taken-both}
 use Rattle.text.proofs.RoundTrip.{read-acceptable}
 use Rattle.text.proofs.Words.{never}
-use Rattle.text_untangle.proofs.SecondWay.{untangled-ok}
+use Rattle.text_untangle.proofs.ArrayLaws.{untangled-ok}
 use Rattle.text_write.specs.Again.{refusedLine}
 use Rattle.text_write.specs.inner.Written.{Fronts}
 use Rattle.passes.specs.Drawing.{Drawing, drawingOf}

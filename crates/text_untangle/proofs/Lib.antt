@@ -1,3 +1,3 @@
-pub mod SecondWay
+pub mod ArrayLaws
 pub mod Ways
 pub mod TextLaws

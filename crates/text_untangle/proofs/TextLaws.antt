@@ -32,7 +32,7 @@ use Rattle.text_untangle.specs.Untangled.{untangledAnswer}
 use Rattle.text_untangle.specs.Text.{untangledText, Leaves}
 use Rattle.text_untangle.specs.declared.ReadTangled.{ReadTangled}
 use Rattle.text_untangle.specs.inner.Held.{WithNumbers, IsUntangled}
-use Rattle.text_untangle.proofs.SecondWay.{untangled-ok}
+use Rattle.text_untangle.proofs.ArrayLaws.{untangled-ok}
 
 -- ---- what was read
 pub record Rearranged (s : List ℕ) (plan : Plan) (v e : ℕ) (m : List ℕ) : Type 0 where

@@ -8,6 +8,7 @@ use text_read::Answer;
 use text_read::Found;
 use text_read::form::Scanned;
 use text_read::read_into;
+use text_read::refuses_both;
 ghost use mathlib.Core.Path.{_≡_};
 ghost use lib.ListN.{length};
 ghost use Rattle.plan.specs.Limits.{maxVertices};
@@ -15,7 +16,7 @@ ghost use Rattle.plan.specs.Plan.{PlanData};
 ghost use Rattle.text.specs.Reading.{refused, tangledReading};
 ghost use Rattle.text_read.specs.inner.Taken.{Arrays};
 ghost use Rattle.text_untangle.specs.Untangled.{untangledAnswer};
-ghost use Rattle.text_untangle.specs.inner.Fronts.{TangledIn, SomeTangledIn, UntangledIn, refusesBoth, FindsTangled};
+ghost use Rattle.text_untangle.specs.inner.Fronts.{TangledIn, SomeTangledIn, UntangledIn, FindsTangled};
 
 // What reading a text that may be tangled gives: the untangled plan, and each vertex's number in the text. Where the text is refused
 // both are 0 throughout.
@@ -23,16 +24,6 @@ pub struct ReadTangled {
     pub answer: Answer,
     pub plan: Plan,
     pub numbers: [u16; Plan::MAX_VERTICES],
-}
-
-// Whether a text is refused by a check other than 6.
-fn refuses_both(failed: u32) -> bool
-    ensures { λ r. ⌜ r ≡ refusesBoth failed ⌝ }
-{
-    if failed == 0 {
-        return false;
-    }
-    failed != 6
 }
 
 // Untangles a plan whose data stand at the front of arrays.

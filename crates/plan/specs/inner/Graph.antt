@@ -1,6 +1,6 @@
 -- What checks 3 to 6 ask about: the levels, the kinds of the vertices and the segments; not the widths and the spacing.
-use mathlib.Core.Bool.{Bool, true, false, cond, _&&_}
-use mathlib.Core.List.{List, [], _∷_}
+use mathlib.Core.Bool.{Bool, true, cond, _&&_}
+use mathlib.Core.List.{List, []}
 use mathlib.Core.Path.{_≡_}
 use Prim.Native.Nat.{ℕ, zero, suc, _+_, _<_, _≤_}
 use lib.Dec.{ltb, eqb}
@@ -59,10 +59,3 @@ pub record Within (vias : List Bool) (uppers lowers : List ℕ) : Type 0 where
 -- A via has one segment up and one down.
 abbrev pub through : Bool → ℕ → ℕ → Bool
 through via up down = cond via (eqb up 1 && eqb down 1) true
-
--- Whether no lower end of a list of segments is less than the one before, the first no less than `last`.
-unfoldable pub lowersRise : ℕ → List Segment → Bool
-lowersRise last [] = true
-lowersRise last (s ∷ ss) =
-    let more = lowersRise (s .lower) ss in
-    cond (ltb (s .lower) last) false more

@@ -6,10 +6,10 @@ use Prim.Native.Nat.{ℕ, _≤_}
 use lib.ListN.{length, take}
 use Rattle.script_runs.specs.inner.Filled.{Buffers, requestWith, Within, shortened as shortenedRun}
 use Rattle.script_commands.specs.declared.types.Command.{Command as Found}
-use Rattle.script_commands.specs.declared.types.Command.the-variants.{Skip, Unknown, Load, LoadTangled, Draw, Clear, Stage, Line, Lines, TextLine, Texts, Mark, Marks, PlaceRun, Poke}
-use Rattle.script_commands.specs.Commands.{Command, skip, unknown, load, loadTangled, draw, clear, stage, line, lines, textLine, texts, mark, marks, placeRun, poke}
+use Rattle.script_commands.specs.declared.types.Command.the-variants.{Skip, Unknown, Load, LoadTangled, Draw, Clear, Stage, Line, Lines, TextLine, Texts, Mark, Marks, Walk, PlaceRun, Poke}
+use Rattle.script_commands.specs.Commands.{Command, skip, unknown, load, loadTangled, draw, clear, stage, line, lines, textLine, texts, mark, marks, walk, placeRun, poke}
 
--- A buffer for the text of a load, and those for the lists of a run.
+-- A buffer for the text of a load or a walk, and those for the lists of a run.
 pub record Lent : Type 0 where
   pub text : List ℕ
   pub run : Buffers
@@ -31,6 +31,7 @@ commandIn (TextLine n room) b = textLine n room
 commandIn Texts b = texts
 commandIn (Mark n) b = mark n
 commandIn Marks b = marks
+commandIn (Walk l n) b = walk l (take n (b .text))
 commandIn (PlaceRun q) b = placeRun (requestWith q (b .run)) (q .room)
 commandIn (Poke p) b = poke p
 
@@ -49,6 +50,7 @@ shortened b (textLine n room) = textLine n room
 shortened b texts = texts
 shortened b (mark n) = mark n
 shortened b marks = marks
+shortened b (walk l text) = walk l (take (length (b .text)) text)
 shortened b (placeRun q room) = placeRun (shortenedRun (b .run) q) room
 shortened b (poke p) = poke p
 
@@ -67,6 +69,7 @@ Inside b (TextLine n room) = Unit {0}
 Inside b Texts = Unit {0}
 Inside b (Mark n) = Unit {0}
 Inside b Marks = Unit {0}
+Inside b (Walk l n) = n ≤ length (b .text)
 Inside b (PlaceRun q) = Within (b .run) q
 Inside b (Poke p) = Unit {0}
 
@@ -91,6 +94,7 @@ isBare (TextLine n room) = true
 isBare Texts = true
 isBare (Mark n) = true
 isBare Marks = true
+isBare (Walk l n) = false
 isBare (PlaceRun q) = false
 isBare (Poke p) = true
 

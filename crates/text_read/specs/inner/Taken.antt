@@ -1,8 +1,9 @@
 -- What reading a text into lent arrays asks and leaves.
 use mathlib.Core.Path.{_≡_}
-use mathlib.Core.Bool.{Bool}
+use mathlib.Core.Bool.{Bool, not, _&&_}
 use mathlib.Core.List.{List}
 use Prim.Native.Nat.{ℕ, _≤_}
+use lib.Dec.{eqb}
 use lib.ListN.{length, take}
 use Rattle.plan.specs.Plan.{PlanData}
 use Rattle.plan.specs.Limits.{maxLevels, maxVertices, maxSegments}
@@ -42,3 +43,7 @@ pub record Finds (s : List ℕ) (r : Found) (sizes : List ℕ) (vias : List Bool
   pub refuses : (r .failed ≡ 0 → ⊥) → reading s ≡ refused (r .failed)
   pub accepts : r .failed ≡ 0 → Accepts s (r .scanned) sizes vias halves uppers lowers sizes′ vias′ halves′ uppers′ lowers′
   pub kept : (p : PlanData) → tangledReading s ≡ accepted p → Kept p (r .scanned) sizes vias halves uppers lowers sizes′ vias′ halves′ uppers′ lowers′
+
+-- Whether the first way's number refuses the second way too: it is that of a check other than 6.
+abbrev pub refusesBoth : ℕ → Bool
+refusesBoth n = not (eqb n 0) && not (eqb n 6)

@@ -2,7 +2,7 @@
 use mathlib.Core.Path.{sym, _∙_, ap}
 use borrow.Author.Needs.{needs}
 use Rattle.text_untangle.specs.Untangled.{untangledAnswer}
-use Rattle.text_untangle.proofs.SecondWay.{tangled-answer}
+use Rattle.text_untangle.proofs.ArrayLaws.{tangled-answer}
 use Rattle.text_untangle.proofs.read_tangled.Statement.{statement}
 use Rattle.text_untangle.proofs.read_tangled.Tie as tie
 

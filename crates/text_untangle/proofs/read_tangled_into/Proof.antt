@@ -2,7 +2,8 @@
 -- is a plan, at the front of the arrays.
 use mathlib.Core.Path.{refl, sym, _∙_}
 use borrow.Author.Needs.{needs}
-use Rattle.text_untangle.proofs.SecondWay.{refused-both, taken-second, tangled-in, accepts-tangled}
+use Rattle.text_read.proofs.SecondWay.{refused-both, taken-second}
+use Rattle.text_untangle.proofs.ArrayLaws.{tangled-in, accepts-tangled}
 use Rattle.text_untangle.proofs.read_tangled_into.Statement.{statement}
 use Rattle.text_untangle.proofs.read_tangled_into.Tie as tie
 

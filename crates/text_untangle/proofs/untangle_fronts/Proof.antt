@@ -2,7 +2,7 @@
 use mathlib.Core.Path.{sym, _∙_}
 use borrow.Author.Needs.{needs}
 use lib.Seq.{length-take-le}
-use Rattle.text_untangle.proofs.SecondWay.{untangled-in}
+use Rattle.text_untangle.proofs.ArrayLaws.{untangled-in}
 use Rattle.text_untangle.proofs.untangle_fronts.Statement.{statement}
 use Rattle.text_untangle.proofs.untangle_fronts.Tie as tie
 

@@ -1,9 +1,8 @@
 -- A tangled plan's data at the front of arrays, and what untangling them and reading them leaves.
 use mathlib.Core.Path.{_≡_}
-use mathlib.Core.Bool.{Bool, not, _&&_}
+use mathlib.Core.Bool.{Bool}
 use mathlib.Core.List.{List}
 use Prim.Native.Nat.{ℕ, _≤_}
-use lib.Dec.{eqb}
 use lib.ListN.{length, take}
 use Rattle.ints.specs.Lists.{over}
 use Rattle.plan.specs.Plan.{PlanData}
@@ -44,10 +43,6 @@ pub record UntangledIn (p : PlanData) (r : Scanned) (vias : List Bool) (halves u
   pub uppers-put : Front (untangled p .uppers) (r .segments) uppers uppers′
   pub lowers-put : Front (untangled p .lowers) (r .segments) lowers lowers′
   pub numbers-put : Front (order p) (r .vertices) numbers numbers′
-
--- Whether the first way's number refuses the second way too.
-abbrev pub refusesBoth : ℕ → Bool
-refusesBoth n = not (eqb n 0) && not (eqb n 6)
 
 -- The text is accepted, and the data of its untangled plan are in the arrays.
 pub record AcceptsTangled (s : List ℕ) (r : Scanned) (sizes : List ℕ) (vias : List Bool) (halves uppers lowers numbers : List ℕ)

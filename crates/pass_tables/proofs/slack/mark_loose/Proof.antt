@@ -5,9 +5,9 @@ use mathlib.Core.List.{_++_}
 use native.Mathlib.Omega.{arith}
 use borrow.Author.Needs.{needs}
 use lib.ListN.{length, take, drop}
+use Rattle.ints.proofs.Lists.{sum-on, sum-end}
 use Rattle.ints.specs.Lists.{sum}
 use Rattle.pass_tables.specs.inner.Tables.{levelwise, startsLoose}
-use Rattle.pass_tables.proofs.ListLaws.{sum-more, sum-none}
 use Rattle.pass_tables.proofs.LevelLaws.{level-filled, levels-end}
 use Rattle.pass_tables.proofs.slack.mark_loose.Statement.{statement}
 use Rattle.pass_tables.proofs.slack.mark_loose.Tie as tie
@@ -28,7 +28,7 @@ mark-level-requires : tie.Need-mark-level-requires Inv-loop μ-loop
 mark-level-requires c κs = let l = c .before .before .before .before .loop in
     let a = c .before .before .before .before .before .before .before .before .before .args in
     let pre = c .before .before .before .before .before .before .before .before .before .pre in
-    ((omega arith, omega (arith, c .before .wide .ensures, sum-more (a .sizes .now) (l .i) (omega arith)), pre .1 .0, pre .1 .1), omega arith)
+    ((omega arith, omega (arith, c .before .wide .ensures, sum-on (a .sizes .now) (l .i) (omega arith)), pre .1 .0, pre .1 .1), omega arith)
 
 loop-again : tie.Need-loop-again Inv-loop μ-loop
 loop-again c = let l = c .before .before .before .before .before .before .before .loop in
@@ -37,7 +37,7 @@ loop-again c = let l = c .before .before .before .before .before .before .before
     let d = c .before .before .mark-level in (
       omega arith,
       d .kept .1 .1 .1 .1 .1 .0 ∙ l .inv .1,
-      omega (arith, w .ensures, sum-more (a .sizes .now) (l .i) (omega arith)),
+      omega (arith, w .ensures, sum-on (a .sizes .now) (l .i) (omega arith)),
       level-filled (λ (v to : ℕ). startsLoose (a .vias .now) (a .doubled .now) (a .at .now) v to) (a .sizes .now) (l .from) (l .i) (l .marks) (d .last .1 .1 .1 .1 .1 .0) (l .from + w .result) (omega arith) (omega (arith, w .ensures)) (d .ensures) ∙ l .inv .3,
     )
 
@@ -45,7 +45,7 @@ returns : tie.Need-returns Inv-loop μ-loop
 returns c = let l = c .before .loop in
     let a = c .before .before .before .before .before .before .args in
     let i : length (a .sizes .now) ≤ l .i = omega arith in
-    levels-end (λ (v to : ℕ). startsLoose (a .vias .now) (a .doubled .now) (a .at .now) v to) (a .sizes .now) (l .from) (l .i) (l .marks) i (omega (arith, sum-none (a .sizes .now) (l .i) i)) ∙ l .inv .3
+    levels-end (λ (v to : ℕ). startsLoose (a .vias .now) (a .doubled .now) (a .at .now) v to) (a .sizes .now) (l .from) (l .i) (l .marks) i (omega (arith, sum-end (a .sizes .now) (l .i) i)) ∙ l .inv .3
 
 pub mark-loose-spec : {M : Type 1} → statement M
 mark-loose-spec =

@@ -7,7 +7,8 @@ use native.Mathlib.Omega.{arith}
 use lib.ListN.{length}
 use Rattle.plan.specs.Checks.{every}
 use Rattle.plan.specs.inner.Graph.{oneDown}
-use Rattle.plan_checks.proofs.SegmentLaws.{after, every-on, every-stop, every-end, check3-same}
+use Rattle.plan_walks.specs.inner.Walks.{after}
+use Rattle.plan_checks.proofs.SegmentLaws.{every-on, every-stop, every-end, check3-same}
 use Rattle.plan_checks.proofs.checks.check_ends.Statement.{statement}
 use Rattle.plan_checks.proofs.checks.check_ends.Tie as tie
 

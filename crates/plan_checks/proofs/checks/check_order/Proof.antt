@@ -7,7 +7,8 @@ use native.Mathlib.Omega.{arith}
 use lib.ListN.{length}
 use Rattle.plan.specs.Segments.{segmentsOf}
 use Rattle.plan.specs.Checks.{rising, check4}
-use Rattle.plan_checks.proofs.SegmentLaws.{after, order-on, order-stop, order-end}
+use Rattle.plan_walks.specs.inner.Walks.{after}
+use Rattle.plan_checks.proofs.SegmentLaws.{order-on, order-stop, order-end}
 use Rattle.plan_checks.proofs.checks.check_order.Statement.{statement}
 use Rattle.plan_checks.proofs.checks.check_order.Tie as tie
 

@@ -39,7 +39,7 @@ check-vias-requires : tie.Need-check-vias-requires
 check-vias-requires c κs = within c
 
 check-inner-requires : tie.Need-check-inner-requires
-check-inner-requires c κs = within (c .before)
+check-inner-requires c κs = (start (c .before .before) .pre .levels, within (c .before))
 
 returns-2 : tie.Need-returns-2
 returns-2 c =
@@ -47,7 +47,7 @@ returns-2 c =
     let has = has-3-4 (c .before .before .before) in
     let sizes = s .args .sizes .now in
     fails-late (graph s) (c .first-of2 .result) (has .0) (has .1)
-    (rw (← c .before .before .check-vias .ensures sizes, ← c .before .check-inner .ensures sizes (has .0) (has .1)) (c .first-of2 .ensures))
+    (rw (← c .before .before .check-vias .ensures sizes, ← c .before .check-inner .ensures (has .0) (has .1)) (c .first-of2 .ensures))
 
 pub check-plan-spec : {M : Type 1} → statement M
 check-plan-spec =

@@ -6,10 +6,10 @@ use native.Mathlib.Omega.{arith}
 use borrow.Author.Tests.{not-true, not-false}
 use mathlib.Core.Bool.{_&&_}
 use lib.ListN.{length, getD, take, drop}
+use Rattle.ints.proofs.Lists.{sum-on}
 use Rattle.ints.specs.Lists.{sum}
 use Rattle.plan.specs.Limits.{within}
 use Rattle.plan.specs.Plan.{PlanData}
-use Rattle.pass_tables.proofs.ListLaws.{sum-more}
 use Rattle.report_validity.specs.inner.Stored.{OfPlan}
 use Rattle.report_validity.specs.inner.Tests.{isRunOn, arePlacings}
 use Rattle.report_validity.proofs.PlacingTests.{placings-on, placings-stop, placings-end}
@@ -33,7 +33,7 @@ next-within : (c : tie.After-wide Inv-loop μ-loop) → c .before .before .befor
 next-within c =
     let s = c .before .before .before .before .before .before .before .before .before .before in
     let l = c .before .before .before .loop in
-    omega (arith, c .wide .ensures, l .inv .1, s .pre .3, sum-more (s .args .counts .now) (l .i) (omega arith))
+    omega (arith, c .wide .ensures, l .inv .1, s .pre .3, sum-on (s .args .counts .now) (l .i) (omega arith))
 
 add-end : tie.Need-add-end Inv-loop μ-loop
 add-end c = omega (arith, next-within c)
@@ -73,7 +73,7 @@ loop-again c =
     let l = c .before .before .before .before .before .before .before .before .loop in
     let w = c .before .before .before .before .before .wide in (
       omega arith,
-      omega (arith, w .ensures, sum-more (a .counts .now) (l .i) (omega arith)),
+      omega (arith, w .ensures, sum-on (a .counts .now) (l .i) (omega arith)),
       λ p o. rw (w .ensures) (sym (placings-on p (a .passes .now) (a .levels .now) (a .counts .now) (a .vertices .now) (l .i) (l .at) (s .pre .1) (s .pre .2) (omega arith)
           (sym (is-one (c .before) p o) ∙ not-false _ (c .if1 .left)))
           ∙ l .inv .2 p o),

@@ -5,7 +5,7 @@ use mathlib.Core.Path.{sym, _∙_}
 use native.Mathlib.Omega.{arith}
 use borrow.Author.Tests.{not-true, not-false}
 use lib.ListN.{length}
-use Rattle.pass_tables.proofs.ListLaws.{sum-more}
+use Rattle.ints.proofs.Lists.{sum-on}
 use Rattle.report_validity.proofs.Walks.{sum-parts}
 use Rattle.report_validity.proofs.Whole.{whole-within}
 use Rattle.report_validity.proofs.RunTests.{no-boxes, no-level, past-levels, not-whole, whole-is}
@@ -32,7 +32,7 @@ to-within c =
       c .before .before .vertices-before .ensures,
       c .wide .ensures,
       sum-parts (a .level - 1) (a .sizes .now),
-      sum-more (a .sizes .now) (a .level - 1) (omega arith),
+      sum-on (a .sizes .now) (a .level - 1) (omega arith),
       s .pre .total,
     )
 

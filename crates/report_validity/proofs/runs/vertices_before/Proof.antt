@@ -3,8 +3,8 @@ use Prim.Native.Nat.{_+_, _-_, _≤_}
 use mathlib.Core.Path.{_≡_}
 use native.Mathlib.Omega.{arith}
 use lib.ListN.{drop}
+use Rattle.ints.proofs.Lists.{sum-on}
 use Rattle.ints.specs.Lists.{sum}
-use Rattle.pass_tables.proofs.ListLaws.{sum-more}
 use Rattle.report_validity.proofs.Walks.{sum-parts}
 use borrow.Author.Needs.{needs}
 use Rattle.report_validity.proofs.runs.vertices_before.Statement.{statement}
@@ -20,10 +20,10 @@ loop-holds : tie.Need-loop-holds Inv-loop μ-loop
 loop-holds c = (omega arith, omega arith)
 
 add-v : tie.Need-add-v Inv-loop μ-loop
-add-v c = let l = c .before .before .before .loop in omega (arith, sum-more (c .before .before .before .before .before .args .sizes .now) (l .i) (omega arith))
+add-v c = let l = c .before .before .before .loop in omega (arith, sum-on (c .before .before .before .before .before .args .sizes .now) (l .i) (omega arith))
 
 loop-again : tie.Need-loop-again Inv-loop μ-loop
-loop-again c = let l = c .before .before .before .loop in (omega arith, omega (arith, sum-more (c .before .before .before .before .before .args .sizes .now) (l .i) (omega arith)))
+loop-again c = let l = c .before .before .before .loop in (omega arith, omega (arith, sum-on (c .before .before .before .before .before .args .sizes .now) (l .i) (omega arith)))
 
 returns : tie.Need-returns Inv-loop μ-loop
 returns c =

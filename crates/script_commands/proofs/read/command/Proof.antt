@@ -1,18 +1,21 @@
--- `script_commands::read::command` meets its contract: a skipped line, a load, a run, or a line in one of the forms.
-use mathlib.Core.Path.{sym, _∙_, ap}
+-- `script_commands::read::command` meets its contract: a skipped line, a load, a walk, a run, or a line in one of the forms.
+use mathlib.Core.Path.{_≡_, sym, _∙_, ap}
+use mathlib.Core.Bool.{false}
 use mathlib.Core.List.{_++_}
 use native.Mathlib.Omega.{arith}
 use borrow.Author.Needs.{needs}
 use lib.ListN.{drop}
+use Rattle.text.specs.Bytes.{bytes}
+use Rattle.text.specs.Parser.{nothing, word}
 use Rattle.text_scan.proofs.Lines.{has, has-not}
 use Rattle.script_words.specs.Parts.{words}
 use Rattle.script_texts.specs.Texts.{unescaped}
 use Rattle.script_words.proofs.PartLaws.{rest}
 use Rattle.script_runs.specs.inner.Filled.{buffers}
 use Rattle.script_commands.specs.Commands.{load, loadTangled}
-use Rattle.script_commands.specs.Table.{calls, planPokes, loadingPokes, drawingPokes, saidBy, loading, placing}
+use Rattle.script_commands.specs.Table.{calls, planPokes, loadingPokes, drawingPokes, saidBy, isSkipped, loading, walking, placing}
 use Rattle.script_commands.specs.inner.Held.{lent, shortened}
-use Rattle.script_commands.proofs.TableLaws.{command-skip, command-load, command-tangled, command-place, command-said, bare-command}
+use Rattle.script_commands.proofs.TableLaws.{command-skip, command-load, command-tangled, command-walk, command-place, command-said, bare-command}
 use Rattle.script_commands.proofs.read.command.Statement.{statement}
 use Rattle.script_commands.proofs.read.command.Tie as tie
 
@@ -63,46 +66,50 @@ returns-3 c =
     rw (e ∙ ap (λ s. loading loadTangled (unescaped s)) (sym (rest 15 l)))
     (c .before .before .load-tangled .ensures (buffers (a .old .now) (a .distances .now) (a .counts .now) (a .neighbours .now)))
 
-sub-place-run : tie.Need-sub-place-run
-sub-place-run c = c .before .word-at3 .ensures .inside (c .if4 .taken)
+sub-walk : tie.Need-sub-walk
+sub-walk c = c .before .word-at3 .ensures .inside (c .if4 .taken)
 
-part-place-run-start : tie.Need-part-place-run-start
-part-place-run-start c = omega (arith, c .before .word-at3 .ensures .inside (c .if4 .taken))
+part-walk-start : tie.Need-part-walk-start
+part-walk-start c = omega (arith, c .before .word-at3 .ensures .inside (c .if4 .taken))
+
+-- not a load
+no-load : (c : tie.After-word-at3) → let l = c .before .before .before .before .before .before .before .before .before .before .before .before .before .before .args .line .now in (isSkipped l ≡ false) × (word (bytes "load 1 strict ") l ≡ nothing) × (word (bytes "load 1 tangled ") l ≡ nothing)
+no-load c =
+    (sym (c .before .before .before .before .before .before .before .before .before .is-skipped .ensures) ∙ c .before .before .before .before .before .before .before .before .if1 .left, has-not (c .before .before .before .before .before .before .word-at .ensures) (c .before .before .before .before .before .if2 .left), has-not (c .before .before .before .word-at2 .ensures) (c .before .before .if3 .left))
 
 returns-4 : tie.Need-returns-4
 returns-4 c =
-    let c6 = c .before .before .before .before .before .before in
-    let c12 = c6 .before .before .before .before .before .before in
-    let c13 = c12 .before in
-    let c15 = c13 .before .before in
-    let c16 = c15 .before in
-    let c18 = c16 .before .before in
-    let c19 = c18 .before in
-    let c21 = c19 .before .before in
-    let c22 = c21 .before in
-    let c27 = c22 .before .before .before .before .before in
-    let a = c27 .args in
+    let a = c .before .before .before .before .before .before .before .before .before .before .before .before .before .before .before .before .before .before .before .before .args in
     let l = a .line .now in
-    let e =
-    command-place l (sym (c22 .is-skipped .ensures) ∙ c21 .if1 .left) (has-not (c19 .word-at .ensures) (c18 .if2 .left))
-    (has-not (c16 .word-at2 .ensures) (c15 .if3 .left)) (drop 9 l)
-    (has (c13 .word-at3 .ensures) (c12 .if4 .taken)) in
-    rw (e ∙ ap (λ s. placing (words s)) (sym (rest 9 l))) (c6 .place-run .ensures (a .text .now))
+    let w = c .before .before .before .before .before .before in
+    let n = no-load w in
+    let e = command-walk l (n .0) (n .1) (n .2) (drop 5 l) (has (w .word-at3 .ensures) (c .before .before .before .before .before .if4 .taken)) in
+    rw (e ∙ ap walking (sym (rest 5 l))) (c .before .before .walk .ensures (buffers (a .old .now) (a .distances .now) (a .counts .now) (a .neighbours .now)))
+
+sub-place-run : tie.Need-sub-place-run
+sub-place-run c = c .before .word-at4 .ensures .inside (c .if5 .taken)
+
+part-place-run-start : tie.Need-part-place-run-start
+part-place-run-start c = omega (arith, c .before .word-at4 .ensures .inside (c .if5 .taken))
 
 returns-5 : tie.Need-returns-5
 returns-5 c =
-    let c5 = c .before .before .before .before .before in
-    let c7 = c5 .before .before in
-    let c8 = c7 .before in
-    let c10 = c8 .before .before in
-    let c11 = c10 .before in
-    let c16 = c11 .before .before .before .before .before in
-    let a = c16 .args in
+    let a = c .before .before .before .before .before .before .before .before .before .before .before .before .before .before .before .before .before .before .before .before .before .before .before .before .before .before .before .before .before .before .args in
+    let l = a .line .now in
+    let w = c .before .before .before .before .before .before .before .before .before .before .before .before .before .before .before .before in
+    let n = no-load w in
+    let e = command-place l (n .0) (n .1) (n .2) (has-not (w .word-at3 .ensures) (c .before .before .before .before .before .before .before .before .before .before .before .before .before .before .before .if4 .left)) (drop 9 l)
+    (has (c .before .before .before .before .before .before .before .before .before .before .before .before .before .word-at4 .ensures) (c .before .before .before .before .before .before .before .before .before .before .before .before .if5 .taken)) in
+    rw (e ∙ ap (λ s. placing (words s)) (sym (rest 9 l))) (c .before .before .before .before .before .before .place-run .ensures (a .text .now))
+
+returns-6 : tie.Need-returns-6
+returns-6 c =
+    let a = c .before .before .before .before .before .before .before .before .before .before .before .before .before .before .before .before .before .before .before .args in
     let l = a .line .now in
     let b = lent (a .text .now) (buffers (a .old .now) (a .distances .now) (a .counts .now) (a .neighbours .now)) in
-    let e = command-said l (sym (c11 .is-skipped .ensures) ∙ c10 .if1 .left)
-    (has-not (c8 .word-at .ensures) (c7 .if2 .left)) (has-not (c5 .word-at2 .ensures) (c .before .before .before .before .if3 .left))
-    (has-not (c .before .before .word-at3 .ensures) (c .before .if4 .left)) in
+    let w = c .before .before .before .before .before in
+    let n = no-load w in
+    let e = command-said l (n .0) (n .1) (n .2) (has-not (w .word-at3 .ensures) (c .before .before .before .before .if4 .left)) (has-not (c .before .before .word-at4 .ensures) (c .before .if5 .left)) in
     rw e (bare-command (saidBy (calls ++ planPokes ++ loadingPokes ++ drawingPokes) l) (c .said .result) b (c .said .ensures))
 
 pub command-spec : {M : Type 1} → statement M
@@ -110,6 +117,7 @@ command-spec =
     tie.close
     (tie.spec (λ c κs. search needs) returns (λ c. search needs) (λ c κs. search needs) sub-load part-load-start (λ c. search needs)
     (λ c κs. search needs) (λ c. search needs) returns-2 (λ c. search needs) (λ c κs. search needs) sub-load-tangled part-load-tangled-start
-    (λ c. search needs) (λ c κs. search needs) (λ c. search needs) returns-3 (λ c. search needs) (λ c κs. search needs) sub-place-run
+    (λ c. search needs) (λ c κs. search needs) (λ c. search needs) returns-3 (λ c. search needs) (λ c κs. search needs) sub-walk part-walk-start
+    (λ c. search needs) (λ c κs. search needs) (λ c. search needs) returns-4 (λ c. search needs) (λ c κs. search needs) sub-place-run
     part-place-run-start (λ c. search needs) (λ c κs. search needs) (λ c. search needs) (λ c. search needs) (λ c. search needs)
-    (λ c. search needs) returns-4 (λ c κs. search needs) returns-5)
+    (λ c. search needs) returns-5 (λ c κs. search needs) returns-6)

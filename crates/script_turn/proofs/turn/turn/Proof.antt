@@ -6,7 +6,7 @@ use borrow.Author.Needs.{needs}
 use Rattle.script_runs.specs.inner.Filled.{buffers}
 use Rattle.script_commands.specs.inner.Held.{lent}
 use Rattle.script_told.specs.Turns.{lineSaid, textSaid, markSaid}
-use Rattle.script_turn.proofs.TurnLaws.{none, only, within, further, is-skip, is-unknown, is-load, is-tangled, is-draw, is-clear, is-stage, is-line, is-lines, is-text, is-texts, is-mark, is-marks, is-place, is-poke, line-leaves, text-leaves, mark-leaves}
+use Rattle.script_turn.proofs.TurnLaws.{none, only, within, further, is-skip, is-unknown, is-load, is-tangled, is-draw, is-clear, is-stage, is-line, is-lines, is-text, is-texts, is-mark, is-marks, is-walk, is-place, is-poke, line-leaves, text-leaves, mark-leaves}
 use Rattle.script_turn.proofs.turn.turn.Statement.{statement}
 use Rattle.script_turn.proofs.turn.turn.Tie as tie
 
@@ -115,11 +115,20 @@ next-call-requires-3 c κs = let s = c .before .before .before .before .before .
 enum-known-command-6 : tie.Need-enum-known-command-6
 enum-known-command-6 c = search needs
 
-place-requires : tie.Need-place-requires
-place-requires c κs = let s = c .before .before .before .before .before .before .before .before in (rw (c .before .before .command6 .given .1) at (s .pre .inside), s .pre .room)
+slice-aggregate-walk : tie.Need-slice-aggregate-walk
+slice-aggregate-walk c = let s = c .before .before .before .before .before .before .before .before in sym (length-take-le _ _ (rw (c .before .before .command6 .given .1) at (s .pre .inside)))
+
+walk-requires : tie.Need-walk-requires
+walk-requires c κs = search needs
 
 enum-known-command-7 : tie.Need-enum-known-command-7
 enum-known-command-7 c = search needs
+
+place-requires : tie.Need-place-requires
+place-requires c κs = let s = c .before .before .before .before .before .before .before .before in (rw (c .before .before .command7 .given .1) at (s .pre .inside), s .pre .room)
+
+enum-known-command-8 : tie.Need-enum-known-command-8
+enum-known-command-8 c = search needs
 
 alter-requires : tie.Need-alter-requires
 alter-requires c κs = search needs
@@ -203,13 +212,19 @@ same-length-13 : tie.Need-same-length-13
 same-length-13 c = search needs
 
 returns-14 : tie.Need-returns-14
-returns-14 c = let s = c .before .before .before .before .before .before .before .before .before .before .before in let a = s .args in let b = lent (a .text .now) (buffers (a .old .now) (a .distances .now) (a .counts .now) (a .neighbours .now)) in only (s .pre) (is-place b (a .sheet) (c .before .before .before .before .before .command6 .given .1)) (c .before .before .place .ensures)
+returns-14 c = let s = c .before .before .before .before .before .before .before .before .before .before .before .before in let a = s .args in let b = lent (a .text .now) (buffers (a .old .now) (a .distances .now) (a .counts .now) (a .neighbours .now)) in only (s .pre) (is-walk b (a .sheet) (c .before .before .before .before .before .before .command6 .given .1)) (c .before .before .walk .ensures)
 
 same-length-14 : tie.Need-same-length-14
 same-length-14 c = search needs
 
 returns-15 : tie.Need-returns-15
-returns-15 c = let s = c .before .before .before .before .before .before .before .before .before .before .before in let a = s .args in let b = lent (a .text .now) (buffers (a .old .now) (a .distances .now) (a .counts .now) (a .neighbours .now)) in only (s .pre) (is-poke b (a .sheet) (c .before .before .before .before .before .command7 .given .1)) (c .before .before .alter .ensures)
+returns-15 c = let s = c .before .before .before .before .before .before .before .before .before .before .before in let a = s .args in let b = lent (a .text .now) (buffers (a .old .now) (a .distances .now) (a .counts .now) (a .neighbours .now)) in only (s .pre) (is-place b (a .sheet) (c .before .before .before .before .before .command7 .given .1)) (c .before .before .place .ensures)
+
+same-length-15 : tie.Need-same-length-15
+same-length-15 c = search needs
+
+returns-16 : tie.Need-returns-16
+returns-16 c = let s = c .before .before .before .before .before .before .before .before .before .before .before in let a = s .args in let b = lent (a .text .now) (buffers (a .old .now) (a .distances .now) (a .counts .now) (a .neighbours .now)) in only (s .pre) (is-poke b (a .sheet) (c .before .before .before .before .before .command8 .given .1)) (c .before .before .alter .ensures)
 
 pub turn-spec : {M : Type 1} → statement M
 turn-spec =
@@ -250,8 +265,11 @@ turn-spec =
     enum-told-8
     next-call-requires-3
     enum-known-command-6
-    place-requires
+    slice-aggregate-walk
+    walk-requires
     enum-known-command-7
+    place-requires
+    enum-known-command-8
     alter-requires
     returns
     same-length
@@ -281,4 +299,6 @@ turn-spec =
     same-length-13
     returns-14
     same-length-14
-    returns-15)
+    returns-15
+    same-length-15
+    returns-16)

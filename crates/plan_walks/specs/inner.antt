@@ -1,0 +1,2 @@
+-- Words of inner contracts: the segments over which a walk goes. No public promise rests on them.
+pub mod Walks

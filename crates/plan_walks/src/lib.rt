@@ -1,0 +1,127 @@
+// Check 6 of document 01 as walks from level to level (document 02, E3), over slices that are as long as the data.
+use ints::total;
+use ints::wide;
+use plan::walk::Walk;
+ghost use mathlib.Core.Path.{_≡_};
+ghost use mathlib.Core.Bool.{true, false, _&&_};
+ghost use mathlib.Core.List.{List};
+ghost use Prim.Native.Nat.{ℕ, _<_, _≤_};
+ghost use lib.ListN.{length, getD};
+ghost use Rattle.plan.specs.Limits.{maxLevels};
+ghost use Rattle.plan.specs.Checks.{check3, check4, check6};
+ghost use Rattle.plan.specs.Walk.{walk};
+ghost use Rattle.plan.specs.inner.Graph.{graphOf, Within};
+ghost use Rattle.plan_walks.specs.inner.Walks.{after, ahead, WalksTo};
+
+// A walk, and how many segments are behind when it ends.
+pub struct Walked {
+    pub walk: Walk,
+    pub next: usize,
+}
+
+// Whether the segment from a to b joins two vias.
+fn is_inner(vias: &[bool], a: u32, b: u32) -> bool
+    requires { ⌜ (a < length (now vias)) × (b < length (now vias)) ⌝ }
+    ensures { λ r. ⌜ r ≡ (getD (now (vias .entry)) a false && getD (now (vias .entry)) b false) ⌝ }
+{
+    let upper = a as usize;
+    let lower = b as usize;
+    vias[upper] && vias[lower]
+}
+
+// The walk over the inner segments from place `from` on, up to the first segment whose upper end does not come before `end`. It stops
+// at the first descent.
+fn walk_to(vias: &[bool], uppers: &[u32], lowers: &[u32], from: usize, end: usize) -> Walked
+    requires { ⌜ Within (now vias) (now uppers) (now lowers) ⌝ }
+    ensures { λ r. ⌜ WalksTo (now (vias .entry)) (now (uppers .entry)) (now (lowers .entry)) from end r ⌝ }
+{
+    let mut taken: usize = 0;
+    let mut last: u32 = 0;
+    let mut i = from;
+    while i < uppers.len() {
+        let upper = uppers[i];
+        let lower = lowers[i];
+        if end <= upper as usize {
+            return Walked {
+                walk: Walk {
+                    crossed: false,
+                    taken,
+                },
+                next: i,
+            };
+        }
+        if is_inner(vias, upper, lower) {
+            if lower < last {
+                return Walked {
+                    walk: Walk {
+                        crossed: true,
+                        taken: taken + 1,
+                    },
+                    next: i,
+                };
+            }
+            taken += 1;
+            last = lower;
+        }
+        i += 1;
+    }
+    Walked {
+        walk: Walk {
+            crossed: false,
+            taken,
+        },
+        next: i,
+    }
+}
+
+// 6: no two inner segments between the same levels have their ends in opposite orders. That is so exactly if the walk from no level
+// comes to a descent.
+pub fn check_inner(sizes: &[u16], vias: &[bool], uppers: &[u32], lowers: &[u32]) -> bool
+    requires { ⌜ (length (now sizes) ≤ maxLevels) × Within (now vias) (now uppers) (now lowers) ⌝ }
+    ensures { λ r. ⌜ (check3 (graphOf (now (sizes .entry)) (now (vias .entry)) (now (uppers .entry)) (now (lowers .entry))) ≡ true
+        → check4 (graphOf (now (sizes .entry)) (now (vias .entry)) (now (uppers .entry)) (now (lowers .entry))) ≡ true
+        → r ≡ check6 (graphOf (now (sizes .entry)) (now (vias .entry)) (now (uppers .entry)) (now (lowers .entry)))) ⌝ }
+{
+    let mut from: usize = 0;
+    let mut end: usize = 0;
+    let mut l: usize = 0;
+    while l < sizes.len() {
+        end += wide(sizes[l]);
+        let r = walk_to(vias, uppers, lowers, from, end);
+        let walk = r.walk;
+        if walk.crossed {
+            return false;
+        }
+        from = r.next;
+        l += 1;
+    }
+    true
+}
+
+// How many segments at the front have an upper end before `end`.
+fn count_before(uppers: &[u32], end: usize) -> usize
+    ensures { λ r. ⌜ ((lowers : List ℕ) → length (now (uppers .entry)) ≡ length lowers → r ≡ length (ahead end (after (now (uppers .entry)) lowers 0))) ⌝ }
+{
+    let mut i: usize = 0;
+    while i < uppers.len() {
+        let upper = uppers[i];
+        if end <= upper as usize {
+            return i;
+        }
+        i += 1;
+    }
+    i
+}
+
+// The walk from level l to the next.
+pub fn walk_from(sizes: &[u16], vias: &[bool], uppers: &[u32], lowers: &[u32], l: usize) -> Walk
+    requires { ⌜ (1 ≤ l) × (l ≤ length (now sizes)) × (length (now sizes) ≤ maxLevels) × Within (now vias) (now uppers) (now lowers) ⌝ }
+    ensures { λ r. ⌜ (check4 (graphOf (now (sizes .entry)) (now (vias .entry)) (now (uppers .entry)) (now (lowers .entry))) ≡ true
+        → r ≡ walk (graphOf (now (sizes .entry)) (now (vias .entry)) (now (uppers .entry)) (now (lowers .entry))) l) ⌝ }
+{
+    let start = total(&sizes[..l - 1]);
+    let end = total(&sizes[..l]);
+    let from = count_before(uppers, start);
+    let r = walk_to(vias, uppers, lowers, from, end);
+    r.walk
+}
