@@ -79,6 +79,9 @@ pub fn check_plan(sizes: &[u16], vias: &[bool], uppers: &[u32], lowers: &[u32]) 
         return failed;
     }
     let through = check_vias(vias, uppers, lowers);
+    if !through {
+        return 5;
+    }
     let apart = check_inner(sizes, vias, uppers, lowers);
     first_of(5, through, 6, apart)
 }

@@ -1,9 +1,10 @@
 -- `plan_checks::vias::count` meets its contract: by `Counting`, each count and what is still ahead make the whole.
-use Prim.Native.Nat.{_<_, _≤_, _-_}
-use mathlib.Core.Path.{_≡_, refl}
+use Prim.Native.Nat.{ℕ, _<_, _≤_, _-_}
+use mathlib.Core.List.{List}
+use mathlib.Core.Path.{_≡_, sym, _∙_, ap, subst}
 use borrow.Author.Needs.{needs}
 use native.Mathlib.Omega.{arith}
-use lib.ListN.{length, getD, length-set}
+use lib.ListN.{length, getD, length-set, length-replicate}
 use Rattle.plan.specs.Limits.{maxVertices}
 use Rattle.plan.proofs.CountLaws.{Counting, count-start, count-on, count-end, count-small}
 use Rattle.plan_checks.proofs.vias.count.Statement.{statement}
@@ -20,7 +21,9 @@ is-vertex : (c : tie.After-shared-slice-known Inv-loop μ-loop) → getD (c .bef
 is-vertex c = c .before .before .before .pre .0 (c .before .before .loop .i) (omega arith)
 
 loop-holds : tie.Need-loop-holds Inv-loop μ-loop
-loop-holds c = (omega arith, refl, count-start 1024 (c .args .ends .now))
+loop-holds c =
+    let e = c .pre .2 in
+    (omega arith, ap length e ∙ length-replicate {A = ℕ} maxVertices 0, subst (λ (ns : List ℕ). Counting (c .args .ends .now) ns 0) (sym e) (count-start maxVertices (c .args .ends .now)))
 
 cast-v : tie.Need-cast-v Inv-loop μ-loop
 cast-v c = omega (arith, is-vertex c)
@@ -28,35 +31,38 @@ cast-v c = omega (arith, is-vertex c)
 mul-counts : tie.Need-mul-counts Inv-loop μ-loop
 mul-counts c = omega (arith, is-vertex c)
 
-array-read-counts : tie.Need-array-read-counts Inv-loop μ-loop
-array-read-counts c = omega (arith, is-vertex c)
+mul-counts-2 : tie.Need-mul-counts-2 Inv-loop μ-loop
+mul-counts-2 c = omega (arith, is-vertex (c .before))
+
+slice-read-counts : tie.Need-slice-read-counts Inv-loop μ-loop
+slice-read-counts c = omega (arith, is-vertex (c .before), c .before .before .before .loop .inv .1)
 
 add-counts : tie.Need-add-counts Inv-loop μ-loop
 add-counts c =
-    let l = c .before .before .loop in
-    let v = getD (c .before .before .before .args .ends .now) (l .i) 0 in
-    let h : v < length (l .counts) = omega (arith, is-vertex c) in
-    omega (arith, count-small (c .before .before .before .args .ends .now) (l .counts) (l .i) (l .inv .2) v h)
+    let l = c .before .before .before .loop in
+    let xs = c .before .before .before .before .args .ends .now in
+    let h : getD xs (l .i) 0 < length (l .counts) = omega (arith, is-vertex (c .before), l .inv .1) in
+    omega (arith, count-small xs (l .counts) (l .i) (l .inv .2) (getD xs (l .i) 0) h, c .before .before .before .before .pre .1)
 
-mul-counts-2 : tie.Need-mul-counts-2 Inv-loop μ-loop
-mul-counts-2 c = omega (arith, is-vertex c)
-
-array-write-counts : tie.Need-array-write-counts Inv-loop μ-loop
-array-write-counts c = omega (arith, is-vertex c)
+slice-write-counts : tie.Need-slice-write-counts Inv-loop μ-loop
+slice-write-counts c = omega (arith, is-vertex (c .before), c .before .before .before .loop .inv .1)
 
 loop-again : tie.Need-loop-again Inv-loop μ-loop
 loop-again c =
-    let l = c .before .before .loop in
-    let xs = c .before .before .before .args .ends .now in
-    (omega arith, simp length-set (l .inv .1), count-on xs (l .counts) (l .i) (l .inv .2) (omega arith) (omega (arith, is-vertex c)))
+    let l = c .before .before .before .loop in
+    let xs = c .before .before .before .before .args .ends .now in
+    (omega arith, simp length-set (l .inv .1), count-on xs (l .counts) (l .i) (l .inv .2) (omega arith) (omega (arith, is-vertex (c .before), l .inv .1)))
+
+same-length : tie.Need-same-length Inv-loop μ-loop
+same-length c = c .before .loop .inv .1 ∙ sym (ap length (c .before .before .pre .2) ∙ length-replicate {A = ℕ} maxVertices 0)
 
 returns : tie.Need-returns Inv-loop μ-loop
 returns c =
     let l = c .before .loop in
-    record { long = l .inv .1; each = λ v h. count-end (c .before .before .args .ends .now) (l .counts) (l .i) (l .inv .2) (omega arith) v (omega arith) }
+    record { long = l .inv .1; each = λ v h. count-end (c .before .before .args .ends .now) (l .counts) (l .i) (l .inv .2) (omega arith) v (omega (arith, l .inv .1)) }
 
 pub count-spec : {M : Type 1} → statement M
 count-spec =
     tie.close
-    (tie.spec Inv-loop μ-loop loop-holds (λ c. search needs) (λ c. search needs) cast-v mul-counts array-read-counts add-counts
-    mul-counts-2 array-write-counts (λ c. search needs) (λ c. search needs) loop-again returns)
+    (tie.spec Inv-loop μ-loop loop-holds (λ c. search needs) (λ c. search needs) cast-v mul-counts slice-read-counts add-counts
+    mul-counts-2 slice-write-counts (λ c. search needs) (λ c. search needs) loop-again same-length returns)
