@@ -26,10 +26,10 @@ use Rattle.plan.proofs.Sound.{some-none, mem-numbers}
 use Rattle.plan.proofs.Crossings.{none-some, chosen-all, inner-chosen, walks-clear, clear-passes}
 
 -- ---- levels that no inner segment leaves
-pub chosen-none : {A : Type 0} (t : A → Bool) {xs : List A} → All (λ x. t x ≡ false) xs → chosen t xs ≡ []
+pub chosen-empty : {A : Type 0} (t : A → Bool) {xs : List A} → All (λ x. t x ≡ false) xs → chosen t xs ≡ []
 unfolding chosen
-chosen-none t all-nil = refl
-chosen-none t (all-cons h k) = rw (h, chosen-none t k)
+chosen-empty t all-nil = refl
+chosen-empty t (all-cons h k) = rw (h, chosen-empty t k)
 
 module _ (p : PlanData) where
   -- the upper end of a segment stands on level 1 or below, and there is a level below it
@@ -50,7 +50,7 @@ module _ (p : PlanData) where
 
   none-leaves : (most l : ℕ) → All (UpperWithin most) (innerSegments p) → (1 ≤ l → most ≤ l) → innerBelow p l ≡ []
   unfolding innerBelow
-  none-leaves most l h out = chosen-none (λ s. eqb (levelOf p (s .upper)) l) (all-map (λ s w. test (eqb (levelOf p (s .upper)) l)
+  none-leaves most l h out = chosen-empty (λ s. eqb (levelOf p (s .upper)) l) (all-map (λ s w. test (eqb (levelOf p (s .upper)) l)
       (λ e. let same = eqb-true (levelOf p (s .upper)) l e in absurd (omega (arith, w .one, w .many, out (omega (arith, w .one)))))
       (λ e. e)) h)
 

@@ -23,7 +23,7 @@ use Rattle.plan.proofs.All.{All, all-nil, all-cons, all-map}
 use Rattle.plan.proofs.LevelLaws.{level-between}
 use Rattle.plan.proofs.Levels.{level-in}
 use Rattle.plan.proofs.Crossings.{Pairs, pairs-none, pairs-more, Before, sorted}
-use Rattle.plan.proofs.Walks.{chosen-none}
+use Rattle.plan.proofs.Walks.{chosen-empty}
 use Rattle.plan_walks.specs.inner.Walks.{after, ahead}
 use Rattle.plan_walks.proofs.AfterLaws.{after-one, after-all}
 
@@ -100,7 +100,7 @@ module _ (t : Segment → Bool) (a b : ℕ) (low : (s : Segment) → s .upper < 
   unfolding chosen ahead
   chosen-front [] pairs-none all-nil = refl
   chosen-front (s ∷ ss) (pairs-more r rs) (all-cons k ks) = cases b (s .upper)
-      (λ h. rw (high s h, le-ltb (s .upper) b h) (chosen-none t (all-map (λ u w. high u (omega (arith, w .le))) r)))
+      (λ h. rw (high s h, le-ltb (s .upper) b h) (chosen-empty t (all-map (λ u w. high u (omega (arith, w .le))) r)))
       (λ h. rw (between s k h, lt-ltb (s .upper) b h, chosen-front ss rs ks))
 
   chosen-stretch : a ≤ b → (ss : List Segment) → Pairs Before ss → chosen t ss ≡ ahead b (drop (length (ahead a ss)) ss)

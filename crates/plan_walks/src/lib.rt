@@ -14,7 +14,7 @@ ghost use Rattle.plan.specs.inner.Graph.{graphOf, Within};
 ghost use Rattle.plan_walks.specs.inner.Walks.{after, ahead, WalksTo};
 
 // A walk, and how many segments are behind when it ends.
-pub struct Walked {
+pub struct WalkedTo {
     pub walk: Walk,
     pub next: usize,
 }
@@ -31,7 +31,7 @@ fn is_inner(vias: &[bool], a: u32, b: u32) -> bool
 
 // The walk over the inner segments from place `from` on, up to the first segment whose upper end does not come before `end`. It stops
 // at the first descent.
-fn walk_to(vias: &[bool], uppers: &[u32], lowers: &[u32], from: usize, end: usize) -> Walked
+fn walk_to(vias: &[bool], uppers: &[u32], lowers: &[u32], from: usize, end: usize) -> WalkedTo
     requires { ⌜ Within (now vias) (now uppers) (now lowers) ⌝ }
     ensures { λ r. ⌜ WalksTo (now (vias .entry)) (now (uppers .entry)) (now (lowers .entry)) from end r ⌝ }
 {
@@ -42,7 +42,7 @@ fn walk_to(vias: &[bool], uppers: &[u32], lowers: &[u32], from: usize, end: usiz
         let upper = uppers[i];
         let lower = lowers[i];
         if end <= upper as usize {
-            return Walked {
+            return WalkedTo {
                 walk: Walk {
                     crossed: false,
                     taken,
@@ -52,7 +52,7 @@ fn walk_to(vias: &[bool], uppers: &[u32], lowers: &[u32], from: usize, end: usiz
         }
         if is_inner(vias, upper, lower) {
             if lower < last {
-                return Walked {
+                return WalkedTo {
                     walk: Walk {
                         crossed: true,
                         taken: taken + 1,
@@ -65,7 +65,7 @@ fn walk_to(vias: &[bool], uppers: &[u32], lowers: &[u32], from: usize, end: usiz
         }
         i += 1;
     }
-    Walked {
+    WalkedTo {
         walk: Walk {
             crossed: false,
             taken,

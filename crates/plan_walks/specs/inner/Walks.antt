@@ -8,7 +8,7 @@ use lib.ListN.{length, drop}
 use Rattle.plan.specs.Segments.{Segment, segmentsFrom, innerIn}
 use Rattle.plan.specs.Walk.{walkFrom}
 use Rattle.plan.specs.inner.Graph.{graphOf}
-use Rattle.plan_walks.specs.declared.Walked.{Walked}
+use Rattle.plan_walks.specs.declared.WalkedTo.{WalkedTo}
 
 -- The segments after the first i.
 abbrev pub after : List ℕ → List ℕ → ℕ → List Segment
@@ -23,6 +23,6 @@ ahead end (s ∷ ss) =
 
 -- A walk over the inner ones of the segments after the first `from`, up to the first whose upper end does not come before `end`;
 -- where it comes to no descent, it ends there.
-pub record WalksTo (vias : List Bool) (uppers lowers : List ℕ) (from end : ℕ) (r : Walked) : Type 0 where
+pub record WalksTo (vias : List Bool) (uppers lowers : List ℕ) (from end : ℕ) (r : WalkedTo) : Type 0 where
   pub walk : r .walk ≡ walkFrom 0 0 (innerIn (graphOf [] vias uppers lowers) (ahead end (after uppers lowers from)))
   pub next : r .walk .crossed ≡ false → r .next ≡ from + length (ahead end (after uppers lowers from))
