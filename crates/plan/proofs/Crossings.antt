@@ -1,6 +1,6 @@
 -- Check 6 by walks: where check 4 holds, two inner segments cross exactly if the walk of some level comes to a descent. Segments are
 -- sorted by upper end, so of two that cross the one with the upper end on the left comes first, and both stand in the walk of
--- one level. Assumes nothing.
+-- one level. Where check 3 holds too, one walk may go on over all levels. Assumes nothing.
 use Prim.Native.Nat.{ℕ, _+_, _<_, _≤_}
 use mathlib.Core.Path.{_≡_, refl, sym, _∙_, ap}
 use mathlib.Core.Bool.{Bool, true, false, cond, not, _&&_}
@@ -11,11 +11,12 @@ use lib.Dec.{ltb, eqb}
 use Rattle.ints.specs.Lists.{chosen}
 use Rattle.ints.proofs.Laws.{cases, if-ind}
 use Rattle.ints.proofs.Tests.{test, and-left, and-right, cond-left, cond-right}
-use Rattle.plan.specs.Plan.{PlanData, levelOf}
+use Rattle.plan.specs.Plan.{PlanData, vertexCount, levelOf}
 use Rattle.plan.specs.Segments.{Segment, segmentsOf, isInner, innerIn, innerSegments}
-use Rattle.plan.specs.Checks.{any, comesBefore, rising, check4, crosses, check6}
+use Rattle.plan.specs.Checks.{any, goesOneDown, check3, comesBefore, rising, check4, crosses, check6}
 use Rattle.plan.specs.Walk.{innerBelow, walkFrom, walk}
-use Rattle.plan.proofs.All.{All, all-nil, all-cons, all-map, all-tail, no-true}
+use Rattle.plan.proofs.All.{All, all-nil, all-cons, all-map, all-tail, every-all, no-true}
+use Rattle.plan.proofs.LevelLaws.{level-rises}
 
 -- ---- Bool
 not-true : (b : Bool) → not b ≡ true → b ≡ false
@@ -206,24 +207,69 @@ module _ (p : PlanData) where
   unfolding check4 innerSegments
   inner-sorted c4 = rw inner-chosen (chosen-pairs (isInner p) (sorted (segmentsOf p) c4))
 
+  -- check 6 asks of any two inner segments from one level, in their order, that the lower end of the second stands no further left
+  abbrev Rising : Segment → Segment → Type 0
+  Rising s t = level t ≡ level s → s .lower ≤ t .lower
+
+  passes-rising : check4 p ≡ true → check6 p ≡ true → Pairs Rising (innerSegments p)
+  unfolding check6
+  passes-rising c4 c6 =
+      let inner = innerSegments p in
+      let two = all-map (λ s h. some-none (crosses p s) inner h) (some-none (λ s. any (crosses p s) inner) inner (not-true (any (λ s. any (crosses p s) inner) inner) c6)) in
+      pairs-map (λ s t w. no-fall s t (w .0) (w .1)) (pairs-both (inner-sorted c4) (in-order inner two))
+
+  rising-passes : check4 p ≡ true → Pairs Rising (innerSegments p) → check6 p ≡ true
+  unfolding check6
+  rising-passes c4 up =
+      let inner = innerSegments p in
+      let apart = pairs-map (λ s t w. rise-apart s t (w .0) (w .1)) (pairs-both (inner-sorted c4) up) in
+      let two = any-two {R = λ s t. crosses p s t ≡ false} self-apart apart in
+      ap not (none-some (λ s. any (crosses p s) inner) (all-map (λ s k. none-some (crosses p s) k) two))
+
+  -- ---- level by level
   pub walks-clear : check4 p ≡ true → check6 p ≡ true → (l : ℕ) → walk p l .crossed ≡ false
-  unfolding check6 walk innerBelow
+  unfolding walk innerBelow
   walks-clear c4 c6 l =
       let inner = innerSegments p in
       let on : Segment → Bool = λ s. eqb (level s) l in
-      let two = all-map (λ s h. some-none (crosses p s) inner h) (some-none (λ s. any (crosses p s) inner) inner (not-true (any (λ s. any (crosses p s) inner) inner) c6)) in
-      let up = pairs-map (λ s t w. no-fall s t (w .0) (w .1)) (pairs-both (inner-sorted c4) (in-order inner two)) in
       let same = chosen-same on inner in
-      let ups = pairs-with same (chosen-pairs on up) in
+      let ups = pairs-with same (chosen-pairs on (passes-rising c4 c6)) in
       rises 0 0 (chosen on inner)
       (pairs-map (λ s t w. w .1 (eqb-true (level t) l (w .0 .1) ∙ sym (eqb-true (level s) l (w .0 .0)))) ups)
       (all-map (λ s h. omega arith) same)
 
   pub clear-passes : check4 p ≡ true → ((l : ℕ) → walk p l .crossed ≡ false) → check6 p ≡ true
-  unfolding check6 walk innerBelow
+  unfolding walk innerBelow
   clear-passes c4 h =
+      rising-passes c4 (pairs-each {R = λ s t. s .lower ≤ t .lower} level (innerSegments p) (λ l. risen 0 0 (chosen (λ s. eqb (level s) l) (innerSegments p)) (h l) .1))
+
+  -- ---- all levels in one walk: a segment goes one level down, so from one level to the next no lower end stands further left
+  OneDown : Segment → Type 0
+  OneDown s = levelOf p (s .lower) ≡ levelOf p (s .upper) + 1
+
+  inner-down : check3 p ≡ true → All OneDown (innerSegments p)
+  unfolding check3 innerSegments OneDown
+  inner-down c3 =
+      let one : Segment → Bool = λ s. eqb (levelOf p (s .lower)) (levelOf p (s .upper) + 1) in
+      rw inner-chosen (chosen-all (isInner p) (all-map
+      (λ s e. eqb-true (levelOf p (s .lower)) (levelOf p (s .upper) + 1) (and-right (ltb (s .upper) (vertexCount p) && ltb (s .lower) (vertexCount p)) (one s) e))
+      (every-all (goesOneDown p) (segmentsOf p) c3)))
+
+  rising-on : (s t : Segment) → OneDown s → OneDown t → Before s t → Rising s t → s .lower ≤ t .lower
+  unfolding OneDown levelOf
+  rising-on s t d e b h = cases (s .lower) (t .lower)
+      (λ k. k)
+      (λ k. h (omega (arith, level-rises (p .sizes) (s .upper) (t .upper) (b .le), level-rises (p .sizes) (t .lower) (s .lower) (omega arith))))
+
+  -- where checks 3 and 4 hold, check 6 is one walk over the inner segments of all levels
+  pub check6-walk : check3 p ≡ true → check4 p ≡ true → check6 p ≡ not (walkFrom 0 0 (innerSegments p) .crossed)
+  check6-walk c3 c4 =
       let inner = innerSegments p in
-      let up = pairs-each {R = λ s t. s .lower ≤ t .lower} level inner (λ l. risen 0 0 (chosen (λ s. eqb (level s) l) inner) (h l) .1) in
-      let apart = pairs-map (λ s t w. rise-apart s t (w .0) (w .1)) (pairs-both (inner-sorted c4) up) in
-      let two = any-two {R = λ s t. crosses p s t ≡ false} self-apart apart in
-      ap not (none-some (λ s. any (crosses p s) inner) (all-map (λ s k. none-some (crosses p s) k) two))
+      let down = inner-down c3 in
+      test (walkFrom 0 0 inner .crossed)
+      (λ crossed. test (check6 p)
+      (λ six.
+      let up = pairs-map (λ s t w. rising-on s t (w .0 .0) (w .0 .1) (w .1 .0) (w .1 .1)) (pairs-with down (pairs-both (inner-sorted c4) (passes-rising c4 six))) in
+      no-true (sym (rises 0 0 inner up (all-map (λ t k. omega arith) down)) ∙ crossed))
+      (λ fails. fails ∙ sym (ap not crossed)))
+      (λ clear. rising-passes c4 (pairs-map (λ s t h e. h) (risen 0 0 inner clear .1)) ∙ sym (ap not clear))

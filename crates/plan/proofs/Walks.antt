@@ -19,7 +19,7 @@ use Rattle.plan.specs.Checks.{any, goesOneDown, check3, check4, check6}
 use Rattle.plan.specs.Acceptable.{limitsHold}
 use Rattle.plan.specs.Walk.{innerBelow, walkFrom, walk}
 use Rattle.plan.proofs.All.{All, all-nil, all-cons, all-map, every-all, no-true}
-use Rattle.plan.proofs.LevelLaws.{level-low, level-most, level-high}
+use Rattle.plan.proofs.LevelLaws.{level-low, level-high}
 use Rattle.plan.proofs.Levels.{all-numbers}
 use Rattle.plan.proofs.LimitLaws.{Limits, limits}
 use Rattle.plan.proofs.Sound.{some-none, mem-numbers}
@@ -57,12 +57,6 @@ module _ (p : PlanData) where
   none-crossed : (l : ℕ) → innerBelow p l ≡ [] → walk p l .crossed ≡ false
   unfolding walk walkFrom
   none-crossed l e = rw e
-
-  -- no walk from level 0 or from one below all others comes to a descent, however many vertices there are
-  pub outside-clear : check3 p ≡ true → (l : ℕ) → (1 ≤ l → length (p .sizes) < l) → walk p l .crossed ≡ false
-  unfolding levelOf
-  outside-clear c3 l h =
-      none-crossed l (none-leaves (length (p .sizes) + 1) l (uppers-within (length (p .sizes) + 1) (λ s k. level-most (p .sizes) (s .lower)) c3) (λ k. omega (arith, h k)))
 
   -- ---- check 6
   last-clear : Limits p → check3 p ≡ true → (l : ℕ) → (1 ≤ l → p .levels ≤ l) → walk p l .crossed ≡ false

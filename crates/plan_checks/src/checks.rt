@@ -82,6 +82,6 @@ pub fn check_plan(sizes: &[u16], vias: &[bool], uppers: &[u32], lowers: &[u32]) 
     if !through {
         return 5;
     }
-    let apart = check_inner(sizes, vias, uppers, lowers);
+    let apart = check_inner(vias, uppers, lowers);
     first_of(5, through, 6, apart)
 }

@@ -4,7 +4,6 @@ use Prim.Native.Nat.{ℕ, zero, suc, _+_, _<_, _≤_}
 use mathlib.Core.Path.{_≡_, refl, sym, _∙_, ap}
 use mathlib.Core.Bool.{Bool, true, false, _&&_}
 use mathlib.Core.List.{List, [], _∷_}
-use native.Mathlib.Nat.{zero-add}
 use native.Mathlib.Omega.{arith}
 use borrow.Author.Tests.{lt-ltb, le-ltb, eq-eqb, ne-eqb}
 use lib.Dec.{eqb}
@@ -17,7 +16,7 @@ use Rattle.plan.specs.Plan.{PlanData, levelOf}
 use Rattle.plan.specs.Segments.{Segment, segmentsFrom, segmentsOf, isInner, innerIn, innerSegments}
 use Rattle.plan.specs.Checks.{check4}
 use Rattle.plan.specs.Walk.{innerBelow, walkFrom, walk}
-use Rattle.plan.specs.inner.Graph.{graphOf}
+use Rattle.plan.specs.inner.Graph.{graphOf, Below}
 use Rattle.plan.specs.declared.walk.Walk.{Walk}
 use Rattle.plan.proofs.All.{All, all-nil, all-cons, all-map}
 use Rattle.plan.proofs.LevelLaws.{level-between}
@@ -81,18 +80,12 @@ after-drop (a ∷ «as») [] (suc i) = segments-none (drop i «as»)
 after-drop (a ∷ «as») (b ∷ bs) zero = refl
 after-drop (a ∷ «as») (b ∷ bs) (suc i) = after-drop «as» bs i
 
-ahead-none : (ss : List Segment) → ahead 0 ss ≡ []
-unfolding ahead
-ahead-none [] = refl
-ahead-none (s ∷ ss) = rw (le-ltb (s .upper) 0 (omega arith))
-
--- those before b are those before a and the next before b
-ahead-both : (a b : ℕ) → a ≤ b → (ss : List Segment) → length (ahead a ss) + length (ahead b (drop (length (ahead a ss)) ss)) ≡ length (ahead b ss)
-unfolding ahead
-ahead-both a b h [] = refl
-ahead-both a b h (s ∷ ss) = cases a (s .upper)
-    (λ k. rw (le-ltb (s .upper) a k) (zero-add (length (ahead b (s ∷ ss)))))
-    (λ k. rw (lt-ltb (s .upper) a k, lt-ltb (s .upper) b (omega arith)) (omega (arith, ahead-both a b h ss)))
+-- where every upper end comes before the end, all are ahead
+ahead-whole : (n : ℕ) («as» bs : List ℕ) → Below n «as» → ahead n (segmentsFrom «as» bs) ≡ segmentsFrom «as» bs
+unfolding ahead segmentsFrom
+ahead-whole n [] bs h = refl
+ahead-whole n (a ∷ «as») [] h = refl
+ahead-whole n (a ∷ «as») (b ∷ bs) h = rw (lt-ltb a n (h 0 (omega arith)), ahead-whole n «as» bs (λ i k. h (suc i) (omega arith)))
 
 module _ (t : Segment → Bool) (a b : ℕ) (low : (s : Segment) → s .upper < a → t s ≡ false) (high : (s : Segment) → b ≤ s .upper → t s ≡ false)
     (between : (s : Segment) → a ≤ s .upper → s .upper < b → t s ≡ true) where
@@ -130,10 +123,6 @@ module _ (sizes : List ℕ) (vias : List Bool) («as» bs : List ℕ) where
   abbrev pub leaving : ℕ → ℕ
   leaving k = length (ahead (sum (take k sizes)) (after «as» bs 0))
 
-  pub leaving-none : 0 ≡ leaving 0
-  unfolding sum
-  leaving-none = sym (ap length (ahead-none (after «as» bs 0)))
-
   module _ (k : ℕ) (h : k < length sizes) where
     abbrev here : Segment → Bool
     here s = eqb (levelOf graph (s .upper)) (suc k)
@@ -160,8 +149,9 @@ module _ (sizes : List ℕ) (vias : List Bool) («as» bs : List ℕ) where
         (omega (arith, take-more sizes k)) ss (sorted ss c4) in
         ap (walkFrom 0 0) (ap (innerIn (graphOf [] vias «as» bs)) (ap (ahead b) (after-drop «as» bs (leaving k)) ∙ sym whole) ∙ sym (inner-same (chosen here ss)) ∙ sym (inner-after graph here ss))
 
-    pub leaving-next : leaving k + length (ahead (sum (take (suc k) sizes)) (after «as» bs (leaving k))) ≡ leaving (suc k)
-    leaving-next =
-        let a = sum (take k sizes) in
-        let b = sum (take (suc k) sizes) in
-        ap (λ ss. leaving k + length (ahead b ss)) (after-drop «as» bs (leaving k)) ∙ ahead-both a b (omega (arith, take-more sizes k)) (segmentsFrom «as» bs)
+  -- the walk over all segments
+  pub walk-whole : Below (length vias) «as» → walkAt vias «as» bs (length vias) 0 0 0 ≡ walkFrom 0 0 (innerSegments graph)
+  unfolding innerSegments segmentsOf
+  walk-whole h =
+      ap (walkFrom 0 0) (ap (innerIn (graphOf [] vias «as» bs)) (ap (ahead (length vias)) (after-drop «as» bs 0) ∙ ahead-whole (length vias) «as» bs h)
+      ∙ sym (inner-same (segmentsFrom «as» bs)))

@@ -1,6 +1,5 @@
 // Check 6 of document 01 as walks from level to level (document 02, E3), over slices that are as long as the data.
 use ints::total;
-use ints::wide;
 use plan::walk::Walk;
 ghost use mathlib.Core.Path.{_≡_};
 ghost use mathlib.Core.Bool.{true, false, _&&_};
@@ -11,13 +10,7 @@ ghost use Rattle.plan.specs.Limits.{maxLevels};
 ghost use Rattle.plan.specs.Checks.{check3, check4, check6};
 ghost use Rattle.plan.specs.Walk.{walk};
 ghost use Rattle.plan.specs.inner.Graph.{graphOf, Within};
-ghost use Rattle.plan_walks.specs.inner.Walks.{after, ahead, WalksTo};
-
-// A walk, and how many segments are behind when it ends.
-pub struct WalkedTo {
-    pub walk: Walk,
-    pub next: usize,
-}
+ghost use Rattle.plan_walks.specs.inner.Walks.{after, ahead, walkTo};
 
 // Whether the segment from a to b joins two vias.
 fn is_inner(vias: &[bool], a: u32, b: u32) -> bool
@@ -31,9 +24,9 @@ fn is_inner(vias: &[bool], a: u32, b: u32) -> bool
 
 // The walk over the inner segments from place `from` on, up to the first segment whose upper end does not come before `end`. It stops
 // at the first descent.
-fn walk_to(vias: &[bool], uppers: &[u32], lowers: &[u32], from: usize, end: usize) -> WalkedTo
+fn walk_to(vias: &[bool], uppers: &[u32], lowers: &[u32], from: usize, end: usize) -> Walk
     requires { ⌜ Within (now vias) (now uppers) (now lowers) ⌝ }
-    ensures { λ r. ⌜ WalksTo (now (vias .entry)) (now (uppers .entry)) (now (lowers .entry)) from end r ⌝ }
+    ensures { λ r. ⌜ r ≡ walkTo (now (vias .entry)) (now (uppers .entry)) (now (lowers .entry)) from end ⌝ }
 {
     let mut taken: usize = 0;
     let mut last: u32 = 0;
@@ -42,22 +35,16 @@ fn walk_to(vias: &[bool], uppers: &[u32], lowers: &[u32], from: usize, end: usiz
         let upper = uppers[i];
         let lower = lowers[i];
         if end <= upper as usize {
-            return WalkedTo {
-                walk: Walk {
-                    crossed: false,
-                    taken,
-                },
-                next: i,
+            return Walk {
+                crossed: false,
+                taken,
             };
         }
         if is_inner(vias, upper, lower) {
             if lower < last {
-                return WalkedTo {
-                    walk: Walk {
-                        crossed: true,
-                        taken: taken + 1,
-                    },
-                    next: i,
+                return Walk {
+                    crossed: true,
+                    taken: taken + 1,
                 };
             }
             taken += 1;
@@ -65,37 +52,23 @@ fn walk_to(vias: &[bool], uppers: &[u32], lowers: &[u32], from: usize, end: usiz
         }
         i += 1;
     }
-    WalkedTo {
-        walk: Walk {
-            crossed: false,
-            taken,
-        },
-        next: i,
+    Walk {
+        crossed: false,
+        taken,
     }
 }
 
-// 6: no two inner segments between the same levels have their ends in opposite orders. That is so exactly if the walk from no level
-// comes to a descent.
-pub fn check_inner(sizes: &[u16], vias: &[bool], uppers: &[u32], lowers: &[u32]) -> bool
-    requires { ⌜ (length (now sizes) ≤ maxLevels) × Within (now vias) (now uppers) (now lowers) ⌝ }
-    ensures { λ r. ⌜ (check3 (graphOf (now (sizes .entry)) (now (vias .entry)) (now (uppers .entry)) (now (lowers .entry))) ≡ true
-        → check4 (graphOf (now (sizes .entry)) (now (vias .entry)) (now (uppers .entry)) (now (lowers .entry))) ≡ true
-        → r ≡ check6 (graphOf (now (sizes .entry)) (now (vias .entry)) (now (uppers .entry)) (now (lowers .entry)))) ⌝ }
+// 6: no two inner segments between the same levels have their ends in opposite orders. That is so exactly if the walk, level after
+// level, comes to no descent; it need not begin anew on each level, since by check 3 no segment of a level descends from one of the
+// level above.
+pub fn check_inner(vias: &[bool], uppers: &[u32], lowers: &[u32]) -> bool
+    requires { ⌜ Within (now vias) (now uppers) (now lowers) ⌝ }
+    ensures { λ r. ⌜ ((sizes : List ℕ) → check3 (graphOf sizes (now (vias .entry)) (now (uppers .entry)) (now (lowers .entry))) ≡ true
+        → check4 (graphOf sizes (now (vias .entry)) (now (uppers .entry)) (now (lowers .entry))) ≡ true
+        → r ≡ check6 (graphOf sizes (now (vias .entry)) (now (uppers .entry)) (now (lowers .entry)))) ⌝ }
 {
-    let mut from: usize = 0;
-    let mut end: usize = 0;
-    let mut l: usize = 0;
-    while l < sizes.len() {
-        end += wide(sizes[l]);
-        let r = walk_to(vias, uppers, lowers, from, end);
-        let walk = r.walk;
-        if walk.crossed {
-            return false;
-        }
-        from = r.next;
-        l += 1;
-    }
-    true
+    let walk = walk_to(vias, uppers, lowers, 0, vias.len());
+    !walk.crossed
 }
 
 // How many segments at the front have an upper end before `end`.
@@ -122,6 +95,5 @@ pub fn walk_from(sizes: &[u16], vias: &[bool], uppers: &[u32], lowers: &[u32], l
     let start = total(&sizes[..l - 1]);
     let end = total(&sizes[..l]);
     let from = count_before(uppers, start);
-    let r = walk_to(vias, uppers, lowers, from, end);
-    r.walk
+    walk_to(vias, uppers, lowers, from, end)
 }

@@ -30,7 +30,7 @@ walk-to-requires c κs = c .before .before .before .before .before .before .befo
 
 returns : tie.Need-returns
 returns c =
-    let s = c .before .before .before .before .before .before .before .before .before .before .before in
+    let s = c .before .before .before .before .before .before .before .before .before .before in
     let l = s .args .l in
     let sizes = s .args .sizes .now in
     let vias = s .args .vias .now in
@@ -38,11 +38,11 @@ returns c =
     let lowers = s .args .lowers .now in
     let at = walkAt vias uppers lowers in
     let again : suc (l - 1) ≡ l = omega (arith, s .pre .0) in
-    let start = c .before .before .before .before .before .total .ensures in
-    let end : c .before .before .before .total2 .result ≡ sum (take (suc (l - 1)) sizes) = c .before .before .before .total2 .ensures ∙ ap (λ (n : ℕ). sum (take n sizes)) (sym again) in
-    let from : c .before .before .count-before .result ≡ leaving sizes vias uppers lowers (l - 1) =
-    c .before .before .count-before .ensures lowers (s .pre .3 .ends) ∙ ap (λ (n : ℕ). length (ahead n (after uppers lowers 0))) start in
-    λ c4. c .before .walk-to .ensures .walk ∙ ap (λ (e : ℕ). at e (c .before .before .count-before .result) 0 0) end
+    let start = c .before .before .before .before .total .ensures in
+    let end : c .before .before .total2 .result ≡ sum (take (suc (l - 1)) sizes) = c .before .before .total2 .ensures ∙ ap (λ (n : ℕ). sum (take n sizes)) (sym again) in
+    let from : c .before .count-before .result ≡ leaving sizes vias uppers lowers (l - 1) =
+    c .before .count-before .ensures lowers (s .pre .3 .ends) ∙ ap (λ (n : ℕ). length (ahead n (after uppers lowers 0))) start in
+    λ c4. c .walk-to .ensures ∙ ap (λ (e : ℕ). at e (c .before .count-before .result) 0 0) end
     ∙ ap (λ (i : ℕ). at (sum (take (suc (l - 1)) sizes)) i 0 0) from ∙ walk-level sizes vias uppers lowers (l - 1) (omega (arith, s .pre .0, s .pre .1)) c4
     ∙ ap (walk (graph sizes vias uppers lowers)) again
 

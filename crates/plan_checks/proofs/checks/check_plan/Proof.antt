@@ -50,7 +50,7 @@ returns-2 c =
     fails-late (graph s) 5 (has .0) (has .1) (five-fails (graph s) (sym (c .before .check-vias .ensures (s .args .sizes .now)) ∙ not-true _ (c .if2 .taken)))
 
 check-inner-requires : tie.Need-check-inner-requires
-check-inner-requires c κs = (start (c .before .before .before) .pre .levels, within (c .before .before))
+check-inner-requires c κs = within (c .before .before)
 
 returns-3 : tie.Need-returns-3
 returns-3 c =
@@ -58,7 +58,7 @@ returns-3 c =
     let has = has-3-4 (c .before .before .before .before) in
     let sizes = s .args .sizes .now in
     fails-late (graph s) (c .first-of2 .result) (has .0) (has .1)
-    (rw (← c .before .before .before .check-vias .ensures sizes, ← c .before .check-inner .ensures (has .0) (has .1)) (c .first-of2 .ensures))
+    (rw (← c .before .before .before .check-vias .ensures sizes, ← c .before .check-inner .ensures sizes (has .0) (has .1)) (c .first-of2 .ensures))
 
 pub check-plan-spec : {M : Type 1} → statement M
 check-plan-spec =
