@@ -2,7 +2,7 @@
 -- first of a level on, up to the first of the next, are those that leave it. Assumes nothing.
 use Prim.Native.Nat.{ℕ, zero, suc, _+_, _<_, _≤_}
 use mathlib.Core.Path.{_≡_, refl, sym, _∙_, ap}
-use mathlib.Core.Bool.{Bool, true, false, _&&_}
+use mathlib.Core.Bool.{Bool, true, false, cond, _&&_}
 use mathlib.Core.List.{List, [], _∷_}
 use native.Mathlib.Omega.{arith}
 use borrow.Author.Tests.{lt-ltb, le-ltb, eq-eqb, ne-eqb}
@@ -49,17 +49,23 @@ module _ (vias : List Bool) («as» bs : List ℕ) (end i : ℕ) (e : length «a
   abbrev inner : Bool
   inner = getD vias (getD «as» i 0) false && getD vias (getD bs i 0) false
 
-  pub walk-skip : inner ≡ false → walkAt vias «as» bs end i taken last ≡ walkAt vias «as» bs end (i + 1) taken last
+  walk-skip : inner ≡ false → walkAt vias «as» bs end i taken last ≡ walkAt vias «as» bs end (i + 1) taken last
   unfolding innerIn
   walk-skip t = rw (ahead-on end «as» bs i e h k, t)
 
-  pub walk-on : inner ≡ true → last ≤ getD bs i 0 → walkAt vias «as» bs end i taken last ≡ walkAt vias «as» bs end (i + 1) (taken + 1) (getD bs i 0)
+  walk-on : inner ≡ true → last ≤ getD bs i 0 → walkAt vias «as» bs end i taken last ≡ walkAt vias «as» bs end (i + 1) (taken + 1) (getD bs i 0)
   unfolding innerIn walkFrom
   walk-on t m = rw (ahead-on end «as» bs i e h k, t, le-ltb (getD bs i 0) last m)
 
   pub walk-stop : inner ≡ true → getD bs i 0 < last → walkAt vias «as» bs end i taken last ≡ record { crossed = true; taken = taken + 1 }
   unfolding innerIn walkFrom
   walk-stop t m = rw (ahead-on end «as» bs i e h k, t, lt-ltb (getD bs i 0) last m)
+
+  -- t is whether the segment is inner
+  pub walk-go : (t : Bool) → t ≡ inner → (t ≡ true → last ≤ getD bs i 0)
+      → walkAt vias «as» bs end i taken last ≡ walkAt vias «as» bs end (i + 1) (cond t (taken + 1) taken) (cond t (getD bs i 0) last)
+  walk-go true q m = walk-on (sym q) (m refl)
+  walk-go false q m = walk-skip (sym q)
 
 pub walk-none : (p : PlanData) (taken last : ℕ) (ss : List Segment) → ss ≡ [] → walkFrom taken last (innerIn p ss) ≡ record { crossed = false; taken = taken }
 unfolding innerIn walkFrom
@@ -150,8 +156,8 @@ module _ (sizes : List ℕ) (vias : List Bool) («as» bs : List ℕ) where
         ap (walkFrom 0 0) (ap (innerIn (graphOf [] vias «as» bs)) (ap (ahead b) (after-drop «as» bs (leaving k)) ∙ sym whole) ∙ sym (inner-same (chosen here ss)) ∙ sym (inner-after graph here ss))
 
   -- the walk over all segments
-  pub walk-whole : Below (length vias) «as» → walkAt vias «as» bs (length vias) 0 0 0 ≡ walkFrom 0 0 (innerSegments graph)
+  pub walk-whole : (end : ℕ) → Below end «as» → walkAt vias «as» bs end 0 0 0 ≡ walkFrom 0 0 (innerSegments graph)
   unfolding innerSegments segmentsOf
-  walk-whole h =
-      ap (walkFrom 0 0) (ap (innerIn (graphOf [] vias «as» bs)) (ap (ahead (length vias)) (after-drop «as» bs 0) ∙ ahead-whole (length vias) «as» bs h)
+  walk-whole end h =
+      ap (walkFrom 0 0) (ap (innerIn (graphOf [] vias «as» bs)) (ap (ahead end) (after-drop «as» bs 0) ∙ ahead-whole end «as» bs h)
       ∙ sym (inner-same (segmentsFrom «as» bs)))

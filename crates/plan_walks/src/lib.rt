@@ -2,11 +2,11 @@
 use ints::total;
 use plan::walk::Walk;
 ghost use mathlib.Core.Path.{_≡_};
-ghost use mathlib.Core.Bool.{true, false, _&&_};
+ghost use mathlib.Core.Bool.{true, false, cond, _&&_};
 ghost use mathlib.Core.List.{List};
-ghost use Prim.Native.Nat.{ℕ, _<_, _≤_};
+ghost use Prim.Native.Nat.{ℕ, _+_, _<_, _≤_};
 ghost use lib.ListN.{length, getD};
-ghost use Rattle.plan.specs.Limits.{maxLevels};
+ghost use Rattle.plan.specs.Limits.{maxLevels, maxSegments};
 ghost use Rattle.plan.specs.Checks.{check3, check4, check6};
 ghost use Rattle.plan.specs.Walk.{walk};
 ghost use Rattle.plan.specs.inner.Graph.{graphOf, Within};
@@ -20,6 +20,21 @@ fn is_inner(vias: &[bool], a: u32, b: u32) -> bool
     let upper = a as usize;
     let lower = b as usize;
     vias[upper] && vias[lower]
+}
+
+// The lower end of the last inner segment: this one's if it is inner, else as before.
+fn latest(inner: bool, lower: u32, last: u32) -> u32
+    ensures { λ r. ⌜ r ≡ cond inner lower last ⌝ }
+{
+    if inner { lower } else { last }
+}
+
+// How many inner segments are taken: one more if this one is inner.
+fn counted(inner: bool, taken: usize) -> usize
+    requires { ⌜ taken < maxSegments ⌝ }
+    ensures { λ r. ⌜ r ≡ cond inner (taken + 1) taken ⌝ }
+{
+    if inner { taken + 1 } else { taken }
 }
 
 // The walk over the inner segments from place `from` on, up to the first segment whose upper end does not come before `end`. It stops
@@ -40,16 +55,15 @@ fn walk_to(vias: &[bool], uppers: &[u32], lowers: &[u32], from: usize, end: usiz
                 taken,
             };
         }
-        if is_inner(vias, upper, lower) {
-            if lower < last {
-                return Walk {
-                    crossed: true,
-                    taken: taken + 1,
-                };
-            }
-            taken += 1;
-            last = lower;
+        let inner = is_inner(vias, upper, lower);
+        if inner && lower < last {
+            return Walk {
+                crossed: true,
+                taken: taken + 1,
+            };
         }
+        taken = counted(inner, taken);
+        last = latest(inner, lower, last);
         i += 1;
     }
     Walk {
@@ -57,6 +71,9 @@ fn walk_to(vias: &[bool], uppers: &[u32], lowers: &[u32], from: usize, end: usiz
         taken,
     }
 }
+
+// An end that no u32 reaches: where it is given, the compiler leaves the test of the end out.
+const NO_END: usize = 1 << 32;
 
 // 6: no two inner segments between the same levels have their ends in opposite orders. That is so exactly if the walk, level after
 // level, comes to no descent; it need not begin anew on each level, since by check 3 no segment of a level descends from one of the
@@ -67,7 +84,7 @@ pub fn check_inner(vias: &[bool], uppers: &[u32], lowers: &[u32]) -> bool
         → check4 (graphOf sizes (now (vias .entry)) (now (uppers .entry)) (now (lowers .entry))) ≡ true
         → r ≡ check6 (graphOf sizes (now (vias .entry)) (now (uppers .entry)) (now (lowers .entry)))) ⌝ }
 {
-    let walk = walk_to(vias, uppers, lowers, 0, vias.len());
+    let walk = walk_to(vias, uppers, lowers, 0, NO_END);
     !walk.crossed
 }
 

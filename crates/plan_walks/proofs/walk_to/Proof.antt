@@ -1,15 +1,17 @@
 -- `plan_walks::walk_to` meets its contract: the walk from the i-th segment on, with what is taken so far, is the whole walk.
-use Prim.Native.Nat.{ℕ, _+_, _<_, _≤_, _-_}
+use Prim.Native.Nat.{ℕ, _+_, _≤_, _-_}
 use mathlib.Core.Logic.{⊎-elim}
 use mathlib.Core.Path.{_≡_, refl, sym, _∙_, ap}
 use native.Mathlib.Omega.{arith}
-use lib.ListN.{length}
-use mathlib.Core.Bool.{Bool, false}
+use lib.ListN.{length, getD}
+use mathlib.Core.Bool.{Bool, true, false, cond}
 use mathlib.Core.List.{List, []}
 use Rattle.plan.specs.inner.Graph.{graphOf}
+use Rattle.plan.proofs.All.{no-true}
 use Rattle.plan_walks.specs.inner.Walks.{after, ahead, walkTo}
-use Rattle.plan_walks.proofs.WalkLaws.{walkAt, ahead-all, ahead-end, walk-skip, walk-on, walk-stop, walk-none}
+use Rattle.plan_walks.proofs.WalkLaws.{walkAt, ahead-all, ahead-end, walk-go, walk-stop, walk-none}
 use borrow.Author.Needs.{needs}
+use borrow.Author.Tests.{ltb-true, ltb-false}
 use Rattle.plan_walks.proofs.walk_to.Statement.{statement}
 use Rattle.plan_walks.proofs.walk_to.Tie as tie
 
@@ -51,28 +53,37 @@ returns-2 c =
     let s = c .before .before .before .before .before .before .before .before .before .before .before in
     let l = c .before .before .before .before .before .before .before .loop in
     let joins = sym (c .before .before .is-inner .ensures) ∙ c .before .if2 .taken in
-    let stop = walk-stop (s .args .vias .now) (s .args .uppers .now) (s .args .lowers .now) (s .args .end) (l .i) (s .pre .ends) (omega arith) (c .before .before .before .if1 .left) (l .taken) (l .last) joins (c .if3 .taken) in
+    let stop = walk-stop (s .args .vias .now) (s .args .uppers .now) (s .args .lowers .now) (s .args .end) (l .i) (s .pre .ends) (omega arith) (c .before .before .before .if1 .left) (l .taken) (l .last) joins (ltb-true _ _ (c .if3 .taken)) in
     sym stop ∙ l .inv .1
+
+-- where the walk goes on, an inner segment's lower end is no less than the last one's
+kept : (c : tie.Joined2 Inv-loop μ-loop) → c .before .is-inner .result ≡ true
+    → c .before .before .before .before .before .before .loop .last ≤ getD (c .before .before .before .before .before .before .before .before .before .before .args .lowers .now) (c .before .before .before .before .before .before .loop .i) 0
+kept c q = ⊎-elim (λ w. ltb-false _ _ (w .1 .left)) (λ w. no-true (sym (w .left) ∙ q)) (c .if2 .came)
+
+counted-requires : tie.Need-counted-requires Inv-loop μ-loop
+counted-requires c κs =
+    let s = c .before .before .before .before .before .before .before .before .before .before in
+    omega (arith, c .before .before .before .before .before .before .loop .inv .0, s .pre .segments)
+
+one-more : (t : Bool) (n : ℕ) → cond t (n + 1) n ≤ n + 1
+one-more true n = omega arith
+one-more false n = omega arith
 
 loop-again : tie.Need-loop-again Inv-loop μ-loop
 loop-again c =
-    let s = c .before .before .before .before .before .before .before .before .before .before in
-    let l = c .before .before .before .before .before .before .loop in
+    let s = c .before .before .before .before .before .before .before .before .before .before .before .before in
+    let l = c .before .before .before .before .before .before .before .before .loop in
     let vias = s .args .vias .now in
     let uppers = s .args .uppers .now in
     let lowers = s .args .lowers .now in
     let end = s .args .end in
-    let here : l .i < length uppers = omega arith in
-    let early = c .before .before .if1 .left in
+    let inner = c .before .before .before .is-inner .result in
     let walk = walkAt vias uppers lowers end (l .i + 1) in
-    let inner = sym (c .before .is-inner .ensures) in (
-      ⊎-elim (λ w. omega (arith, w .2)) (λ w. omega (arith, w .1)) (c .if2 .came),
-      ⊎-elim
-          (λ w. ap (λ (n : ℕ). walk n (c .if2 .last)) (w .2) ∙ ap (walk (l .taken + 1)) (w .3)
-          ∙ sym (walk-on vias uppers lowers end (l .i) (s .pre .ends) here early (l .taken) (l .last) (inner ∙ w .0 .taken) (w .1 .left)) ∙ l .inv .1)
-          (λ w. ap (λ (n : ℕ). walk n (c .if2 .last)) (w .1) ∙ ap (walk (l .taken)) (w .2)
-          ∙ sym (walk-skip vias uppers lowers end (l .i) (s .pre .ends) here early (l .taken) (l .last) (inner ∙ w .0 .left)) ∙ l .inv .1)
-          (c .if2 .came),
+    let go = walk-go vias uppers lowers end (l .i) (s .pre .ends) (omega arith) (c .before .before .before .before .if1 .left) (l .taken) (l .last)
+    inner (c .before .before .before .is-inner .ensures) (kept (c .before .before)) in (
+      omega (arith, c .before .counted .ensures, one-more inner (l .taken)),
+      ap (λ (n : ℕ). walk n (c .latest .result)) (c .before .counted .ensures) ∙ ap (walk (cond inner (l .taken + 1) (l .taken))) (c .latest .ensures) ∙ sym go ∙ l .inv .1,
     )
 
 returns-3 : tie.Need-returns-3 Inv-loop μ-loop
@@ -86,5 +97,5 @@ pub walk-to-spec : {M : Type 1} → statement M
 walk-to-spec =
     tie.close
     (tie.spec Inv-loop μ-loop loop-holds (λ c. search needs) (λ c. search needs) (λ c. search needs) (λ c. search needs) cast-if1
-    returns is-inner-requires (λ c. search needs) returns-2 (λ c. search needs) (λ c. search needs) (λ c. search needs) loop-again
-    returns-3)
+    returns is-inner-requires (λ c. search needs) returns-2 counted-requires (λ c κs. search needs) (λ c. search needs) (λ c. search needs)
+    loop-again returns-3)
