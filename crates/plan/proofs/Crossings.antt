@@ -11,11 +11,12 @@ use lib.Dec.{ltb, eqb}
 use Rattle.ints.specs.Lists.{chosen}
 use Rattle.ints.proofs.Laws.{cases, if-ind}
 use Rattle.ints.proofs.Tests.{test, and-left, and-right, cond-left, cond-right}
-use Rattle.plan.specs.Plan.{PlanData, vertexCount, levelOf}
+use Rattle.plan.specs.Plan.{PlanData, levelOf}
 use Rattle.plan.specs.Segments.{Segment, segmentsOf, isInner, innerIn, innerSegments}
 use Rattle.plan.specs.Checks.{any, goesOneDown, check3, comesBefore, rising, check4, crosses, check6}
 use Rattle.plan.specs.Walk.{innerBelow, walkFrom, walk}
 use Rattle.plan.proofs.All.{All, all-nil, all-cons, all-map, all-tail, every-all, no-true}
+use Rattle.plan.proofs.GraphLaws.{Down, down-of}
 use Rattle.plan.proofs.LevelLaws.{level-rises}
 
 -- ---- Bool
@@ -208,19 +209,19 @@ module _ (p : PlanData) where
   inner-sorted c4 = rw inner-chosen (chosen-pairs (isInner p) (sorted (segmentsOf p) c4))
 
   -- check 6 asks of any two inner segments from one level, in their order, that the lower end of the second stands no further left
-  abbrev Rising : Segment → Segment → Type 0
-  Rising s t = level t ≡ level s → s .lower ≤ t .lower
+  abbrev Uncrossed : Segment → Segment → Type 0
+  Uncrossed s t = level t ≡ level s → s .lower ≤ t .lower
 
-  passes-rising : check4 p ≡ true → check6 p ≡ true → Pairs Rising (innerSegments p)
+  passes-uncrossed : check4 p ≡ true → check6 p ≡ true → Pairs Uncrossed (innerSegments p)
   unfolding check6
-  passes-rising c4 c6 =
+  passes-uncrossed c4 c6 =
       let inner = innerSegments p in
       let two = all-map (λ s h. some-none (crosses p s) inner h) (some-none (λ s. any (crosses p s) inner) inner (not-true (any (λ s. any (crosses p s) inner) inner) c6)) in
       pairs-map (λ s t w. no-fall s t (w .0) (w .1)) (pairs-both (inner-sorted c4) (in-order inner two))
 
-  rising-passes : check4 p ≡ true → Pairs Rising (innerSegments p) → check6 p ≡ true
+  uncrossed-passes : check4 p ≡ true → Pairs Uncrossed (innerSegments p) → check6 p ≡ true
   unfolding check6
-  rising-passes c4 up =
+  uncrossed-passes c4 up =
       let inner = innerSegments p in
       let apart = pairs-map (λ s t w. rise-apart s t (w .0) (w .1)) (pairs-both (inner-sorted c4) up) in
       let two = any-two {R = λ s t. crosses p s t ≡ false} self-apart apart in
@@ -233,7 +234,7 @@ module _ (p : PlanData) where
       let inner = innerSegments p in
       let on : Segment → Bool = λ s. eqb (level s) l in
       let same = chosen-same on inner in
-      let ups = pairs-with same (chosen-pairs on (passes-rising c4 c6)) in
+      let ups = pairs-with same (chosen-pairs on (passes-uncrossed c4 c6)) in
       rises 0 0 (chosen on inner)
       (pairs-map (λ s t w. w .1 (eqb-true (level t) l (w .0 .1) ∙ sym (eqb-true (level s) l (w .0 .0)))) ups)
       (all-map (λ s h. omega arith) same)
@@ -241,25 +242,18 @@ module _ (p : PlanData) where
   pub clear-passes : check4 p ≡ true → ((l : ℕ) → walk p l .crossed ≡ false) → check6 p ≡ true
   unfolding walk innerBelow
   clear-passes c4 h =
-      rising-passes c4 (pairs-each {R = λ s t. s .lower ≤ t .lower} level (innerSegments p) (λ l. risen 0 0 (chosen (λ s. eqb (level s) l) (innerSegments p)) (h l) .1))
+      uncrossed-passes c4 (pairs-each {R = λ s t. s .lower ≤ t .lower} level (innerSegments p) (λ l. risen 0 0 (chosen (λ s. eqb (level s) l) (innerSegments p)) (h l) .1))
 
   -- ---- all levels in one walk: a segment goes one level down, so from one level to the next no lower end stands further left
-  OneDown : Segment → Type 0
-  OneDown s = levelOf p (s .lower) ≡ levelOf p (s .upper) + 1
+  pub inner-down : check3 p ≡ true → All (Down p) (innerSegments p)
+  unfolding check3 innerSegments
+  inner-down c3 = rw inner-chosen (chosen-all (isInner p) (all-map (down-of p) (every-all (goesOneDown p) (segmentsOf p) c3)))
 
-  inner-down : check3 p ≡ true → All OneDown (innerSegments p)
-  unfolding check3 innerSegments OneDown
-  inner-down c3 =
-      let one : Segment → Bool = λ s. eqb (levelOf p (s .lower)) (levelOf p (s .upper) + 1) in
-      rw inner-chosen (chosen-all (isInner p) (all-map
-      (λ s e. eqb-true (levelOf p (s .lower)) (levelOf p (s .upper) + 1) (and-right (ltb (s .upper) (vertexCount p) && ltb (s .lower) (vertexCount p)) (one s) e))
-      (every-all (goesOneDown p) (segmentsOf p) c3)))
-
-  rising-on : (s t : Segment) → OneDown s → OneDown t → Before s t → Rising s t → s .lower ≤ t .lower
-  unfolding OneDown levelOf
-  rising-on s t d e b h = cases (s .lower) (t .lower)
+  uncrossed-on : (s t : Segment) → Down p s → Down p t → Before s t → Uncrossed s t → s .lower ≤ t .lower
+  unfolding levelOf
+  uncrossed-on s t d e b h = cases (s .lower) (t .lower)
       (λ k. k)
-      (λ k. h (omega (arith, level-rises (p .sizes) (s .upper) (t .upper) (b .le), level-rises (p .sizes) (t .lower) (s .lower) (omega arith))))
+      (λ k. h (omega (arith, d .one-down, e .one-down, level-rises (p .sizes) (s .upper) (t .upper) (b .le), level-rises (p .sizes) (t .lower) (s .lower) (omega arith))))
 
   -- where checks 3 and 4 hold, check 6 is one walk over the inner segments of all levels
   pub check6-walk : check3 p ≡ true → check4 p ≡ true → check6 p ≡ not (walkFrom 0 0 (innerSegments p) .crossed)
@@ -269,7 +263,7 @@ module _ (p : PlanData) where
       test (walkFrom 0 0 inner .crossed)
       (λ crossed. test (check6 p)
       (λ six.
-      let up = pairs-map (λ s t w. rising-on s t (w .0 .0) (w .0 .1) (w .1 .0) (w .1 .1)) (pairs-with down (pairs-both (inner-sorted c4) (passes-rising c4 six))) in
+      let up = pairs-map (λ s t w. uncrossed-on s t (w .0 .0) (w .0 .1) (w .1 .0) (w .1 .1)) (pairs-with down (pairs-both (inner-sorted c4) (passes-uncrossed c4 six))) in
       no-true (sym (rises 0 0 inner up (all-map (λ t k. omega arith) down)) ∙ crossed))
       (λ fails. fails ∙ sym (ap not crossed)))
-      (λ clear. rising-passes c4 (pairs-map (λ s t h e. h) (risen 0 0 inner clear .1)) ∙ sym (ap not clear))
+      (λ clear. uncrossed-passes c4 (pairs-map (λ s t h e. h) (risen 0 0 inner clear .1)) ∙ sym (ap not clear))

@@ -5,7 +5,7 @@ use mathlib.Core.Path.{_≡_, refl, sym, _∙_, ap}
 use mathlib.Core.Bool.{Bool, true, not, _&&_}
 use mathlib.Core.List.{List, [], _∷_}
 use native.Mathlib.Omega.{arith}
-use borrow.Author.Tests.{ltb-true, not-false}
+use borrow.Author.Tests.{ltb-true, eqb-true, not-false}
 use lib.Dec.{ltb, eqb}
 use lib.ListN.{length, getD}
 use Rattle.ints.specs.Lists.{chosen}
@@ -18,20 +18,31 @@ use Rattle.plan.specs.inner.Graph.{graphOf, segment, Within, InLimits}
 use Rattle.ints.proofs.Refusals.{none-at, two-pass, two-none, refusal-early, refusal-late}
 use Rattle.ints.proofs.Tests.{and-left, and-right, cond-left, cond-right}
 
--- ---- every end is a vertex
+-- ---- a segment joins two vertices, the lower one level below
 module _ (p : PlanData) where
-  ends-in : (s : Segment) → goesOneDown p s ≡ true → (s .upper < vertexCount p) × (s .lower < vertexCount p)
-  ends-in s e =
-      let n = vertexCount p in
-      let both = and-left (ltb (s .upper) n && ltb (s .lower) n) (eqb (levelOf p (s .lower)) (levelOf p (s .upper) + 1)) e in
-      (ltb-true (s .upper) n (and-left (ltb (s .upper) n) (ltb (s .lower) n) both), ltb-true (s .lower) n (and-right (ltb (s .upper) n) (ltb (s .lower) n) both))
+  pub record Down (s : Segment) : Type 0 where
+    pub upper-in : s .upper < vertexCount p
+    pub lower-in : s .lower < vertexCount p
+    pub one-down : levelOf p (s .lower) ≡ levelOf p (s .upper) + 1
+
+  pub down-of : (s : Segment) → goesOneDown p s ≡ true → Down s
+  down-of s e =
+      let up = ltb (s .upper) (vertexCount p) in let low = ltb (s .lower) (vertexCount p) in
+      let one = eqb (levelOf p (s .lower)) (levelOf p (s .upper) + 1) in
+      record {
+        upper-in = ltb-true (s .upper) (vertexCount p) (and-left up low (and-left (up && low) one e));
+        lower-in = ltb-true (s .lower) (vertexCount p) (and-right up low (and-left (up && low) one e));
+        one-down = eqb-true (levelOf p (s .lower)) (levelOf p (s .upper) + 1) (and-right (up && low) one e);
+      }
 
   below-both : («as» bs : List ℕ) → length «as» ≡ length bs → every (goesOneDown p) (segmentsFrom «as» bs) ≡ true
       → (i : ℕ) → i < length «as» → (getD «as» i 0 < vertexCount p) × (getD bs i 0 < vertexCount p)
   unfolding every segmentsFrom
   below-both [] bs e t i h = absurd (omega arith)
   below-both (a ∷ «as») [] e t i h = absurd (omega arith)
-  below-both (a ∷ «as») (b ∷ bs) e t zero h = ends-in (segment a b) (cond-left (goesOneDown p (segment a b)) (every (goesOneDown p) (segmentsFrom «as» bs)) t)
+  below-both (a ∷ «as») (b ∷ bs) e t zero h =
+      let d = down-of (segment a b) (cond-left (goesOneDown p (segment a b)) (every (goesOneDown p) (segmentsFrom «as» bs)) t) in
+      (d .upper-in, d .lower-in)
   below-both (a ∷ «as») (b ∷ bs) e t (suc i) h =
       below-both «as» bs (omega arith) (cond-right (goesOneDown p (segment a b)) (every (goesOneDown p) (segmentsFrom «as» bs)) t) i (omega arith)
 

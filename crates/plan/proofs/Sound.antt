@@ -1,13 +1,13 @@
 -- What the checks say of a plan that passes them, as plain facts: its limits, its levels, and its inner segments. Assumes nothing.
 use mathlib.Core.Path.{_≡_, refl, sym, _∙_, ap}
 use mathlib.Core.Logic.{_⊎_, inl, inr}
-use mathlib.Core.Bool.{Bool, true, false, cond, _&&_, true≢false}
+use mathlib.Core.Bool.{Bool, true, false, cond, true≢false}
 use mathlib.Core.List.{List, [], _∷_, _++_}
 use Prim.Native.Nat.{ℕ, zero, suc, _+_, _≤_, _<_}
 use native.Mathlib.Omega.{arith}
-use lib.Dec.{ltb, eqb}
+use lib.Dec.{eqb}
 use lib.ListN.{length}
-use borrow.Author.Tests.{ltb-true, eqb-true, lt-ltb, eq-eqb, not-true}
+use borrow.Author.Tests.{eqb-true, lt-ltb, eq-eqb, not-true}
 use Rattle.ints.specs.Refusals.{noneRefuses}
 use Rattle.ints.specs.inner.Members.{Mem}
 use Rattle.ints.proofs.Laws.{if-ind, cases}
@@ -18,7 +18,7 @@ use Rattle.plan.specs.inner.Graph.{Within}
 use Rattle.plan.specs.Acceptable.{limitsHold, acceptable}
 use Rattle.ints.proofs.Tests.{and-left, and-right, cond-left, cond-right}
 use Rattle.plan.proofs.LimitLaws.{Limits, limits}
-use Rattle.plan.proofs.GraphLaws.{within-of, checked, same-3}
+use Rattle.plan.proofs.GraphLaws.{Down, down-of, within-of, checked, same-3}
 
 -- ---- tests of members
 or-left : (a b : Bool) → cond a true b ≡ false → a ≡ false
@@ -84,11 +84,6 @@ distance-high p l v w = omega (arith, l .halves-high v, l .halves-high w)
 
 -- ---- segments
 module _ (p : PlanData) where
-  pub record Down (s : Segment) : Type 0 where
-    pub upper-in : s .upper < vertexCount p
-    pub lower-in : s .lower < vertexCount p
-    pub one-down : levelOf p (s .lower) ≡ levelOf p (s .upper) + 1
-
   pub inner-in : (ss : List Segment) (s : Segment) → Mem s (innerIn p ss) → Mem s ss × (isInner p s ≡ true)
   unfolding innerIn
   inner-in [] s m = absurd m
@@ -153,15 +148,7 @@ pub record Sound (p : PlanData) : Type 0 where
 
 pub goes : (p : PlanData) → check3 p ≡ true → (s : Segment) → Mem s (segmentsOf p) → Down p s
 unfolding check3
-goes p c s m =
-    let e = every-in (goesOneDown p) (segmentsOf p) s c m in
-    let up = ltb (s .upper) (vertexCount p) in let low = ltb (s .lower) (vertexCount p) in
-    let one = eqb (levelOf p (s .lower)) (levelOf p (s .upper) + 1) in
-    record {
-      upper-in = ltb-true (s .upper) (vertexCount p) (and-left up low (and-left (up && low) one e));
-      lower-in = ltb-true (s .lower) (vertexCount p) (and-right up low (and-left (up && low) one e));
-      one-down = eqb-true (levelOf p (s .lower)) (levelOf p (s .upper) + 1) (and-right (up && low) one e);
-    }
+goes p c s m = down-of p s (every-in (goesOneDown p) (segmentsOf p) s c m)
 
 pub one-each : (p : PlanData) → check5 p ≡ true → (v : ℕ) → v < vertexCount p → isVia p v ≡ true → (length (aboveIn (segmentsOf p) v) ≡ 1) × (length (belowIn (segmentsOf p) v) ≡ 1)
 unfolding check5 isThrough

@@ -2,28 +2,28 @@
 -- segments; of one that comes to a descent the last segment taken descends and none before it does. Assumes nothing.
 use Prim.Native.Nat.{ℕ, zero, suc, _+_, _-_, _<_, _≤_}
 use mathlib.Core.Path.{_≡_, refl, sym, _∙_, ap}
-use mathlib.Core.Bool.{Bool, true, false, not, _&&_}
+use mathlib.Core.Bool.{Bool, true, false, not}
 use mathlib.Core.List.{List, [], _∷_, map}
 use native.Mathlib.Nat.{zero-add}
 use native.Mathlib.Omega.{arith}
 use native.Mathlib.Numerals.{add-one}
-use borrow.Author.Tests.{lt-ltb, le-ltb, eqb-true, ltb-true}
-use lib.Dec.{ltb, eqb}
+use borrow.Author.Tests.{lt-ltb, le-ltb, eqb-true}
+use lib.Dec.{eqb}
 use lib.ListN.{length, getD, length-map}
 use Rattle.ints.specs.Lists.{chosen}
 use Rattle.ints.proofs.Laws.{cases}
-use Rattle.ints.proofs.Tests.{test, and-left, and-right}
+use Rattle.ints.proofs.Tests.{test}
 use Rattle.plan.specs.Plan.{PlanData, vertexCount, numbers, levelOf}
-use Rattle.plan.specs.Segments.{Segment, segmentsOf, isInner, innerSegments}
-use Rattle.plan.specs.Checks.{any, goesOneDown, check3, check4, check6}
+use Rattle.plan.specs.Segments.{Segment, innerSegments}
+use Rattle.plan.specs.Checks.{any, check3, check4, check6}
 use Rattle.plan.specs.Acceptable.{limitsHold}
 use Rattle.plan.specs.Walk.{innerBelow, walkFrom, walk}
-use Rattle.plan.proofs.All.{All, all-nil, all-cons, all-map, every-all, no-true}
+use Rattle.plan.proofs.All.{All, all-nil, all-cons, all-map, no-true}
 use Rattle.plan.proofs.LevelLaws.{level-low, level-high}
 use Rattle.plan.proofs.Levels.{all-numbers}
 use Rattle.plan.proofs.LimitLaws.{Limits, limits}
 use Rattle.plan.proofs.Sound.{some-none, mem-numbers}
-use Rattle.plan.proofs.Crossings.{none-some, chosen-all, inner-chosen, walks-clear, clear-passes}
+use Rattle.plan.proofs.Crossings.{none-some, inner-down, walks-clear, clear-passes}
 
 -- ---- levels that no inner segment leaves
 pub chosen-empty : {A : Type 0} (t : A → Bool) {xs : List A} → All (λ x. t x ≡ false) xs → chosen t xs ≡ []
@@ -38,15 +38,10 @@ module _ (p : PlanData) where
     pub many : levelOf p (s .upper) + 1 ≤ most
 
   uppers-within : (most : ℕ) → ((s : Segment) → s .lower < vertexCount p → levelOf p (s .lower) ≤ most) → check3 p ≡ true → All (UpperWithin most) (innerSegments p)
-  unfolding check3 innerSegments levelOf
-  uppers-within most h c3 =
-      let one : Segment → Bool = λ s. eqb (levelOf p (s .lower)) (levelOf p (s .upper) + 1) in
-      rw inner-chosen (chosen-all (isInner p) (all-map (λ s e.
-      let ends = and-left (ltb (s .upper) (vertexCount p) && ltb (s .lower) (vertexCount p)) (one s) e in
-      let down = eqb-true (levelOf p (s .lower)) (levelOf p (s .upper) + 1) (and-right (ltb (s .upper) (vertexCount p) && ltb (s .lower) (vertexCount p)) (one s) e) in
-      let below = h s (ltb-true (s .lower) (vertexCount p) (and-right (ltb (s .upper) (vertexCount p)) (ltb (s .lower) (vertexCount p)) ends)) in
-      record { one = level-low (p .sizes) (s .upper); many = omega arith })
-      (every-all (goesOneDown p) (segmentsOf p) c3)))
+  unfolding levelOf
+  uppers-within most h c3 = all-map
+      (λ s d. record { one = level-low (p .sizes) (s .upper); many = omega (arith, d .one-down, h s (d .lower-in)) })
+      (inner-down p c3)
 
   none-leaves : (most l : ℕ) → All (UpperWithin most) (innerSegments p) → (1 ≤ l → most ≤ l) → innerBelow p l ≡ []
   unfolding innerBelow

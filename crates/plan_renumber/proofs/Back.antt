@@ -16,7 +16,8 @@ use Rattle.plan.specs.Checks.{check3, check4}
 use Rattle.plan.specs.Acceptable.{limitsHold}
 use Rattle.plan.proofs.LimitLaws.{limits}
 use Rattle.plan.proofs.SegmentLaws.{uppers-again, lowers-again}
-use Rattle.plan.proofs.Sound.{Down, goes}
+use Rattle.plan.proofs.GraphLaws.{Down}
+use Rattle.plan.proofs.Sound.{goes}
 use Rattle.plan_renumber.specs.Renumber.{placeIn, inverse, segmentKey, moved, movedSegments, renumbered}
 use Rattle.plan_renumber.proofs.Places.{new-below, old-new, inverse-long, inverse-once, inverse-at, inverse-new, place-number, map-at}
 use Rattle.plan_renumber.proofs.Own.{Own, new-level}

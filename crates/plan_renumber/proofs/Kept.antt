@@ -23,7 +23,8 @@ use Rattle.ints.proofs.Tests.{_and_}
 use Rattle.plan.proofs.CountLaws.{by-same}
 use Rattle.plan.proofs.LimitLaws.{limit-tests, limits-hold, Limits, limits}
 use Rattle.plan.proofs.SegmentLaws.{segments-again, segments-count}
-use Rattle.plan.proofs.Sound.{Down, goes, every-in, every-make, mem-numbers, numbers-mem}
+use Rattle.plan.proofs.GraphLaws.{Down}
+use Rattle.plan.proofs.Sound.{goes, every-in, every-make, mem-numbers, numbers-mem}
 use Rattle.plan_renumber.specs.Renumber.{placeIn, segmentKey, moved, movedSegments, renumbered}
 use Rattle.plan_renumber.specs.inner.Words.{Once}
 use Rattle.plan_renumber.proofs.Places.{new-below, old-new, new-old, new-same}

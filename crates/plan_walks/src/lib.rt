@@ -1,4 +1,5 @@
-// Check 6 of document 01 as walks from level to level (document 02, E3), over slices that are as long as the data.
+// The walk from a level to the next (document 02, E3), and check 6 of document 01 as that walk over all levels; over slices that are
+// as long as the data.
 use ints::total;
 use plan::walk::Walk;
 ghost use mathlib.Core.Path.{_≡_};

@@ -17,7 +17,8 @@ use Rattle.plan.specs.inner.Graph.{segment}
 use Rattle.plan.proofs.Levels.{length-numbers}
 use Rattle.plan.proofs.LimitLaws.{Limits, limits}
 use Rattle.plan.proofs.SegmentLaws.{segment-at, segments-count}
-use Rattle.plan.proofs.Sound.{Down, goes}
+use Rattle.plan.proofs.GraphLaws.{Down}
+use Rattle.plan.proofs.Sound.{goes}
 use Rattle.text.specs.Bytes.{bytes}
 use Rattle.text.specs.Decimal.{decimal}
 use Rattle.text.specs.Writing.{planLine, vertexWords, levelLineOf, segmentLineOf, linesOf}
