@@ -1,4 +1,4 @@
-//! Placing one run by single half steps: document 01's definition, word for word and slow.
+//! Placing one run by single half steps: document 01's definition, with E4's start, word for word and slow.
 
 use crate::place_run::{start_of, Run};
 

@@ -94,7 +94,8 @@ impl Placer {
         self.start[run.boxes()] = from;
     }
 
-    /// Puts every box where it stands alone.
+    /// Puts every box where it stands alone. A start moves along with the positions that it comes from, rounded or not, so
+    /// it may be worked out in run coordinates.
     fn start_boxes(&mut self, run: &Run) {
         let last = run.boxes() - 1;
         let lowest = run.lowest(0).unwrap_or(i64::MIN);

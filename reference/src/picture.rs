@@ -196,7 +196,7 @@ mod tests {
         svg.replace(STYLE, "").lines().map(str::to_string).collect()
     }
 
-    /// Case 1 of document 01: positions -5, 11, -5, 8 and -5, spacing 10, the measure 2 + 2 × 3.
+    /// Case 1 of document 01, with E4: positions -5, 11, -5, 8 and 1, spacing 10, the measure 2 + 2 × 3.
     #[test]
     fn a_whole_document() {
         let plan = "(plan 3 2 10)\n(level (box 3) (box 3))\n(level (via) (box 3))\n(level (box 3))\n(seg 0 2)\n(seg 1 3)\n(seg 2 4)\n(seg 3 4)\n(end)\n";
@@ -207,8 +207,8 @@ mod tests {
                 "<g class=\"lines\" stroke-width=\"0.16\">",
                 "<line x1=\"-2.5\" y1=\"0\" x2=\"-2.5\" y2=\"10\"/>",
                 "<line x1=\"5.5\" y1=\"0\" x2=\"4\" y2=\"10\"/>",
-                "<line x1=\"-2.5\" y1=\"10\" x2=\"-2.5\" y2=\"20\"/>",
-                "<line x1=\"4\" y1=\"10\" x2=\"-2.5\" y2=\"20\"/>",
+                "<line x1=\"-2.5\" y1=\"10\" x2=\"0.5\" y2=\"20\"/>",
+                "<line x1=\"4\" y1=\"10\" x2=\"0.5\" y2=\"20\"/>",
                 "</g>",
                 "<g class=\"bends\">",
                 "<circle id=\"v2\" cx=\"-2.5\" cy=\"10\" r=\"0.28\"/>",
@@ -220,8 +220,8 @@ mod tests {
                  <text x=\"5.5\" y=\"0\" dy=\".35em\" font-size=\"1.6\">1</text></g>",
                 "<g id=\"v3\"><title>3</title><rect x=\"1\" y=\"8.4\" width=\"6\" height=\"3.2\"/>\
                  <text x=\"4\" y=\"10\" dy=\".35em\" font-size=\"1.6\">3</text></g>",
-                "<g id=\"v4\"><title>4 a&lt;b</title><rect x=\"-5.5\" y=\"18.4\" width=\"6\" height=\"3.2\"/>\
-                 <text x=\"-2.5\" y=\"20\" dy=\".35em\" font-size=\"0.8\">a&lt;b</text></g>",
+                "<g id=\"v4\"><title>4 a&lt;b</title><rect x=\"-2.5\" y=\"18.4\" width=\"6\" height=\"3.2\"/>\
+                 <text x=\"0.5\" y=\"20\" dy=\".35em\" font-size=\"0.8\">a&lt;b</text></g>",
                 "</g>",
                 "</svg>",
             ]

@@ -130,10 +130,11 @@ impl<'a> Run<'a> {
     }
 }
 
-/// Where a lone box starts before its bounds apply: at the ⌈s/2⌉-th of its s neighbours, or where it stood.
+/// Where a lone box starts before its bounds apply: halfway between the two middle ones of its s neighbours, rounded
+/// toward minus infinity (document 02, E4), or where it stood if it has none. If s is odd, the two are one.
 pub(crate) fn start_of(neighbours: &[i64], old: i64) -> i64 {
     match neighbours.len() {
         0 => old,
-        s => neighbours[s.div_ceil(2) - 1],
+        s => (neighbours[(s - 1) / 2] + neighbours[s / 2]).div_euclid(2),
     }
 }

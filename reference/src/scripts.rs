@@ -2,7 +2,7 @@
 //!
 //! A script is answered while it is made, so that its commands know how many lines, marks and entries there are to ask for
 //! or to alter. Scripts come with the commands of no request, of E1 (tangled loads, and pokes of what a sheet remembers), of
-//! E1 and E2 (also lines of the text as it was read) or of E1 to E3 (also walks along a level).
+//! E1 and E2 (also lines of the text as it was read) or of E1 to E3 (also walks along a level). E4 has none of its own.
 
 use crate::generate::generate;
 use crate::pokes::{self, Damage};
@@ -361,7 +361,7 @@ mod tests {
     use crate::script;
 
     /// How many requests there are the commands of.
-    const LANDED: u32 = 3;
+    const LANDED: u32 = 4;
 
     #[test]
     fn lines_that_are_no_commands() {

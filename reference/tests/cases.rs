@@ -1,7 +1,7 @@
-//! The cases and edges of document 01, and the text's form.
+//! The cases and edges of document 01, cases 1 and 3 as document 02 has them with E4, more of E4, and the text's form.
 
-use reference::place_run::{place_run, Run};
-use reference::{half_steps, report, text};
+use reference::place_run::{place_run, Run, MAX_POSITION};
+use reference::{half_steps, preliminary, report, text};
 
 fn answer(text: &str) -> String {
     String::from_utf8(report::answer(text.as_bytes())).expect("a report is ASCII")
@@ -31,11 +31,11 @@ fn case_1() {
 (at 1 8 11 0)
 (at 2 -5 -5 10)
 (at 3 5 8 10)
-(at 4 0 -5 20)
+(at 4 0 1 20)
 (place 1 1 (0 -8) (1 8))
 (place 1 2 (3 8))
-(place 1 3 (4 -5))
-(place 2 3 (4 -5))
+(place 1 3 (4 1))
+(place 2 3 (4 1))
 (place 2 2 (3 8))
 (place 2 1 (0 -5) (1 11))
 (end)
@@ -50,19 +50,30 @@ fn case_2() {
 }
 
 /// Places a run by the call and by half steps; they must agree.
-fn placed(left: Option<i64>, old: &[i64], distances: &[i64], neighbours: &[&[i64]]) -> Vec<i64> {
+fn placed_between(
+    left: Option<i64>,
+    right: Option<i64>,
+    old: &[i64],
+    distances: &[i64],
+    neighbours: &[&[i64]],
+) -> Vec<i64> {
     let counts: Vec<usize> = neighbours.iter().map(|own| own.len()).collect();
     let flat = neighbours.concat();
     let mut answer = vec![0; old.len()];
-    place_run(old.len(), left, None, old, distances, &counts, &flat, &mut answer).expect("acceptable");
-    let run = Run { left, right: None, old, distances, counts: &counts, neighbours: &flat };
+    place_run(old.len(), left, right, old, distances, &counts, &flat, &mut answer).expect("acceptable");
+    let run = Run { left, right, old, distances, counts: &counts, neighbours: &flat };
     assert_eq!(half_steps::place(&run).0, answer);
     answer
 }
 
+/// The same without a right bound.
+fn placed(left: Option<i64>, old: &[i64], distances: &[i64], neighbours: &[&[i64]]) -> Vec<i64> {
+    placed_between(left, None, old, distances, neighbours)
+}
+
 #[test]
 fn case_3() {
-    assert_eq!(placed(None, &[0], &[], &[&[4, 10]]), [4]);
+    assert_eq!(placed(None, &[0], &[], &[&[4, 10]]), [7]);
 }
 
 #[test]
@@ -95,6 +106,100 @@ fn case_8() {
 fn case_9() {
     let text = "(plan 2 1 1)\n(level (box 1))\n(level (box 1))\n(seg 0 1)\n(seg 0 1)\n(end)\n";
     assert_eq!(answer(text), "(refused 4)\n");
+}
+
+/// Where a lone box without bounds stands, away from where it stood.
+fn lone(neighbours: &[i64]) -> i64 {
+    placed(None, &[777], &[], &[neighbours])[0]
+}
+
+#[test]
+fn a_lone_box_between_two_feeds_stands_halfway() {
+    assert_eq!(lone(&[4, 9]), 6);
+    assert_eq!(lone(&[-5, 2]), -2);
+    assert_eq!(lone(&[-9, -4]), -7);
+    assert_eq!(lone(&[-10, -4]), -7);
+    assert_eq!(lone(&[-3, 3]), 0);
+    assert_eq!(lone(&[-1, 0]), -1);
+    assert_eq!(lone(&[0, 1]), 0);
+    assert_eq!(lone(&[-6, -6]), -6);
+}
+
+#[test]
+fn of_more_neighbours_only_the_middle_two_count() {
+    assert_eq!(lone(&[-1_000, 4, 9, 10]), 6);
+    assert_eq!(lone(&[-6, -5, 2, 1_000]), -2);
+    assert_eq!(lone(&[-100, -90, -8, -3, 0, 1]), -6);
+    assert_eq!(lone(&[0, 0, 0, 1, 1, 1]), 0);
+}
+
+#[test]
+fn an_odd_number_of_neighbours_has_one_in_the_middle() {
+    assert_eq!(lone(&[-3]), -3);
+    assert_eq!(lone(&[-5, 2, 9]), 2);
+    assert_eq!(lone(&[-9, -8, -7, 100, 101]), -7);
+}
+
+#[test]
+fn halfway_at_the_largest_positions() {
+    let most = MAX_POSITION;
+    assert_eq!(lone(&[most, most]), most);
+    assert_eq!(lone(&[-most, -most]), -most);
+    assert_eq!(lone(&[most - 1, most]), most - 1);
+    assert_eq!(lone(&[-most, 1 - most]), -most);
+    assert_eq!(lone(&[-most, most]), 0);
+    assert_eq!(lone(&[-most, most - 1]), -1);
+}
+
+/// A box with neighbours -5 and 2 starts at -2, one with 0 and 20 at 10. The bounds hold the start, not the neighbours
+/// that it comes from.
+#[test]
+fn bounds_apply_to_the_start() {
+    let held =
+        |left, right, distances: &[i64], near: [i64; 2]| placed_between(left, right, &[777], distances, &[&near]);
+    assert_eq!(held(Some(-4), None, &[2], [-5, 2]), [-2]);
+    assert_eq!(held(Some(-3), None, &[2], [-5, 2]), [-1]);
+    assert_eq!(held(None, Some(0), &[2], [-5, 2]), [-2]);
+    assert_eq!(held(None, Some(-1), &[2], [-5, 2]), [-3]);
+    assert_eq!(held(Some(-9), Some(9), &[2, 3], [-5, 2]), [-2]);
+    assert_eq!(held(Some(-9), Some(-3), &[2, 3], [-5, 2]), [-6]);
+    assert_eq!(held(Some(-3), Some(9), &[2, 3], [-5, 2]), [-1]);
+    assert_eq!(held(Some(4), Some(40), &[2, 3], [0, 20]), [10]);
+    assert_eq!(held(Some(-40), Some(16), &[2, 3], [0, 20]), [10]);
+}
+
+/// Runs of three have one box in the left half and two in the right one, which is cut again. In the last run the first box
+/// goes from -2 to its neighbour at -5 at no cost; the half step that is missing then is the others'.
+#[test]
+fn a_lone_box_that_is_a_half_starts_halfway_too() {
+    assert_eq!(placed(None, &[0, 0], &[4], &[&[0, 10], &[0, 10]]), [5, 9]);
+    assert_eq!(placed(None, &[0; 3], &[1, 1], &[&[-5, 2], &[0, 3], &[1, 4]]), [-2, 1, 2]);
+    assert_eq!(placed(Some(-8), &[0; 3], &[2, 2, 9], &[&[-5, 2], &[-9, -4], &[0, 11]]), [-5, -3, 6]);
+}
+
+/// The class of level 2 has four segments to the box of level 1. The wide box of level 3 holds the two cables 12 steps
+/// apart, so the middle two of the four, 2 and 3, are 10 steps apart where all is pushed to the left, and 2 where all is
+/// pushed to the right: halving would shift the class elsewhere.
+#[test]
+fn class_shifts_keep_their_rule() {
+    let text = "\
+(plan 4 1 1)
+(level (box 1))
+(level (via) (box 1) (via) (box 1))
+(level (via) (box 5) (via))
+(level (box 1))
+(seg 0 1)
+(seg 0 2)
+(seg 0 3)
+(seg 0 4)
+(seg 1 5)
+(seg 3 7)
+(seg 5 8)
+(seg 7 8)
+(end)
+";
+    let plan = text::read(text.as_bytes()).expect("acceptable");
+    assert_eq!(preliminary::positions(&plan), [0, -22, -10, 2, 6, -22, -10, 2, -10]);
 }
 
 fn one_level(head: &str, boxes: usize) -> String {

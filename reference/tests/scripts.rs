@@ -14,7 +14,7 @@ fn scripts() -> Vec<PathBuf> {
 #[test]
 fn answers_are_those_of_the_vectors() {
     let scripts = scripts();
-    assert_eq!(scripts.len(), 109);
+    assert_eq!(scripts.len(), 138);
     for file in scripts {
         let expected = fs::read(file.with_extension("answers")).expect("answers");
         assert!(script::answers(&fs::read(&file).expect("a script")) == expected, "{}", file.display());

@@ -96,7 +96,7 @@ fn draw_keeps_the_plan_and_may_be_repeated() {
     let mut sheet = drawn();
     assert_eq!(sheet.stage, Stage::Drawn { vertices: 5, segments: 4, placings: 6 });
     assert!(sheet.plan == loaded().plan);
-    assert_eq!(sheet.drawing.position[..VERTICES], [-5, 11, -5, 8, -5]);
+    assert_eq!(sheet.drawing.position[..VERTICES], [-5, 11, -5, 8, 1]);
     assert_eq!(sheet.drawing.placings[1], StoredPlacing { pass: 1, level: 2, boxes: 1 });
     assert_eq!(sheet.drawing.placings[PLACINGS], StoredPlacing::default());
     assert_eq!(sheet.drawing.boxes[LISTED - 1], StoredBox { vertex: 1, position: 11 });
