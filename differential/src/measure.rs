@@ -19,8 +19,38 @@ pub fn median(mut values: Vec<f64>) -> f64 {
 }
 
 /// The least of some times.
-pub fn least(values: Vec<f64>) -> f64 {
+fn least(values: Vec<f64>) -> f64 {
     values.into_iter().fold(f64::INFINITY, f64::min)
+}
+
+/// Rounds of which the shortest counts.
+const TIMED_ROUNDS: usize = 400;
+
+/// Seconds that such a round is to take, if one call does not take longer.
+const TIMED_ROUND: f64 = 20e-6;
+
+/// Nanoseconds that a call takes, in the shortest of many short rounds.
+pub fn nanoseconds(mut call: impl FnMut()) -> f64 {
+    let calls = (TIMED_ROUND / seconds(10, &mut call)).ceil() as usize;
+    least(
+        (0..TIMED_ROUNDS)
+            .map(|_| seconds(calls, &mut call))
+            .collect(),
+    ) * 1e9
+}
+
+/// Whether the program was asked for `--times`, the times of the proved library alone for the script `compare-builds`; anything else that it
+/// was asked for ends it.
+pub fn asked_for_times(program: &str) -> bool {
+    let words: Vec<String> = std::env::args().skip(1).collect();
+    match words.iter().map(String::as_str).collect::<Vec<_>>()[..] {
+        [] => false,
+        ["--times"] => true,
+        _ => {
+            eprintln!("{program} [--times]");
+            std::process::exit(2);
+        }
+    }
 }
 
 /// The first random plan of the kind that has this many vertices, give or take one in forty.

@@ -26,6 +26,12 @@ fn any_request() {
 }
 
 #[test]
+fn between_feeds() {
+    let [_, refused] = compare(Request::between_feeds, "between feeds", 150_000);
+    assert_eq!(refused, 0);
+}
+
+#[test]
 fn too_large() {
     let [accepted, _] = compare(Request::too_large, "too large", 2_000);
     assert_eq!(accepted, 0);

@@ -18,7 +18,8 @@ reference check [REPORT] < PLAN  judges the report, its own or that in the file:
                                  promise that fails
 reference gen KIND SEED          a random plan text
 reference vectors DIR            compares the report of every NAME.plan with NAME.report
-reference requests COUNT         cases 3 to 7 and COUNT random requests for place-run, a line each
+reference requests COUNT         cases 3 to 7 and E4's, and random requests for place-run, COUNT of any sort and as many
+                                 with boxes between feeds, a line each
 reference outcomes COUNT         what place-run answers to them, a line each
 reference inputs DIR COUNT       plan texts, each after a line with its length: those at the edges of the checks, all plans
                                  in the folder, COUNT random ones of each kind
@@ -150,11 +151,16 @@ fn random_text(kind: &str, seed: u64) -> io::Result<Vec<u8>> {
     generate::generate(kind, seed).ok_or_else(|| wrong("no such kind"))
 }
 
-/// What is to be said of cases 3 to 7 and of `count` random requests for place-run, those with short lines.
+/// What is to be said of cases 3 to 7 and E4's, and of random requests for place-run, those with short lines: `count` of any sort, and as
+/// many with boxes between feeds.
 fn lines(count: u64, say: impl Fn(&Request) -> String) -> String {
-    let random = (0..).map(|seed| Request::any(&mut Random::new("request", seed)));
-    let short = random.filter(|q| q.to_string().len() <= MOST_IN_LINE).take(usize::try_from(count).unwrap_or(0));
-    requests::cases().into_iter().chain(short).map(|q| say(&q) + "\n").collect()
+    let count = usize::try_from(count).unwrap_or(0);
+    let short = |name: &'static str, request: fn(&mut Random) -> Request| {
+        let random = (0..).map(move |seed| request(&mut Random::new(name, seed)));
+        random.filter(|q| q.to_string().len() <= MOST_IN_LINE).take(count)
+    };
+    let random = short("request", Request::any).chain(short("feeds", Request::between_feeds));
+    requests::cases().into_iter().chain(random).map(|q| say(&q) + "\n").collect()
 }
 
 /// What is to be said of plan texts: those at the edges of the checks, all in a folder, and random ones of each kind.

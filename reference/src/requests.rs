@@ -95,13 +95,19 @@ impl Request {
 
     /// A request that is accepted, with `boxes` boxes and `neighbours` neighbours in all.
     pub fn accepted(random: &mut Random, boxes: usize, neighbours: usize, scale: Scale) -> Request {
-        let position = |random: &mut Random| random.within(-scale.position, scale.position);
         let mut counts = vec![0u64; boxes];
         for _ in 0..neighbours {
             if boxes > 0 {
                 counts[random.below(boxes)] += 1;
             }
         }
+        Request::with_counts(random, counts, scale)
+    }
+
+    /// A request that is accepted, its boxes with so many neighbours each.
+    fn with_counts(random: &mut Random, counts: Vec<u64>, scale: Scale) -> Request {
+        let position = |random: &mut Random| random.within(-scale.position, scale.position);
+        let boxes = counts.len();
         let mut all = Vec::new();
         for &count in &counts {
             let mut own: Vec<i64> = (0..count).map(|_| position(random)).collect();
@@ -165,6 +171,15 @@ impl Request {
         request
     }
 
+    /// A request that is accepted, each of its few boxes with two or four neighbours, so that it matters where a lone box
+    /// starts between two middle ones (E4).
+    pub fn between_feeds(random: &mut Random) -> Request {
+        let boxes = random.pick(&[1, 1, 2, 3, 5, 8]);
+        let counts = (0..boxes).map(|_| random.pick(&[2, 2, 4])).collect();
+        let scale = random.pick(&[Scale::NEAR, Scale::NEAR.times(1 << 30), Scale::EXTREME]);
+        Request::with_counts(random, counts, scale)
+    }
+
     /// Changes one thing, so that it is refused, or just not.
     fn damage(&mut self, random: &mut Random) {
         let huge = [MAX_POSITION, MAX_POSITION + 1, -MAX_POSITION, -MAX_POSITION - 1, i64::MAX, i64::MIN];
@@ -225,7 +240,7 @@ fn list<T: Display>(f: &mut fmt::Formatter<'_>, items: &[T]) -> fmt::Result {
     items.iter().try_for_each(|item| write!(f, " {item}"))
 }
 
-/// Cases 3 to 7 of document 01.
+/// Cases 3 to 7 of document 01, and boxes between two feeds (E4): half an odd sum, and half a negative one.
 pub fn cases() -> Vec<Request> {
     let request = |left: Side, old: &[i64], distances: &[u64], near: &[&[i64]]| Request {
         r: old.len() as u64,
@@ -244,5 +259,7 @@ pub fn cases() -> Vec<Request> {
         request(none, &[7], &[], &[&[]]),
         request(Side { flag: 1, value: 0 }, &[0], &[6], &[&[2]]),
         request(none, &[0, 0, 0, 100], &[10, 10, 10], &[&[0, 0, 0], &[0], &[12, 12, 12], &[]]),
+        request(none, &[0], &[], &[&[4, 9]]),
+        request(none, &[0], &[], &[&[-5, 2]]),
     ]
 }

@@ -20,12 +20,12 @@ place q l bs = record { pass = q; level = l; boxes = bs }
 -- Case 1: open runs take on their distances, that to the bound included.
 pub case1-drawn : drawingOf case1 ≡ record {
   preliminary = negsuc 7 ∷ pos 8 ∷ negsuc 4 ∷ pos 5 ∷ pos 0 ∷ [];
-  final = negsuc 4 ∷ pos 11 ∷ negsuc 4 ∷ pos 8 ∷ negsuc 4 ∷ [];
+  final = negsuc 4 ∷ pos 11 ∷ negsuc 4 ∷ pos 8 ∷ pos 1 ∷ [];
   placings =
       place 1 1 (at 0 (negsuc 7) ∷ at 1 (pos 8) ∷ []) ∷
       place 1 2 (at 3 (pos 8) ∷ []) ∷
-      place 1 3 (at 4 (negsuc 4) ∷ []) ∷
-      place 2 3 (at 4 (negsuc 4) ∷ []) ∷
+      place 1 3 (at 4 (pos 1) ∷ []) ∷
+      place 2 3 (at 4 (pos 1) ∷ []) ∷
       place 2 2 (at 3 (pos 8) ∷ []) ∷
       place 2 1 (at 0 (negsuc 4) ∷ at 1 (pos 11) ∷ []) ∷
       [];
@@ -75,14 +75,14 @@ third-pass =
 
 pub third-pass-drawn : drawingOf third-pass ≡ record {
   preliminary = pos 0 ∷ negsuc 5 ∷ pos 0 ∷ pos 6 ∷ pos 10 ∷ negsuc 5 ∷ pos 0 ∷ pos 6 ∷ pos 10 ∷ pos 0 ∷ pos 4 ∷ pos 10 ∷ pos 4 ∷ [];
-  final = negsuc 5 ∷ negsuc 5 ∷ pos 0 ∷ pos 6 ∷ pos 10 ∷ negsuc 5 ∷ pos 0 ∷ pos 6 ∷ pos 10 ∷ pos 0 ∷ pos 4 ∷ pos 10 ∷ pos 0 ∷ [];
+  final = pos 0 ∷ negsuc 5 ∷ pos 0 ∷ pos 6 ∷ pos 10 ∷ negsuc 5 ∷ pos 0 ∷ pos 6 ∷ pos 10 ∷ pos 0 ∷ pos 4 ∷ pos 10 ∷ pos 5 ∷ [];
   placings =
       place 1 1 (at 0 (pos 0) ∷ []) ∷
       place 1 2 (at 4 (pos 10) ∷ []) ∷
-      place 1 5 (at 12 (pos 0) ∷ []) ∷
-      place 2 5 (at 12 (pos 0) ∷ []) ∷
+      place 1 5 (at 12 (pos 5) ∷ []) ∷
+      place 2 5 (at 12 (pos 5) ∷ []) ∷
       place 2 2 (at 4 (pos 10) ∷ []) ∷
-      place 2 1 (at 0 (negsuc 5) ∷ []) ∷
+      place 2 1 (at 0 (pos 0) ∷ []) ∷
       place 3 4 (at 10 (pos 4) ∷ []) ∷
       [];
 }
@@ -104,11 +104,11 @@ nearest =
 
 pub nearest-drawn : drawingOf nearest ≡ record {
   preliminary = pos 0 ∷ negsuc 3 ∷ pos 0 ∷ pos 4 ∷ pos 10 ∷ negsuc 3 ∷ pos 0 ∷ pos 6 ∷ pos 10 ∷ pos 3 ∷ [];
-  final = pos 0 ∷ negsuc 3 ∷ pos 0 ∷ pos 4 ∷ pos 10 ∷ negsuc 3 ∷ pos 0 ∷ pos 6 ∷ pos 10 ∷ negsuc 3 ∷ [];
+  final = pos 0 ∷ negsuc 3 ∷ pos 0 ∷ pos 4 ∷ pos 10 ∷ negsuc 3 ∷ pos 0 ∷ pos 6 ∷ pos 10 ∷ pos 3 ∷ [];
   placings =
       place 1 1 (at 0 (pos 0) ∷ []) ∷
-      place 1 4 (at 9 (negsuc 3) ∷ []) ∷
-      place 2 4 (at 9 (negsuc 3) ∷ []) ∷
+      place 1 4 (at 9 (pos 3) ∷ []) ∷
+      place 2 4 (at 9 (pos 3) ∷ []) ∷
       place 2 2 (at 3 (pos 4) ∷ []) ∷
       place 2 1 (at 0 (pos 0) ∷ []) ∷
       [];
@@ -131,14 +131,14 @@ above-third =
 
 pub above-third-drawn : drawingOf above-third ≡ record {
   preliminary = pos 0 ∷ negsuc 3 ∷ pos 0 ∷ pos 4 ∷ negsuc 9 ∷ negsuc 5 ∷ pos 0 ∷ pos 6 ∷ negsuc 9 ∷ negsuc 5 ∷ pos 0 ∷ pos 6 ∷ negsuc 9 ∷ negsuc 5 ∷ pos 0 ∷ pos 6 ∷ negsuc 5 ∷ [];
-  final = pos 0 ∷ negsuc 9 ∷ pos 0 ∷ pos 4 ∷ negsuc 9 ∷ negsuc 3 ∷ pos 0 ∷ pos 6 ∷ negsuc 9 ∷ negsuc 5 ∷ pos 0 ∷ pos 6 ∷ negsuc 9 ∷ negsuc 5 ∷ pos 0 ∷ pos 6 ∷ negsuc 5 ∷ [];
+  final = pos 0 ∷ negsuc 3 ∷ pos 0 ∷ pos 4 ∷ negsuc 9 ∷ negsuc 3 ∷ pos 0 ∷ pos 6 ∷ negsuc 9 ∷ negsuc 5 ∷ pos 0 ∷ pos 6 ∷ negsuc 9 ∷ negsuc 5 ∷ pos 0 ∷ pos 6 ∷ negsuc 5 ∷ [];
   placings =
       place 1 1 (at 0 (pos 0) ∷ []) ∷
       place 1 2 (at 1 (negsuc 3) ∷ []) ∷
       place 1 2 (at 3 (pos 4) ∷ []) ∷
       place 1 6 (at 16 (negsuc 5) ∷ []) ∷
       place 2 6 (at 16 (negsuc 5) ∷ []) ∷
-      place 2 2 (at 1 (negsuc 9) ∷ []) ∷
+      place 2 2 (at 1 (negsuc 3) ∷ []) ∷
       place 2 2 (at 3 (pos 4) ∷ []) ∷
       place 2 1 (at 0 (pos 0) ∷ []) ∷
       place 3 3 (at 5 (negsuc 3) ∷ []) ∷

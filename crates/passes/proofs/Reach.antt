@@ -11,7 +11,7 @@ use lib.IntN.{ℤ, pos, _+ℤ_, _-ℤ_}
 use lib.Signed.{ltZ}
 use Rattle.ints.specs.Ints.{P, N, _⊏_}
 use Rattle.ints.proofs.Laws.{sum, dif, apart, lt-false, if-ind, casesZ}
-use Rattle.run.specs.Run.{Bound, free, at, Box, neighboursInOrder, span, startOf, firstOf, lastOf}
+use Rattle.run.specs.Run.{Bound, free, at, Box, neighboursInOrder, span, halfDown, startOf, firstOf, lastOf}
 use Rattle.run.specs.Place.{placeRun}
 use Rattle.run.specs.Words.{isPossible}
 use Rattle.run.specs.inner.Coordinates.{less, addOffsets, leftLimit, rightLimit}
@@ -20,6 +20,7 @@ use Rattle.run.proofs.Exchange.{leftStep, rightStep}
 use Rattle.run.proofs.JoinBest.{joinSteps}
 use Rattle.run.specs.inner.Limits.{clampHigh, clamp}
 use Rattle.run.proofs.PlaceBest.{joinHalves, placeHalves}
+use Rattle.run.proofs.HalfDown.{half-of, start-keeps}
 use Rattle.run.proofs.Coordinates.{priced, start-less}
 use Rattle.run.proofs.Optimal.{place-run-is}
 use Rattle.plan.proofs.All.{All, all-nil, all-cons, all-map, all-append, all-take, all-drop}
@@ -111,8 +112,10 @@ get-lies M d zero l (all-cons q qs) = q
 get-lies M d (suc k) l (all-cons q qs) = get-lies M d k l qs
 
 starts : (M : ℕ) (old : ℤ) (ns : List ℤ) → Lies M M old → All (Lies M M) ns → Lies M M (startOf old ns)
-unfolding startOf
-starts M old ns l k = get-lies M old ((length ns + 1) / 2 - 1) l k
+starts M old ns l k = start-keeps (Lies M M) halved old ns (λ i. get-lies M old i l k)
+  where
+    halved : (x y : ℤ) → Lies M M x → Lies M M y → Lies M M (halfDown (x +ℤ y))
+    halved x y p q = let s = sum x y in let h = half-of (x +ℤ y) in let a = apart (halfDown (x +ℤ y)) in record { right = omega (arith, p .right, q .right); left = omega (arith, p .left, q .left) }
 
 start-lies : (M S o : ℕ) (b : Box) → o ≤ S → BoxLies M b → Lies M (M + S) (startOf (less o (b .old)) (map (less o) (b .near)))
 start-lies M S o b h l = rw (start-less (b .old) (b .near) o) (lower (startOf (b .old) (b .near)) (starts M (b .old) (b .near) (l .old) (l .near)))

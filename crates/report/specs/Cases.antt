@@ -1,4 +1,4 @@
--- Document 01's cases 1 to 9 and its edges, as statements about the definitions.
+-- Document 01's cases 1 to 9 and its edges, cases 1 and 3 as document 02's E4 has them, as statements about the definitions.
 use mathlib.Core.Path.{_≡_}
 use mathlib.Core.Bool.{Bool, true, false}
 use mathlib.Core.List.{List, [], _∷_, _++_}
@@ -28,11 +28,11 @@ level n = bytes "(plan 1 1 1)\n(level" ++ boxes n ++ bytes ")\n(end)\n"
 pub record Cases : Type 0 where
   pub case1 :
       printed (bytes "(plan 3 2 10)\n(level (box 3) (box 3))\n(level (via) (box 3))\n(level (box 3))\n(seg 0 2)\n(seg 1 3)\n(seg 2 4)\n(seg 3 4)\n(end)\n")
-      ≡ bytes "(drawing 5 6)\n(at 0 -8 -5 0)\n(at 1 8 11 0)\n(at 2 -5 -5 10)\n(at 3 5 8 10)\n(at 4 0 -5 20)\n(place 1 1 (0 -8) (1 8))\n(place 1 2 (3 8))\n(place 1 3 (4 -5))\n(place 2 3 (4 -5))\n(place 2 2 (3 8))\n(place 2 1 (0 -5) (1 11))\n(end)\n"
+      ≡ bytes "(drawing 5 6)\n(at 0 -8 -5 0)\n(at 1 8 11 0)\n(at 2 -5 -5 10)\n(at 3 5 8 10)\n(at 4 0 1 20)\n(place 1 1 (0 -8) (1 8))\n(place 1 2 (3 8))\n(place 1 3 (4 1))\n(place 2 3 (4 1))\n(place 2 2 (3 8))\n(place 2 1 (0 -5) (1 11))\n(end)\n"
   pub case2 :
       printed (bytes "(plan 1 1 1)\n(level (box 1))\n(end)\n")
       ≡ bytes "(drawing 1 2)\n(at 0 0 0 0)\n(place 1 1 (0 0))\n(place 2 1 (0 0))\n(end)\n"
-  pub case3 : placeRun free 0 (box (pos 0) (pos 4 ∷ pos 10 ∷ []) 0 ∷ []) free ≡ pos 4 ∷ []
+  pub case3 : placeRun free 0 (box (pos 0) (pos 4 ∷ pos 10 ∷ []) 0 ∷ []) free ≡ pos 7 ∷ []
   pub case4 : placeRun free 0 (box (pos 0) (pos 4 ∷ pos 10 ∷ pos 11 ∷ []) 0 ∷ []) free ≡ pos 10 ∷ []
   pub case5 : placeRun free 0 (box (pos 7) [] 0 ∷ []) free ≡ pos 7 ∷ []
   pub case6 : placeRun (at (pos 0)) 6 (box (pos 0) (pos 2 ∷ []) 0 ∷ []) free ≡ pos 6 ∷ []

@@ -1,4 +1,5 @@
--- Document 01's cases 3 to 7, and two boxes of equal resistance, computed from the definition.
+-- Document 01's cases 3 to 7, case 3 as document 02 has it, two boxes of equal resistance, and lone boxes with an even number of
+-- neighbours, computed from the definition.
 use mathlib.Core.Path.{_≡_, refl}
 use mathlib.Core.List.{List, [], _∷_}
 use Prim.Native.Nat.{ℕ}
@@ -17,7 +18,7 @@ runOpen = tt
 abbrev box : ℤ → List ℤ → ℕ → Box
 box o ns d = record { old = o; near = ns; dist = d }
 
-pub case3 : placeRun free 0 (box (pos 0) (pos 4 ∷ pos 10 ∷ []) 0 ∷ []) free ≡ pos 4 ∷ []
+pub case3 : placeRun free 0 (box (pos 0) (pos 4 ∷ pos 10 ∷ []) 0 ∷ []) free ≡ pos 7 ∷ []
 unfolding runOpen
 case3 = refl
 
@@ -48,3 +49,27 @@ pub half : placeRun free 0 (box (pos 0) (pos 0 ∷ pos 0 ∷ pos 0 ∷ []) 10 �
     ≡ pos 0 ∷ pos 10 ∷ pos 20 ∷ pos 100 ∷ []
 unfolding runOpen
 half = refl
+
+-- ---- between two feeds: half an odd sum is rounded toward minus infinity, whatever its sign
+pub odd-sum : placeRun free 0 (box (pos 0) (pos 4 ∷ pos 9 ∷ []) 0 ∷ []) free ≡ pos 6 ∷ []
+unfolding runOpen
+odd-sum = refl
+
+pub negative-sum : placeRun free 0 (box (pos 0) (negsuc 4 ∷ pos 2 ∷ []) 0 ∷ []) free ≡ negsuc 1 ∷ []
+unfolding runOpen
+negative-sum = refl
+
+-- of four the second and the third count: −9 and −4
+pub middle-two : placeRun free 0 (box (pos 0) (negsuc 99 ∷ negsuc 8 ∷ negsuc 3 ∷ pos 50 ∷ []) 0 ∷ []) free ≡ negsuc 6 ∷ []
+unfolding runOpen
+middle-two = refl
+
+-- the bounds apply after: were 4 raised to 6 before, it would be 8
+pub then-bounds : placeRun (at (pos 0)) 6 (box (pos 0) (pos 4 ∷ pos 10 ∷ []) 0 ∷ []) free ≡ pos 7 ∷ []
+unfolding runOpen
+then-bounds = refl
+
+-- each box of a run starts so, "also one that is a half"
+pub each-half : placeRun free 0 (box (pos 0) (negsuc 4 ∷ pos 2 ∷ []) 8 ∷ box (pos 0) (pos 4 ∷ pos 9 ∷ []) 0 ∷ []) free ≡ negsuc 1 ∷ pos 6 ∷ []
+unfolding runOpen
+each-half = refl

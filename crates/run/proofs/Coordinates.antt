@@ -9,13 +9,14 @@ use lib.ListN.{length, length-map, List·getD-map}
 use lib.IntN.{ℤ, pos, _+ℤ_, _-ℤ_, natAbs}
 use Rattle.ints.specs.Ints.{P, N, gap}
 use Rattle.ints.proofs.Laws.{sum, dif, eq-make, le-true, make-le-true}
-use Rattle.run.specs.Run.{Bound, free, at, Box, nondecreasing, neighboursInOrder, span, startOf}
+use Rattle.run.specs.Run.{Bound, free, at, Box, nondecreasing, neighboursInOrder, span, lowerMiddle, upperMiddle, startOf}
 use Rattle.run.specs.Words.{apart, isPlacement, sideways, sidewaysLength}
 use Rattle.run.specs.inner.Limits.{Above, Below, HasPlace}
 use Rattle.run.proofs.Feasible.{below-down, Priced, AllConvex, all-nil, all-cons, totalCost, Feasible, nil, cons}
 use Rattle.ints.proofs.Tests.{and-left, and-right, _and_}
 use Rattle.run.proofs.Sorted.{sorted, sorted-less}
 use Rattle.run.specs.inner.Coordinates.{less, lessBox, inRun, addOffsets, leftLimit, rightLimit}
+use Rattle.run.proofs.HalfDown.{half-less}
 use Rattle.run.proofs.Median.{start-convex}
 
 -- ---- boxes in run coordinates, and their costs
@@ -69,7 +70,8 @@ sideways-less (n ∷ ns) z o = omega (arith, gap-less z n o, sideways-less ns z 
 
 pub start-less : (old : ℤ) (ns : List ℤ) (o : ℕ) → startOf (less o old) (map (less o) ns) ≡ less o (startOf old ns)
 unfolding startOf
-start-less old ns o = rw (length-map ns (less o)) (List·getD-map (less o) ns ((length ns + 1) / 2 - 1) old)
+start-less old ns o = rw (length-map ns (less o), List·getD-map (less o) ns ((length ns + 1) / 2 - 1) old, List·getD-map (less o) ns (length ns / 2) old)
+    (half-less (lowerMiddle old ns) (upperMiddle old ns) o)
 
 pub cost-add : (o : ℕ) (bs : List Box) (zs : List ℤ) → sidewaysLength bs (addOffsets o bs zs) ≡ totalCost (priced o bs) zs
 unfolding sidewaysLength addOffsets totalCost priced

@@ -4,6 +4,7 @@ pub mod Exchange
 pub mod JoinBest
 pub mod PlaceBest
 pub mod Sorted
+pub mod HalfDown
 pub mod Median
 pub mod Coordinates
 pub mod Pushes

@@ -8,9 +8,10 @@ use lib.ListN.{length, getD}
 use lib.IntN.{ℤ, pos, _+ℤ_, _-ℤ_}
 use Rattle.ints.specs.Ints.{_⊑_, _⊏_, gap}
 use Rattle.ints.proofs.Laws.{sum, dif, casesZ, eq-make, gap-ge, gap-r, gap-l, make-lt-true, make-lt-false}
-use Rattle.run.specs.Run.{Bound, at, startOf}
+use Rattle.run.specs.Run.{Bound, at, lowerMiddle, upperMiddle, startOf}
 use Rattle.run.specs.Words.{sideways}
 use Rattle.run.proofs.Feasible.{Convex}
+use Rattle.run.proofs.HalfDown.{half-above, half-below}
 use Rattle.run.proofs.Sorted.{Sorted, sorted-cons, sorted-get}
 use Rattle.run.specs.inner.Coordinates.{countUpTo}
 
@@ -89,7 +90,7 @@ between-convex d m n ns r hl hu = let l = (length (n ∷ ns) + 1) / 2 - 1 in let
           omega (arith, ap f e, sideways-inner (n ∷ ns) x (m +ℤ pos 1) (omega arith), right-of-entry d (n ∷ ns) l (omega arith) r);
     }
 
--- in particular the ⌈s/2⌉-th neighbour; with no neighbours any start will do
+-- ---- the start lies between them
 get-mono : {lo : Bound} (d : ℤ) (ns : List ℤ) (i k : ℕ) → i ≤ k → k < length ns → Sorted lo ns → getD ns i d ⊑ getD ns k d
 get-mono d [] i k h j r = absurd (omega arith)
 get-mono d (n ∷ ns) zero zero h j (sorted-cons o r) = omega arith
@@ -97,8 +98,10 @@ get-mono d (n ∷ ns) zero (suc k) h j (sorted-cons o r) = sorted-get n d ns k (
 get-mono d (n ∷ ns) (suc i) zero h j r = absurd (omega arith)
 get-mono d (n ∷ ns) (suc i) (suc k) h j (sorted-cons o r) = get-mono d ns i k (omega arith) (omega arith) r
 
+-- with no neighbours any start will do
 pub start-convex : {lo : Bound} (old : ℤ) (ns : List ℤ) → Sorted lo ns → Convex (record { cost = sideways ns; start = startOf old ns })
 unfolding sideways startOf
 start-convex old [] r = record { inner = λ u v h. omega arith; left = omega arith; right = omega arith }
-start-convex old (n ∷ ns) r = between-convex old (startOf old (n ∷ ns)) n ns r (omega arith)
-    (get-mono old (n ∷ ns) ((length (n ∷ ns) + 1) / 2 - 1) (length (n ∷ ns) / 2) (omega arith) (omega arith) r)
+start-convex old (n ∷ ns) r = let l = lowerMiddle old (n ∷ ns) in let u = upperMiddle old (n ∷ ns) in
+    let h : l ⊑ u = get-mono old (n ∷ ns) ((length (n ∷ ns) + 1) / 2 - 1) (length (n ∷ ns) / 2) (omega arith) (omega arith) r in
+    between-convex old (startOf old (n ∷ ns)) n ns r (half-above l l u (omega arith) h) (half-below u l u h (omega arith))

@@ -10,11 +10,12 @@ use lib.Signed.{ltZ}
 use lib.IntN.{ℤ, pos, _+ℤ_, _-ℤ_}
 use Rattle.ints.specs.Ints.{P, N, _⊑_}
 use Rattle.ints.proofs.Laws.{sum, dif, apart, if-ind, lt-true}
-use Rattle.run.specs.Run.{Bound, free, at, Box, neighboursInOrder, span, startOf, firstOf, lastOf, lastDist}
+use Rattle.run.specs.Run.{Bound, free, at, Box, neighboursInOrder, span, halfDown, startOf, firstOf, lastOf, lastDist}
 use Rattle.run.specs.Place.{placeRun}
 use Rattle.run.specs.Words.{isPossible}
 use Rattle.run.specs.inner.Limits.{clampLow, clampHigh}
 use Rattle.run.specs.inner.Coordinates.{less, inRun, addOffsets, leftLimit, rightLimit}
+use Rattle.run.proofs.HalfDown.{half-above, half-below, start-keeps}
 use Rattle.run.proofs.Coordinates.{length-inRun, start-less}
 use Rattle.run.specs.inner.Bisection.{cutAt, raiseTo, bisect, moreUpTo, meetingPlace, joinFast, placeFast}
 use Rattle.run.proofs.Meet.{length-met}
@@ -183,8 +184,10 @@ unfolding span lastDist
 offset-next o w b c bs h = omega arith
 
 start-between : (lo hi : ℤ) (b : Box) → Between lo hi (b .old) → Every (Between lo hi) (b .near) → Between lo hi (startOf (b .old) (b .near))
-unfolding startOf
-start-between lo hi b p q = every-get (Between lo hi) (b .old) (b .near) p q ((length (b .near) + 1) / 2 - 1)
+start-between lo hi b p q = start-keeps (Between lo hi) halved (b .old) (b .near) (every-get (Between lo hi) (b .old) (b .near) p q)
+  where
+    halved : (l u : ℤ) → Between lo hi l → Between lo hi u → Between lo hi (halfDown (l +ℤ u))
+    halved l u x y = record { low = half-above lo l u (x .low) (y .low); high = half-below hi l u (x .high) (y .high) }
 
 -- a start less its offset
 start-less-between : (lo hi : ℤ) (l w o : ℕ) (b : Box) → o ≤ w → Between lo hi (b .old) → Every (Between lo hi) (b .near)

@@ -4,7 +4,7 @@ use mathlib.Core.Bool.{Bool, true, _&&_}
 use mathlib.Core.List.{List, [], _∷_}
 use Prim.Native.Nat.{ℕ, _+_, _-_, _/_}
 use lib.ListN.{length, getD}
-use lib.IntN.{ℤ, pos, _+ℤ_, _-ℤ_}
+use lib.IntN.{ℤ, pos, negsuc, _+ℤ_, _-ℤ_}
 use lib.Signed.{leZ}
 use Rattle.ints.specs.Ints.{minZ, maxZ}
 
@@ -35,9 +35,23 @@ unfoldable pub span : List Box → ℕ
 span [] = 0
 span (b ∷ bs) = b .dist + span bs
 
--- Where a lone box starts: "the ⌈s/2⌉-th neighbour's position, or the old position if s = 0".
+-- The two middle ones of s neighbours: the ⌈s/2⌉-th, and the one after the ⌊s/2⌋-th, which is the same one if s is odd. If s = 0, the
+-- old position stands for both.
+abbrev pub lowerMiddle : ℤ → List ℤ → ℤ
+lowerMiddle old near = getD near ((length near + 1) / 2 - 1) old
+
+abbrev pub upperMiddle : ℤ → List ℤ → ℤ
+upperMiddle old near = getD near (length near / 2) old
+
+-- "divided by 2, rounded toward minus infinity"
+abbrev pub halfDown : ℤ → ℤ
+halfDown (pos n) = pos (n / 2)
+halfDown (negsuc n) = negsuc (n / 2)
+
+-- Where a lone box starts (document 02, E4): "at the two middle positions' sum divided by 2, rounded toward minus infinity, before its
+-- bounds apply". So with s odd at "the ⌈s/2⌉-th neighbour's position, or the old position if s = 0", as document 01 has it.
 unfoldable pub startOf : ℤ → List ℤ → ℤ
-startOf old near = getD near ((length near + 1) / 2 - 1) old
+startOf old near = halfDown (lowerMiddle old near +ℤ upperMiddle old near)
 
 -- "raise it to left bound plus distance"
 abbrev pub raise : Bound → ℕ → ℤ → ℤ

@@ -1,14 +1,16 @@
 -- A box that is placed alone between small limits stands at a small position. Assumes nothing.
 use mathlib.Core.List.{List, [], _∷_}
-use Prim.Native.Nat.{ℕ, zero, suc, _+_, _-_, _≤_, _/_}
+use Prim.Native.Nat.{ℕ, zero, suc, _≤_}
 use native.Mathlib.Omega.{arith}
-use lib.ListN.{length, getD}
-use lib.IntN.{ℤ}
+use lib.ListN.{getD}
+use lib.IntN.{ℤ, _+ℤ_}
 use Rattle.ints.specs.Ints.{size}
-use Rattle.run.specs.Run.{Bound as Limit, free, at, startOf}
+use Rattle.run.specs.Run.{Bound as Limit, free, at, halfDown, startOf}
+use Rattle.ints.proofs.Laws.{sum, apart}
 use Rattle.run.specs.inner.Limits.{clampLow, clampHigh, clamp}
 use Rattle.run_columns.specs.inner.Columns.{Sized, Small, maxSize}
 use Rattle.run_halves.specs.inner.Halves.{SmallLimit}
+use Rattle.run.proofs.HalfDown.{half-of, start-keeps}
 use Rattle.run_columns.proofs.Sized.{sized-tail}
 use Rattle.run_halves.proofs.Small.{small-max, small-min}
 
@@ -27,8 +29,10 @@ small-get b (x ∷ xs) zero d q p = q zero (omega arith)
 small-get b (x ∷ xs) (suc k) d q p = small-get b xs k d (sized-tail b x xs q) p
 
 pub small-start : (b : ℕ) (old : ℤ) (ns : List ℤ) → size old ≤ b → Sized b ns → size (startOf old ns) ≤ b
-unfolding startOf
-small-start b old ns p q = small-get b ns ((length ns + 1) / 2 - 1) old q p
+small-start b old ns p q = start-keeps (λ x. size x ≤ b) halved old ns (λ k. small-get b ns k old q p)
+  where
+    halved : (l u : ℤ) → size l ≤ b → size u ≤ b → size (halfDown (l +ℤ u)) ≤ b
+    halved l u x y = let s = sum l u in let h = half-of (l +ℤ u) in let a = apart (halfDown (l +ℤ u)) in omega arith
 
 pub small-one : (L H : Limit) (old : ℤ) (ns : List ℤ) → SmallLimit L → SmallLimit H → size old ≤ maxSize → Small ns → size (clamp L H (startOf old ns)) ≤ maxSize
 small-one L H old ns l h p q = small-high H _ h (small-low L _ l (small-start maxSize old ns p q))

@@ -11,7 +11,7 @@ ghost use mathlib.Core.Path.{_≡_};
 ghost use mathlib.Core.List.{map};
 ghost use Prim.Native.Nat.{_<_, _≤_, _^_};
 ghost use Rattle.ints.specs.Ints.{size};
-ghost use Rattle.run.specs.Run.{startOf};
+ghost use Rattle.run.specs.Run.{halfDown, startOf};
 ghost use Rattle.run.specs.inner.Coordinates.{less};
 ghost use Rattle.run.specs.inner.Limits.{clampLow, clampHigh, clamp};
 ghost use Rattle.ints.specs.Lists.{sum};
@@ -21,14 +21,29 @@ ghost use Rattle.run_halves.specs.inner.Halves.{Placed, Given, Fits, pla
 ghost use Rattle.run_columns.specs.inner.Offsets.{lessOffsets, lessNear, Near, maxOffset};
 ghost use lib.ListN.{length};
 
-// Where a lone box starts: the middle one of its neighbours, the left one of two, or its old position if it has none.
+// Half of z, rounded toward minus infinity: only numbers that are not negative are halved.
+fn half_down(z: i64) -> i64
+    ensures { λ r. ⌜ r ≡ halfDown z ⌝ }
+{
+    if z < 0 {
+        -1 - ((-1 - z) as u64 / 2) as i64
+    } else {
+        (z as u64 / 2) as i64
+    }
+}
+
+// Where a lone box starts: halfway between the two middle ones of its neighbours, or at its old position if it has none. The
+// middle ones are one if there is an odd number.
 fn start(old: i64, near: &[i64]) -> i64
+    requires { ⌜ Near (now near) ⌝ }
     ensures { λ r. ⌜ r ≡ startOf old (now (near .entry)) ⌝ }
 {
     if near.len() == 0 {
         old
     } else {
-        near[(near.len() - 1) / 2]
+        let low = near[(near.len() - 1) / 2];
+        let high = near[near.len() / 2];
+        half_down(low + high)
     }
 }
 

@@ -1,6 +1,7 @@
-//! How long the proved libraries take, beside the reference, in one process: ratios, with absolute times beside them.
+//! How long the proved place-run takes, beside the reference, in one process: ratios, with absolute times beside them; or, with `--times`,
+//! how long it takes alone, for the script `compare-builds`.
 
-use differential::measure::{median, seconds};
+use differential::measure::{asked_for_times, median, nanoseconds, seconds};
 use differential::proved;
 use reference::jumps::Placer;
 use reference::place_run::Run;
@@ -19,11 +20,31 @@ fn seconds_each(passes: usize, mut call: impl FnMut(usize)) -> f64 {
     seconds(passes, || (0..REQUESTS).for_each(&mut call)) / REQUESTS as f64
 }
 
+/// Accepted requests of this size.
+fn requests(boxes: usize, neighbours: usize, scale: Scale) -> Vec<Request> {
+    let request =
+        |seed| Request::accepted(&mut Random::new("bench", seed), boxes, neighbours, scale);
+    (0..REQUESTS as u64).map(request).collect()
+}
+
+/// The proved call alone.
+fn time(boxes: usize, neighbours: usize, name: &str, scale: Scale) {
+    let requests = requests(boxes, neighbours, scale);
+    let mut answer = vec![0; boxes];
+    let time = nanoseconds(|| {
+        for request in &requests {
+            black_box(proved::place_run(request, &mut answer));
+        }
+    });
+    println!(
+        "{:.1} r={boxes},s={neighbours},{name}",
+        time / REQUESTS as f64
+    );
+}
+
 /// The proved call against the reference's jumps, on the same accepted requests.
-fn place_run(boxes: usize, neighbours: usize, name: &str, scale: Scale) {
-    let requests: Vec<Request> = (0..REQUESTS as u64)
-        .map(|seed| Request::accepted(&mut Random::new("bench", seed), boxes, neighbours, scale))
-        .collect();
+fn beside_reference(boxes: usize, neighbours: usize, name: &str, scale: Scale) {
+    let requests = requests(boxes, neighbours, scale);
     let distances: Vec<Vec<i64>> = requests
         .iter()
         .map(|q| q.distances.iter().map(|&d| d as i64).collect())
@@ -67,10 +88,15 @@ fn place_run(boxes: usize, neighbours: usize, name: &str, scale: Scale) {
 }
 
 fn main() {
+    let measure = if asked_for_times("bench") {
+        time
+    } else {
+        beside_reference
+    };
     for boxes in [2, 8, 64] {
         for neighbours in [0, 64, 2_048] {
-            place_run(boxes, neighbours, "near", Scale::NEAR);
-            place_run(boxes, neighbours, "x2^30", Scale::NEAR.times(1 << 30));
+            measure(boxes, neighbours, "near", Scale::NEAR);
+            measure(boxes, neighbours, "x2^30", Scale::NEAR.times(1 << 30));
         }
     }
 }

@@ -1,9 +1,10 @@
 //! How long the proved draw takes from text to final positions, beside the reference, in one process: ratios, with absolute
-//! times beside them.
+//! times beside them; or, with `--times`, how long the proved draw alone takes, for the script `compare-builds`.
 
-use differential::measure::{about, median, seconds};
+use differential::measure::{about, asked_for_times, median, nanoseconds, seconds};
 use differential::proved;
 use differential::vectors;
+use reference::plan::Plan;
 use reference::{passes, text};
 use std::fs;
 use std::hint::black_box;
@@ -11,7 +12,7 @@ use std::hint::black_box;
 const ROUNDS: usize = 21;
 
 /// Both from the same text to final positions.
-fn measure(name: &str, plan_text: &[u8]) {
+fn beside_reference(name: &str, plan_text: &[u8]) {
     let plan = text::read(plan_text).expect("an acceptable plan");
     let vertices = plan.vertices();
     let mut out = vec![0; 2 * vertices];
@@ -37,7 +38,21 @@ fn measure(name: &str, plan_text: &[u8]) {
     );
 }
 
+/// The proved draw alone.
+fn time(name: &str, plan_text: &[u8]) {
+    let mut out = vec![0; 2 * Plan::MAX_VERTICES];
+    let time = nanoseconds(|| {
+        black_box(proved::draw(black_box(plan_text), &mut out));
+    });
+    println!("{time:.1} {}", name.replace(' ', "-"));
+}
+
 fn main() {
+    let measure = if asked_for_times("bench_draw") {
+        time
+    } else {
+        beside_reference
+    };
     for (kind, vertices) in [
         ("medium", 100),
         ("vias", 100),

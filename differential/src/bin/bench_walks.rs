@@ -1,7 +1,7 @@
 //! How long reading takes on plans whose levels are full of vias, where check 6 has the most to do: beside the reference, in one process;
-//! or, with `--times`, how long the proved library alone takes on these and on every vector, for the script `compare-readers`.
+//! or, with `--times`, how long the proved library alone takes on these and on every vector, for the script `compare-builds`.
 
-use differential::measure::{least, median, seconds};
+use differential::measure::{asked_for_times, median, nanoseconds, seconds};
 use differential::{proved, vectors};
 use reference::plan::{Draft, Plan, Vertex};
 use reference::text;
@@ -11,12 +11,6 @@ use std::path::Path;
 
 /// Rounds so short that other work on the machine falls into few of them.
 const ROUNDS: usize = 820;
-
-/// Rounds of which the shortest counts.
-const TIMED_ROUNDS: usize = 400;
-
-/// Seconds that such a round is to take, if one call does not take longer.
-const TIMED_ROUND: f64 = 20e-6;
 
 /// The number of a buffer that is too short.
 const SHORT: u32 = 14;
@@ -103,18 +97,6 @@ fn beside_reference(name: &str, plan_text: &[u8]) {
     );
 }
 
-/// Nanoseconds that the proved library takes to read a text, in the shortest of many short rounds.
-fn nanoseconds(name: &str, plan_text: &[u8]) -> f64 {
-    let accepted = is_accepted(name, plan_text);
-    let round = |calls: usize| {
-        seconds(calls, || {
-            black_box(read(black_box(plan_text), accepted));
-        })
-    };
-    let calls = (TIMED_ROUND / round(10)).ceil() as usize;
-    least((0..TIMED_ROUNDS).map(|_| round(calls)).collect()) * 1e9
-}
-
 fn vector(file: &Path) -> (String, Vec<u8>) {
     let name = file
         .file_stem()
@@ -125,20 +107,18 @@ fn vector(file: &Path) -> (String, Vec<u8>) {
 }
 
 fn main() {
-    let words: Vec<String> = std::env::args().skip(1).collect();
-    match words.iter().map(String::as_str).collect::<Vec<_>>()[..] {
-        [] => walk_plans()
-            .iter()
-            .for_each(|(name, plan_text)| beside_reference(name, plan_text)),
-        ["--times"] => {
-            let vectors = vectors::plans().into_iter().map(|file| vector(&file));
-            for (name, plan_text) in walk_plans().into_iter().chain(vectors) {
-                println!("{:.1} {name}", nanoseconds(&name, &plan_text));
-            }
+    if !asked_for_times("bench_walks") {
+        for (name, plan_text) in walk_plans() {
+            beside_reference(&name, &plan_text);
         }
-        _ => {
-            eprintln!("bench_walks [--times]");
-            std::process::exit(2);
-        }
+        return;
+    }
+    let vectors = vectors::plans().into_iter().map(|file| vector(&file));
+    for (name, plan_text) in walk_plans().into_iter().chain(vectors) {
+        let accepted = is_accepted(&name, &plan_text);
+        let time = nanoseconds(|| {
+            black_box(read(black_box(&plan_text), accepted));
+        });
+        println!("{time:.1} {name}");
     }
 }
