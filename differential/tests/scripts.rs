@@ -96,7 +96,7 @@ fn more_random_walk_scripts() {
 #[test]
 fn vectors() {
     let scripts = vectors::scripts();
-    assert_eq!(scripts.len(), 109);
+    assert_eq!(scripts.len(), 138);
     for file in scripts {
         let expected = fs::read(file.with_extension("answers")).expect("answers");
         let mut out = vec![OLD; expected.len()];
