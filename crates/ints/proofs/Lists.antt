@@ -24,6 +24,12 @@ module _ {A : Type 0} where
   pub over-all : (xs o : List A) → length o ≤ length xs → over xs o ≡ xs
   over-all xs o h = rw (drop-of-length-le o h, append-nil)
 
+-- ---- an element that is there, whatever stands for one that is not
+pub getD-either : {A : Type 0} (l : List A) (i : ℕ) (d e : A) → i < length l → getD l i d ≡ getD l i e
+getD-either [] i d e h = absurd (omega arith)
+getD-either (x ∷ l) zero d e h = refl
+getD-either (x ∷ l) (suc i) d e h = getD-either l i d e (omega arith)
+
 -- ---- a part of a front
 module _ {A : Type 0} where
   pub drop-take : (m n : ℕ) (l : List A) → drop m (take n l) ≡ take (n - m) (drop m l)

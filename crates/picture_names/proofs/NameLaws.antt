@@ -2,7 +2,7 @@
 use mathlib.Core.Path.{_≡_, refl, sym, _∙_, ap}
 use mathlib.Core.Bool.{Bool, true, false, cond, not, _&&_}
 use mathlib.Core.List.{List, [], _∷_}
-use Prim.Native.Nat.{ℕ, zero, suc, _+_, _-_, _≤_, _<_}
+use Prim.Native.Nat.{ℕ, suc, _+_, _-_, _≤_, _<_}
 use native.Mathlib.Omega.{arith}
 use native.Mathlib.Decide.{decLt, ℕ-discrete}
 use native.Mathlib.Numerals.{add-one}
@@ -10,7 +10,7 @@ use borrow.Author.Tests.{eq-eqb, ne-eqb, le-leb, lt-leb}
 use lib.Dec.{eqb}
 use lib.ListN.{length, getD, set, take, drop, replicate, length-take, length-drop, length-set, length-replicate, getD-replicate, List·getD-eq-default}
 use lib.Seq.{drop-drop, getD-set-same, getD-set-other}
-use Rattle.ints.proofs.Lists.{drop-take}
+use Rattle.ints.proofs.Lists.{getD-either, drop-take}
 use Rattle.ints.proofs.Tests.{and-left}
 use Rattle.text.specs.Bytes.{bytes}
 use Rattle.text.specs.Parser.{Got, got, nothing}
@@ -88,11 +88,6 @@ box-inside vias v e = elim (decLt v (length vias)) [
   where
     zero-one : false ≡ true → _≡_ {A = ℕ} 0 1
     zero-one q = cc
-
-getD-either : (l : List Bool) (i : ℕ) (d e : Bool) → i < length l → getD l i d ≡ getD l i e
-getD-either [] i d e h = absurd (omega arith)
-getD-either (x ∷ l) zero d e h = refl
-getD-either (x ∷ l) (suc i) d e h = getD-either l i d e (omega arith)
 
 module _ (vias : List Bool) (v : ℕ) where
   pub box-none : length vias ≤ v → isBox vias v ≡ false

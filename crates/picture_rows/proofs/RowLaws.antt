@@ -132,11 +132,6 @@ module _ (cols : ℕ) where
         front : take (cutEnd (cols - 1) (take room name)) (take room name) ≡ take m name
         front = rw (← mq) (take-take m room name (omega (arith, mh, length-take room name)))
 
-pub getD-either : (l : List ℕ) (i d e : ℕ) → i < length l → getD l i d ≡ getD l i e
-getD-either [] i d e h = absurd (omega arith)
-getD-either (x ∷ l) zero d e h = refl
-getD-either (x ∷ l) (suc i) d e h = getD-either l i d e (omega arith)
-
 -- ---- rows of what is left of a name, of which a part is lent
 module _ (cols left : ℕ) (name : List ℕ) (start : ℕ) {end : ℕ} {cut : Bool} {next : ℕ} (f : FirstRow cols left (between start (length name) name) end cut next) where
   pub row-on : rows cols left (drop start name) ≡ row (take end (drop start name)) cut ∷ rows cols (left - 1) (drop (start + next) name)

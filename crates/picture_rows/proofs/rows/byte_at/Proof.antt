@@ -2,7 +2,7 @@
 use mathlib.Core.Path.{sym}
 use borrow.Author.Needs.{needs}
 use lib.ListN.{List·getD-eq-default}
-use Rattle.picture_rows.proofs.RowLaws.{getD-either}
+use Rattle.ints.proofs.Lists.{getD-either}
 use Rattle.picture_rows.proofs.rows.byte_at.Statement.{statement}
 use Rattle.picture_rows.proofs.rows.byte_at.Tie as tie
 

@@ -1,6 +1,6 @@
 -- `run_halves::halves::half_down` meets its contract: what is halved is not negative, so its bits read back as it.
 use mathlib.Core.Path.{_≡_, refl}
-use Prim.Native.Nat.{_-_, _/_, _^_, _<_}
+use Prim.Native.Nat.{ℕ, _-_, _/_, _^_, _<_}
 use native.Mathlib.Omega.{arith}
 use lib.IntN.{ℤ, pos, negsuc, _-ℤ_, natAbs}
 use mir.Syntax.{w64}
@@ -12,12 +12,15 @@ use Rattle.run.proofs.HalfDown.{half-of}
 use Rattle.run_halves.proofs.halves.half_down.Statement.{statement}
 use Rattle.run_halves.proofs.halves.half_down.Tie as tie
 
--- how far z stands left of −1
+-- how far z stands left of −1, and half of that
 abbrev left : ℤ → ℤ
 left z = negsuc 0 -ℤ z
 
-half-negative : (z : ℤ) → z ⊏ pos 0 → negsuc 0 -ℤ pos (natAbs (left z) / 2) ≡ halfDown z
-half-negative z h = let k = natAbs (left z) / 2 in
+abbrev halfLeft : ℤ → ℕ
+halfLeft z = natAbs (left z) / 2
+
+half-negative : (z : ℤ) → z ⊏ pos 0 → negsuc 0 -ℤ pos (halfLeft z) ≡ halfDown z
+half-negative z h = let k = halfLeft z in
     eq-make (negsuc 0 -ℤ pos k) (halfDown z) (omega (arith, dif (negsuc 0) (pos k), dif (negsuc 0) z, apart (left z), abs (left z), half-of z))
 
 half-other : (z : ℤ) → pos 0 ⊑ z → pos (natAbs z / 2) ≡ halfDown z
@@ -41,18 +44,18 @@ fits-left c = let z = c .before .args .z in fit-make (left z) (omega (arith, int
 b-left : (c : tie.Then1) → toZ w64 (ofZ w64 (left (c .before .args .z))) ≡ left (c .before .args .z)
 b-left c = back (fits-left c)
 
--- half of what is left of −1, and −1 less that
-left-small : (c : tie.Then1) → natAbs (left (c .before .args .z)) / 2 < 2 ^ 63 - 1
+-- that half, and −1 less it
+left-small : (c : tie.Then1) → halfLeft (c .before .args .z) < 2 ^ 63 - 1
 left-small c = let z = left (c .before .args .z) in omega (arith, ints, fits-left c, abs z)
 
-b-half : (c : tie.Then1) → toZ w64 (natAbs (left (c .before .args .z)) / 2) ≡ pos (natAbs (left (c .before .args .z)) / 2)
+b-half : (c : tie.Then1) → toZ w64 (halfLeft (c .before .args .z)) ≡ pos (halfLeft (c .before .args .z))
 b-half c = of-nat _ (omega (arith, left-small c))
 
-fits-down : (c : tie.Then1) → SFits w64 (negsuc 0 -ℤ pos (natAbs (left (c .before .args .z)) / 2))
-fits-down c = let k = natAbs (left (c .before .args .z)) / 2 in
+fits-down : (c : tie.Then1) → SFits w64 (negsuc 0 -ℤ pos (halfLeft (c .before .args .z)))
+fits-down c = let k = halfLeft (c .before .args .z) in
     fit-make (negsuc 0 -ℤ pos k) (omega (arith, left-small c, dif (negsuc 0) (pos k), apart (negsuc 0 -ℤ pos k)))
 
-b-down : (c : tie.Then1) → toZ w64 (ofZ w64 (negsuc 0 -ℤ pos (natAbs (left (c .before .args .z)) / 2))) ≡ negsuc 0 -ℤ pos (natAbs (left (c .before .args .z)) / 2)
+b-down : (c : tie.Then1) → toZ w64 (ofZ w64 (negsuc 0 -ℤ pos (halfLeft (c .before .args .z)))) ≡ negsuc 0 -ℤ pos (halfLeft (c .before .args .z))
 b-down c = back (fits-down c)
 
 ruleset backs = (minus-one, b-z, b-left, b-half, b-down)

@@ -2,7 +2,7 @@
 use borrow.Author.Needs.{needs}
 use mathlib.Core.Path.{_≡_, refl, _∙_, sym}
 use native.Mathlib.Omega.{arith}
-use Prim.Native.Nat.{ℕ, zero, suc, _+_, _-_, _/_, _<_, _≤_}
+use Prim.Native.Nat.{_+_, _-_, _/_, _<_, _≤_}
 use lib.ListN.{length, getD}
 use lib.IntN.{ℤ, pos, _+ℤ_}
 use mathlib.Core.List.{List, [], _∷_}
@@ -11,6 +11,7 @@ use mir.Val.{toZ, ofZ}
 use Rattle.ints.specs.Ints.{size}
 use Rattle.ints.specs.Reach.{reach}
 use Rattle.ints.proofs.Laws.{back, back′, fit-sum}
+use Rattle.ints.proofs.Lists.{getD-either}
 use Rattle.run.specs.Run.{halfDown, startOf}
 use Rattle.run.proofs.HalfDown.{start-none}
 use Rattle.run_halves.proofs.halves.start.Statement.{statement}
@@ -30,12 +31,7 @@ high ns = getD ns (length ns / 2) (pos 0)
 middles : (old : ℤ) (ns : List ℤ) → 0 < length ns → halfDown (low ns +ℤ high ns) ≡ startOf old ns
 unfolding startOf
 middles old ns h = let e : (length ns - 1) / 2 ≡ (length ns + 1) / 2 - 1 = omega arith in
-    rw (e, get-any ns ((length ns + 1) / 2 - 1) (pos 0) old (omega arith), get-any ns (length ns / 2) (pos 0) old (omega arith)) refl
-  where
-    get-any : (l : List ℤ) (k : ℕ) (d e : ℤ) → k < length l → getD l k d ≡ getD l k e
-    get-any [] k d e h = absurd (omega arith)
-    get-any (x ∷ l) zero d e h = refl
-    get-any (x ∷ l) (suc k) d e h = get-any l k d e (omega arith)
+    rw (e, getD-either ns ((length ns + 1) / 2 - 1) (pos 0) old (omega arith), getD-either ns (length ns / 2) (pos 0) old (omega arith)) refl
 
 b-low : (c : tie.After-low) → let ns = c .before .before .args .near .now in toZ w64 (ofZ w64 (low ns)) ≡ low ns
 b-low c = back′ (low (c .before .before .args .near .now)) (c .low .given)
