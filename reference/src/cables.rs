@@ -6,7 +6,7 @@
 
 use std::collections::BTreeSet;
 
-use crate::plan::{Draft, Plan, Vertex};
+use crate::plan::{Draft, Plan, Segment, Vertex};
 use crate::random::Random;
 use crate::text;
 
@@ -151,6 +151,6 @@ fn joined(random: &mut Random, rows: &[Vec<Place>], cables: usize) -> Draft {
         gap: random.within(1, 9),
         spacing: random.within(1, 99),
         sizes: rows.iter().map(Vec::len).collect(),
-        segments: segments.into_iter().collect(),
+        segments: segments.into_iter().map(Segment::new).collect(),
     }
 }

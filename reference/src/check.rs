@@ -8,7 +8,7 @@ use std::fmt;
 use std::ops::Range;
 
 use crate::passes::{self, Drawing};
-use crate::plan::{Plan, Side, Stretch};
+use crate::plan::{Plan, Segment, Side, Stretch};
 
 /// Positions of a drawing lie within ± this.
 pub const MAX_POSITION: i64 = 1 << 40;
@@ -238,7 +238,7 @@ fn order(plan: &Plan, position: &[i64]) -> Verdict {
 
 /// `upright`: both ends of an inner segment have the same position.
 fn upright(plan: &Plan, position: &[i64]) -> Verdict {
-    for &(upper, lower) in plan.segments() {
+    for (upper, lower) in plan.segments().iter().map(Segment::ends) {
         let inner = plan.is_via(upper) && plan.is_via(lower);
         demand(!inner || position[upper] == position[lower], "upright", || format!("segment {upper} {lower}"))?;
     }
@@ -312,8 +312,8 @@ pub struct Task {
     pub highest: Option<i64>,
     /// The distance of each box to the next; one less than the boxes.
     pub distances: Vec<i64>,
-    /// For each box the positions of its neighbours on the preceding level.
-    pub neighbours: Vec<Vec<i64>>,
+    /// For each box the positions of its neighbours on the preceding level, and the ratings of the segments to them.
+    pub neighbours: Vec<Vec<(i64, i64)>>,
 }
 
 impl Task {
@@ -344,8 +344,8 @@ impl Task {
             && self.highest.is_none_or(|highest| positions.last().is_none_or(|&last| last <= highest))
     }
 
-    /// Total sideways length with the boxes at these positions.
-    pub fn length(&self, positions: &[i64]) -> i64 {
+    /// Total sideways length with the boxes at these positions, each segment counted with its rating (E5).
+    pub fn length(&self, positions: &[i64]) -> i128 {
         positions.iter().zip(&self.neighbours).map(|(&position, own)| sideways(position, own)).sum()
     }
 
@@ -356,12 +356,12 @@ impl Task {
     /// neighbour: it can be moved one way or the other at no cost until it is, or joins another group. So the
     /// neighbours and the limits are all the places worth trying. For each box in turn, and each place, this finds the
     /// least length of the boxes so far with this one there.
-    pub fn least_length(&self) -> i64 {
+    pub fn least_length(&self) -> i128 {
         let wishes = self.wishes();
         let places = self.places_to_try(&wishes);
         let mut least = vec![0; places.len()];
         for own in &wishes {
-            let mut least_so_far = i64::MAX;
+            let mut least_so_far = i128::MAX;
             for (place, least) in places.iter().zip(&mut least) {
                 least_so_far = least_so_far.min(*least);
                 *least = least_so_far + sideways(*place, own);
@@ -371,20 +371,20 @@ impl Task {
     }
 
     /// The neighbours of each box less the sum of the distances before it.
-    fn wishes(&self) -> Vec<Vec<i64>> {
+    fn wishes(&self) -> Vec<Vec<(i64, i64)>> {
         let mut offset = 0;
         let mut wishes = Vec::new();
         for (k, neighbours) in self.neighbours.iter().enumerate() {
-            wishes.push(neighbours.iter().map(|n| n - offset).collect());
+            wishes.push(neighbours.iter().map(|&(n, rating)| (n - offset, rating)).collect());
             offset += self.distances.get(k).unwrap_or(&0);
         }
         wishes
     }
 
-    fn places_to_try(&self, wishes: &[Vec<i64>]) -> Vec<i64> {
+    fn places_to_try(&self, wishes: &[Vec<(i64, i64)>]) -> Vec<i64> {
         let low = self.lowest;
         let high = self.highest.map(|highest| highest - self.distances.iter().sum::<i64>());
-        let mut places: Vec<i64> = wishes.iter().flatten().copied().chain(low).chain(high).collect();
+        let mut places: Vec<i64> = wishes.iter().flatten().map(|&(n, _)| n).chain(low).chain(high).collect();
         places.retain(|&place| low.is_none_or(|low| place >= low) && high.is_none_or(|high| place <= high));
         places.sort_unstable();
         places.dedup();
@@ -392,21 +392,21 @@ impl Task {
     }
 }
 
-/// How far all of `to` stand sideways from `from`, together.
-fn sideways(from: i64, to: &[i64]) -> i64 {
-    to.iter().map(|n| (from - n).abs()).sum()
+/// How far all of `to` stand sideways from `from`, together, each as often as its rating says.
+fn sideways(from: i64, to: &[(i64, i64)]) -> i128 {
+    to.iter().map(|&(n, rating)| i128::from(rating) * i128::from((from - n).abs())).sum()
 }
 
-/// For each of the boxes where its neighbours on that side stand, gathered from the plan's own segments.
-fn neighbours_at(plan: &Plan, boxes: Range<usize>, side: Side, position: &[i64]) -> Vec<Vec<i64>> {
+/// For each of the boxes where its neighbours on that side stand, with ratings, gathered from the plan's own segments.
+fn neighbours_at(plan: &Plan, boxes: Range<usize>, side: Side, position: &[i64]) -> Vec<Vec<(i64, i64)>> {
     let mut neighbours = vec![Vec::new(); boxes.len()];
-    for &(upper, lower) in plan.segments() {
+    for segment in plan.segments() {
         let (own, other) = match side {
-            Side::Above => (lower, upper),
-            Side::Below => (upper, lower),
+            Side::Above => (segment.lower, segment.upper),
+            Side::Below => (segment.upper, segment.lower),
         };
         if boxes.contains(&own) {
-            neighbours[own - boxes.start].push(position[other]);
+            neighbours[own - boxes.start].push((position[other], segment.rating()));
         }
     }
     neighbours

@@ -1,7 +1,7 @@
 //! Damaged plan texts. Some damage is done to what a text says, so that checks 2 to 6 meet it, some to its lines and
 //! bytes, most of which check 1 meets.
 
-use crate::plan::{Draft, Plan, Vertex};
+use crate::plan::{Draft, Plan, Segment, Vertex};
 use crate::random::Random;
 use crate::text;
 
@@ -19,6 +19,15 @@ pub(crate) fn damaged(random: &mut Random, mut draft: Draft) -> Vec<u8> {
         damage_bytes(random, &mut text);
     }
     text
+}
+
+/// The same of a draft with ratings, whose damage may be to a rating.
+pub(crate) fn damaged_rated(random: &mut Random, mut draft: Draft) -> Vec<u8> {
+    if random.once_in(3) {
+        change_rating(random, &mut draft);
+        return text::write_form(&draft);
+    }
+    damaged(random, draft)
 }
 
 // ---------------------------------------------------------------------------------------------------------------------
@@ -94,15 +103,32 @@ fn change_segment(random: &mut Random, draft: &mut Draft) {
     }
     let vertices = draft.vertices.len();
     let i = random.below(draft.segments.len());
-    let (upper, lower) = draft.segments[i];
+    let segment = &mut draft.segments[i];
+    let (upper, lower) = segment.ends();
     let wrong = random.pick(&[0, upper, lower, vertices - 1, vertices, 1_024, 99_999]);
-    draft.segments[i] = match random.below(3) {
+    (segment.upper, segment.lower) = match random.below(3) {
         0 => (lower, upper),
         1 => (wrong, lower),
         _ => (upper, wrong),
     };
     if random.once_in(2) {
         draft.segments.sort_unstable();
+    }
+}
+
+/// Writes a rating at a limit or past it, or repeats a segment with another rating, a higher or a lower one.
+fn change_rating(random: &mut Random, draft: &mut Draft) {
+    if draft.segments.is_empty() {
+        return;
+    }
+    let i = random.below(draft.segments.len());
+    if random.once_in(4) {
+        let rating = draft.segments[i].rating();
+        let other = if rating < Plan::MAX_RATING { rating + 1 } else { rating - 1 };
+        let repeated = Segment::rated(draft.segments[i].ends(), other);
+        draft.segments.insert(i + random.below(2), repeated);
+    } else {
+        draft.segments[i].written = Some(random.pick(&[0, 1, 2, Plan::MAX_RATING, Plan::MAX_RATING + 1, 99_999]));
     }
 }
 
@@ -123,7 +149,7 @@ fn disorder_segments(random: &mut Random, draft: &mut Draft) {
 /// Takes away a segment of a via, or adds one; all else stays in order.
 fn loosen_via(random: &mut Random, draft: &mut Draft) {
     let at_via = |&i: &usize| {
-        let (upper, lower) = draft.segments[i];
+        let Segment { upper, lower, .. } = draft.segments[i];
         [upper, lower].iter().any(|&v| draft.vertices.get(v).is_some_and(|vertex| vertex.is_via))
     };
     let choice: Vec<usize> = (0..draft.segments.len()).filter(at_via).collect();
@@ -131,20 +157,20 @@ fn loosen_via(random: &mut Random, draft: &mut Draft) {
         return;
     }
     let i = random.pick(&choice);
-    let (upper, lower) = draft.segments[i];
+    let Segment { upper, lower, .. } = draft.segments[i];
     match random.below(3) {
         0 => drop(draft.segments.remove(i)),
-        1 => draft.segments.push((upper.saturating_sub(1), lower)),
-        _ => draft.segments.push((upper, lower + 1)),
+        1 => draft.segments.push(Segment::new((upper.saturating_sub(1), lower))),
+        _ => draft.segments.push(Segment::new((upper, lower + 1))),
     }
     draft.segments.sort_unstable();
-    draft.segments.dedup();
+    draft.segments.dedup_by_key(|segment| segment.ends());
 }
 
 /// Exchanges the lower ends of two segments, inner ones if there are two between the same levels.
 fn cross(random: &mut Random, draft: &mut Draft) {
     let is_via = |v: usize| draft.vertices.get(v).is_some_and(|vertex| vertex.is_via);
-    let inner = |&i: &usize| is_via(draft.segments[i].0) && is_via(draft.segments[i].1);
+    let inner = |&i: &usize| is_via(draft.segments[i].upper) && is_via(draft.segments[i].lower);
     let choice: Vec<usize> = (0..draft.segments.len()).filter(inner).collect();
     if choice.len() < 2 {
         return;
@@ -152,9 +178,9 @@ fn cross(random: &mut Random, draft: &mut Draft) {
     // Inner segments that follow each other are most likely between the same levels.
     let k = random.below(choice.len() - 1);
     let (i, j) = (choice[k], choice[k + 1]);
-    let lower = draft.segments[i].1;
-    draft.segments[i].1 = draft.segments[j].1;
-    draft.segments[j].1 = lower;
+    let lower = draft.segments[i].lower;
+    draft.segments[i].lower = draft.segments[j].lower;
+    draft.segments[j].lower = lower;
     draft.segments.sort_unstable();
 }
 

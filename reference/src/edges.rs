@@ -1,4 +1,4 @@
-//! Plan texts at the edges of checks 1 to 6, each with the outcome that document 01 gives it.
+//! Plan texts at the edges of checks 1 to 6, each with the outcome that document 01 gives it, or document 02 where it has ratings.
 
 use crate::plan::Plan;
 use crate::refusal::{CROSSING, ENDS, FORM, LIMIT, RISING, VIA};
@@ -39,6 +39,7 @@ pub fn edges() -> Vec<Edge> {
     vias(&mut edges);
     crossings(&mut edges);
     order(&mut edges);
+    ratings(&mut edges);
     edges
 }
 
@@ -228,8 +229,11 @@ fn limits(edges: &mut Vec<Edge>) {
 
 /// Segments in order from the boxes of a full level to those of another.
 fn many_segments(count: usize) -> String {
-    let segments: Vec<_> = (0..count).map(|i| (i / 64, 64 + i % 64)).collect();
-    text(&[&boxes(64), &boxes(64)], &segments)
+    text(&[&boxes(64), &boxes(64)], &first_pairs(count))
+}
+
+fn first_pairs(count: usize) -> Vec<(usize, usize)> {
+    (0..count).map(|i| (i / 64, 64 + i % 64)).collect()
 }
 
 // ---------------------------------------------------------------------------------------------------------------------
@@ -370,4 +374,112 @@ fn order(edges: &mut Vec<Edge>) {
     add(edges, RISING, "4 after 6", text(&CABLES, &twice));
     add(edges, VIA, "5 after 6", text(&CABLES, &crossed[..5]));
     add(edges, RISING, "case 9", text(&["(box 1)", "(box 1)"], &[(0, 1), (0, 1)]));
+}
+
+// ---------------------------------------------------------------------------------------------------------------------
+// Ratings (E5)
+
+/// Two levels of two boxes with these lines of segments.
+fn with_lines(lines: &str) -> String {
+    text(&BOXES, &[]).replace("(end)", &format!("{lines}(end)"))
+}
+
+/// A text with these segments, all of that rating.
+fn all_rated(levels: &[&str], segments: &[(usize, usize)], rating: usize) -> String {
+    let lines: String = segments.iter().map(|(upper, lower)| format!("(seg {upper} {lower} {rating})\n")).collect();
+    text(levels, &[]).replace("(end)", &format!("{lines}(end)"))
+}
+
+/// A rating within its limits, outside of them, and in every wrong form.
+fn ratings(edges: &mut Vec<Edge>) {
+    let written = [
+        ("2", ACCEPTED),
+        ("3", ACCEPTED),
+        ("10", ACCEPTED),
+        ("99", ACCEPTED),
+        ("100", ACCEPTED),
+        ("0", LIMIT),
+        ("1", LIMIT),
+        ("101", LIMIT),
+        ("258", LIMIT),
+        ("65538", LIMIT),
+        ("99999", LIMIT),
+        ("", FORM),
+        ("02", FORM),
+        ("00", FORM),
+        ("000002", FORM),
+        ("100000", FORM),
+        ("4294967298", FORM),
+        ("-2", FORM),
+        ("+2", FORM),
+        ("2.0", FORM),
+        ("x", FORM),
+        ("2 ", FORM),
+        (" 2", FORM),
+        ("2 2", FORM),
+        ("2)", FORM),
+        ("(2)", FORM),
+        ("\t2", FORM),
+    ];
+    for (rating, refusal) in written {
+        add(edges, refusal, &format!("a rating of {rating:?}"), with_lines(&format!("(seg 0 2 {rating})\n")));
+    }
+    add(edges, FORM, "a rating without a space", with_lines("(seg 0 2(2))\n"));
+    add(edges, FORM, "a rating after the bracket", with_lines("(seg 0 2) 2\n"));
+    add(edges, FORM, "a rating of a box", text(&["(box 1 2)"], &[]));
+    add(edges, FORM, "a rating of the plan", ONE.replace("(plan 1 1 1)", "(plan 1 1 1 2)"));
+    rated_segments(edges);
+    rated_checks(edges);
+}
+
+/// Ratings on some segments of several, and on as many as a plan may have.
+fn rated_segments(edges: &mut Vec<Edge>) {
+    let lines = [
+        ("all rated", "(seg 0 2 2)\n(seg 0 3 3)\n(seg 1 2 4)\n(seg 1 3 5)\n", ACCEPTED),
+        ("ratings fall", "(seg 0 2 100)\n(seg 0 3 50)\n(seg 1 2 2)\n", ACCEPTED),
+        ("some rated", "(seg 0 2)\n(seg 0 3 100)\n(seg 1 2)\n", ACCEPTED),
+        ("the last rated 1", "(seg 0 2)\n(seg 0 3 2)\n(seg 1 2 1)\n", LIMIT),
+        ("the first rated 101", "(seg 0 2 101)\n(seg 0 3 2)\n(seg 1 2)\n", LIMIT),
+    ];
+    for (name, lines, refusal) in lines {
+        add(edges, refusal, name, with_lines(lines));
+    }
+    let (cable, segments) = (["(box 3)", "(via)", "(via)", "(box 3)"], [(0, 1), (1, 2), (2, 3)]);
+    add(edges, ACCEPTED, "a rated inner segment", text(&cable, &segments).replace("(seg 1 2)", "(seg 1 2 9)"));
+    add(edges, ACCEPTED, "a rated cable", all_rated(&cable, &segments, 100));
+    let levels = [boxes(64), boxes(64)];
+    for (count, rating, refusal) in
+        [(Plan::MAX_SEGMENTS, 100, ACCEPTED), (Plan::MAX_SEGMENTS, 1, LIMIT), (Plan::MAX_SEGMENTS + 1, 2, LIMIT)]
+    {
+        let rated = all_rated(&[&levels[0], &levels[1]], &first_pairs(count), rating);
+        add(edges, refusal, &format!("{count} segments rated {rating}"), rated);
+    }
+}
+
+/// Check 4 asks for A and B alone; a bad rating, check 2, comes after 1 and before 3 to 6.
+fn rated_checks(edges: &mut Vec<Edge>) {
+    let lines = [
+        ("a segment twice, ratings rise", "(seg 0 2 2)\n(seg 0 2 3)\n", RISING),
+        ("a segment twice, ratings fall", "(seg 0 2 3)\n(seg 0 2 2)\n", RISING),
+        ("a segment twice, the second rated", "(seg 0 2)\n(seg 0 2 2)\n", RISING),
+        ("a segment twice, the first rated", "(seg 0 2 2)\n(seg 0 2)\n", RISING),
+        ("B falls, ratings rise", "(seg 0 3 2)\n(seg 0 2 3)\n", RISING),
+        ("a bad rating before a wrong form", "(seg 0 2 1)\n(seg 0 3 02)\n", FORM),
+        ("a bad rating after a wrong end", "(seg 0 1 2)\n(seg 1 2 1)\n", LIMIT),
+        ("a bad rating at a wrong end", "(seg 0 1 101)\n", LIMIT),
+        ("a rating at a wrong end", "(seg 0 1 100)\n", ENDS),
+        ("a bad rating after a segment twice", "(seg 0 2)\n(seg 0 2)\n(seg 1 2 0)\n", LIMIT),
+    ];
+    for (name, lines, refusal) in lines {
+        add(edges, refusal, name, with_lines(lines));
+    }
+    let rated = |text: String, rating: &str| text.replace("(seg 0 2)", &format!("(seg 0 2 {rating})"));
+    let (straight, crossed) = (cables([2, 3], [4, 5], [6, 7]), cables([2, 3], [5, 4], [6, 7]));
+    for (rating, names, refusals) in [
+        ("7", ["a rating and a loose via", "a rating and a crossing"], [VIA, CROSSING]),
+        ("1", ["a bad rating and a loose via", "a bad rating and a crossing"], [LIMIT, LIMIT]),
+    ] {
+        add(edges, refusals[0], names[0], rated(text(&CABLES, &straight[..5]), rating));
+        add(edges, refusals[1], names[1], rated(text(&CABLES, &crossed), rating));
+    }
 }

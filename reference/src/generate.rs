@@ -2,22 +2,46 @@
 //!
 //! A plan has a given number of places on each level; long cables take some of them for their vias, boxes stand on the
 //! rest. The cables have one order from left to right, which all levels keep, so that inner segments do not cross; but in
-//! some kinds vias change places.
+//! some kinds vias change places. Each kind also comes rated: the same plans, their segments with ratings (E5).
 
 use std::collections::BTreeSet;
 
 use crate::damage;
-use crate::plan::{Draft, Plan, Vertex};
+use crate::plan::{Draft, Plan, Segment, Vertex};
 use crate::random::Random;
-use crate::text;
+use crate::{ratings, text};
 
 /// The kinds of texts: all are acceptable, except most tangled, crossed and damaged ones. Tangled and crossed ones pass
 /// checks 1 to 5.
-pub const KINDS: [&str; 10] =
-    ["small", "medium", "wide", "deep", "vias", "max", "tangled", "crossed", "crossed-max", "damaged"];
+pub const KINDS: [&str; 20] = [
+    "small",
+    "medium",
+    "wide",
+    "deep",
+    "vias",
+    "max",
+    "tangled",
+    "crossed",
+    "crossed-max",
+    "damaged",
+    "rated-small",
+    "rated-medium",
+    "rated-wide",
+    "rated-deep",
+    "rated-vias",
+    "rated-max",
+    "rated-tangled",
+    "rated-crossed",
+    "rated-crossed-max",
+    "rated-damaged",
+];
+
+/// What the name of a kind with ratings starts with.
+const RATED: &str = "rated-";
 
 /// A random text of that kind; none if there is no such kind.
 pub fn generate(kind: &str, seed: u64) -> Option<Vec<u8>> {
+    let (kind, is_rated) = kind.strip_prefix(RATED).map_or((kind, false), |kind| (kind, true));
     let random = &mut Random::new(kind, seed);
     let shape = match kind {
         "small" => small(random),
@@ -29,20 +53,28 @@ pub fn generate(kind: &str, seed: u64) -> Option<Vec<u8>> {
         "tangled" => tangled(random),
         "crossed" => crossed(random),
         "crossed-max" => crossed_max(random, seed),
-        "damaged" => return Some(damaged(random)),
+        "damaged" => return Some(damaged(random, is_rated)),
         _ => return None,
     };
-    Some(text::write_form(&draft(random, &shape)))
+    let mut draft = draft(random, &shape);
+    if is_rated {
+        ratings::rate(random, &mut draft);
+    }
+    Some(text::write_form(&draft))
 }
 
-fn damaged(random: &mut Random) -> Vec<u8> {
+fn damaged(random: &mut Random, is_rated: bool) -> Vec<u8> {
     let shape = match random.below(8) {
         0 => vias(random),
         1 => medium(random),
         2 | 3 => tangled(random),
         _ => small(random),
     };
-    let whole = draft(random, &shape);
+    let mut whole = draft(random, &shape);
+    if is_rated {
+        ratings::rate(random, &mut whole);
+        return damage::damaged_rated(random, whole);
+    }
     damage::damaged(random, whole)
 }
 
@@ -321,7 +353,7 @@ fn draft(random: &mut Random, shape: &Shape) -> Draft {
         spacing: shape.spacing,
         sizes: shape.sizes.clone(),
         vertices: levels.iter().flatten().map(vertex).collect(),
-        segments: segments.into_iter().collect(),
+        segments: segments.into_iter().map(Segment::new).collect(),
     }
 }
 

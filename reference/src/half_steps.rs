@@ -1,4 +1,4 @@
-//! Placing one run by single half steps: document 01's definition, with E4's start, word for word and slow.
+//! Placing one run by single half steps: document 01's definition, with E4's start and E5's ratings, word for word and slow.
 
 use crate::place_run::{start_of, Run};
 
@@ -8,15 +8,17 @@ const INFINITE: i64 = i64::MAX;
 /// Places the boxes of an acceptable run. Gives their positions, and how many half steps all joins took.
 pub fn place(run: &Run) -> (Vec<i64>, u64) {
     let neighbours = run.neighbours_of_boxes().collect();
-    let mut state = HalfSteps { run, neighbours, position: run.old.to_vec(), steps: 0 };
+    let ratings = run.ratings_of_boxes().collect();
+    let mut state = HalfSteps { run, neighbours, ratings, position: run.old.to_vec(), steps: 0 };
     state.place(0, run.boxes());
     (state.position, state.steps)
 }
 
 struct HalfSteps<'a> {
     run: &'a Run<'a>,
-    /// The neighbours of each box.
+    /// The neighbours of each box, and the ratings of the segments to them.
     neighbours: Vec<&'a [i64]>,
+    ratings: Vec<&'a [i64]>,
     position: Vec<i64>,
     steps: u64,
 }
@@ -37,7 +39,7 @@ impl HalfSteps<'_> {
     }
 
     fn place_lone(&mut self, k: usize) {
-        let mut position = start_of(self.neighbours[k], self.run.old[k]);
+        let mut position = start_of(self.neighbours[k], self.ratings[k], self.run.old[k]);
         if let Some(lowest) = self.run.lowest(k) {
             position = position.max(lowest);
         }
@@ -80,7 +82,7 @@ impl HalfSteps<'_> {
         k
     }
 
-    /// Segments that lengthen less those that shorten, if the boxes first..=last all move by `step`.
+    /// Segments that lengthen less those that shorten, each counted with its rating, if the boxes first..=last all move by `step`.
     fn resistance(&self, first: usize, last: usize, step: i64) -> i64 {
         let mut total = 0;
         for k in first..=last {
@@ -91,7 +93,8 @@ impl HalfSteps<'_> {
             if self.run.highest(k).is_some_and(|highest| to > highest) {
                 return INFINITE;
             }
-            total += self.neighbours[k].iter().map(|n| (to - n).abs() - (from - n).abs()).sum::<i64>();
+            let leads = self.neighbours[k].iter().zip(self.ratings[k]);
+            total += leads.map(|(n, rating)| rating * ((to - n).abs() - (from - n).abs())).sum::<i64>();
         }
         total
     }

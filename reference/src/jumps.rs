@@ -1,6 +1,8 @@
 //! Placing one run by jumps, as the report combines two sequences: the changes of resistance are set down in order
 //! first, then a and b go from change to change. A join of r boxes with s neighbours takes O((r + s) log(r + s)).
 
+use std::ops::Range;
+
 use crate::place_run::{start_of, Run, MAX_BOXES};
 
 /// Places an acceptable run. Gives positions and half steps like [`crate::half_steps::place`].
@@ -17,8 +19,8 @@ pub fn place(run: &Run) -> (Vec<i64>, u64) {
 /// that is pushed stands level with the box that pushes it.
 ///
 /// Joining two halves that overlap (a right of b), resistance is constant between *changes*: a box that begins to be
-/// pushed changes it by its own resistance, a neighbour that is passed by two, since its segment lengthens instead of
-/// shortening. Boxes stand in order; the neighbours to be passed are sorted. Then a and b walk from change to change
+/// pushed changes it by its own resistance, a neighbour that is passed by twice its rating, since its segment lengthens instead
+/// of shortening. Boxes stand in order; the neighbours to be passed are sorted. Then a and b walk from change to change
 /// toward each other, all changes at one place counting together. A bound never stops them: where they meet, between
 /// b and a, lies within the limits.
 pub struct Placer {
@@ -27,13 +29,22 @@ pub struct Placer {
     position: [i64; MAX_BOXES],
     /// The neighbours of box k are `neighbours[start[k]..start[k + 1]]`.
     start: [usize; MAX_BOXES + 1],
-    neighbours: Vec<i64>,
+    neighbours: Vec<Neighbour>,
+    /// The sum of the ratings before each neighbour, and of all at the end.
+    rated_before: Vec<i64>,
     /// By how much each box changes the resistance when it begins to move.
     own_change: [i64; MAX_BOXES],
     /// The neighbours that boxes of the left half may pass on their way to the left, and those on the right.
-    left_passed: Vec<i64>,
-    right_passed: Vec<i64>,
+    left_passed: Vec<Neighbour>,
+    right_passed: Vec<Neighbour>,
     steps: u64,
+}
+
+/// A neighbour in run coordinates, and the rating of the segment to it; ordered by position.
+#[derive(Clone, Copy, PartialEq, Eq, PartialOrd, Ord)]
+struct Neighbour {
+    position: i64,
+    rating: i64,
 }
 
 impl Default for Placer {
@@ -43,7 +54,7 @@ impl Default for Placer {
 }
 
 impl Placer {
-    /// By how much a neighbour changes the resistance when it is passed.
+    /// By how many times its rating a neighbour changes the resistance when it is passed.
     const PASSING: i64 = 2;
 
     /// A placer with empty working memory.
@@ -53,6 +64,7 @@ impl Placer {
             position: [0; MAX_BOXES],
             start: [0; MAX_BOXES + 1],
             neighbours: Vec::new(),
+            rated_before: Vec::new(),
             own_change: [0; MAX_BOXES],
             left_passed: Vec::new(),
             right_passed: Vec::new(),
@@ -80,7 +92,9 @@ impl Placer {
     fn enter_run_coordinates(&mut self, run: &Run) {
         self.neighbours.clear();
         self.neighbours.reserve(run.neighbours.len());
+        self.rated_before.clear();
         let mut offset = 0;
+        let mut so_far = 0;
         let mut from = 0;
         for (k, &count) in run.counts.iter().enumerate() {
             if k > 0 {
@@ -88,21 +102,31 @@ impl Placer {
             }
             self.offset[k] = offset;
             self.start[k] = from;
-            self.neighbours.extend(run.neighbours[from..from + count].iter().map(|n| n - offset));
+            for (&n, &rating) in run.neighbours[from..from + count].iter().zip(&run.ratings[from..from + count]) {
+                self.neighbours.push(Neighbour { position: n - offset, rating });
+                self.rated_before.push(so_far);
+                so_far += rating;
+            }
             from += count;
         }
         self.start[run.boxes()] = from;
+        self.rated_before.push(so_far);
     }
 
-    /// Puts every box where it stands alone. A start moves along with the positions that it comes from, rounded or not, so
-    /// it may be worked out in run coordinates.
+    /// The sum of the ratings of those neighbours.
+    fn rated(&self, neighbours: Range<usize>) -> i64 {
+        self.rated_before[neighbours.end] - self.rated_before[neighbours.start]
+    }
+
+    /// Puts every box where it stands alone.
     fn start_boxes(&mut self, run: &Run) {
         let last = run.boxes() - 1;
         let lowest = run.lowest(0).unwrap_or(i64::MIN);
         let highest = run.highest(last).map_or(i64::MAX, |highest| highest - self.offset[last]);
         for k in 0..=last {
-            let own = &self.neighbours[self.start[k]..self.start[k + 1]];
-            self.position[k] = start_of(own, run.old[k] - self.offset[k]).max(lowest).min(highest);
+            let own = self.start[k]..self.start[k + 1];
+            let start = start_of(&run.neighbours[own.clone()], &run.ratings[own], run.old[k]);
+            self.position[k] = (start - self.offset[k]).max(lowest).min(highest);
         }
     }
 
@@ -140,10 +164,11 @@ impl Placer {
         while first > lo && self.position[first - 1] > b {
             first -= 1;
             let position = self.position[first];
-            let own = &self.neighbours[self.start[first]..self.start[first + 1]];
-            let passable = own.partition_point(|&n| n < position);
-            let beyond = own[..passable].partition_point(|&n| n <= b);
-            self.own_change[first] = own.len() as i64 - Self::PASSING * passable as i64;
+            let (from, to) = (self.start[first], self.start[first + 1]);
+            let own = &self.neighbours[from..to];
+            let passable = own.partition_point(|n| n.position < position);
+            let beyond = own[..passable].partition_point(|n| n.position <= b);
+            self.own_change[first] = self.rated(from..to) - Self::PASSING * self.rated(from..from + passable);
             self.left_passed.extend_from_slice(&own[beyond..passable]);
         }
         self.left_passed.sort_unstable();
@@ -156,11 +181,12 @@ impl Placer {
         let mut end = cut;
         while end < hi && self.position[end] < a {
             let position = self.position[end];
-            let own = &self.neighbours[self.start[end]..self.start[end + 1]];
-            let passable = &own[own.partition_point(|&n| n <= position)..];
-            let beyond = passable.partition_point(|&n| n < a);
-            self.own_change[end] = own.len() as i64 - Self::PASSING * passable.len() as i64;
-            self.right_passed.extend_from_slice(&passable[..beyond]);
+            let (from, to) = (self.start[end], self.start[end + 1]);
+            let own = &self.neighbours[from..to];
+            let passable = own.partition_point(|n| n.position <= position);
+            let beyond = own.partition_point(|n| n.position < a);
+            self.own_change[end] = self.rated(from..to) - Self::PASSING * self.rated(from + passable..to);
+            self.right_passed.extend_from_slice(&own[passable..beyond]);
             end += 1;
         }
         self.right_passed.sort_unstable();
@@ -181,16 +207,16 @@ impl Placer {
                 i -= 1;
                 left += self.own_change[i];
             }
-            while n > 0 && self.left_passed[n - 1] >= a {
+            while n > 0 && self.left_passed[n - 1].position >= a {
                 n -= 1;
-                left += Self::PASSING;
+                left += Self::PASSING * self.left_passed[n].rating;
             }
             while j < end && position[j] <= b {
                 right += self.own_change[j];
                 j += 1;
             }
-            while m < self.right_passed.len() && self.right_passed[m] <= b {
-                right += Self::PASSING;
+            while m < self.right_passed.len() && self.right_passed[m].position <= b {
+                right += Self::PASSING * self.right_passed[m].rating;
                 m += 1;
             }
             if a == b {
@@ -198,11 +224,11 @@ impl Placer {
             }
             if left < right {
                 let next_box = if i > first { position[i - 1] } else { b };
-                let next_passed = if n > 0 { self.left_passed[n - 1] } else { b };
+                let next_passed = if n > 0 { self.left_passed[n - 1].position } else { b };
                 a = next_box.max(next_passed).max(b);
             } else {
                 let next_box = if j < end { position[j] } else { a };
-                let next_passed = if m < self.right_passed.len() { self.right_passed[m] } else { a };
+                let next_passed = self.right_passed.get(m).map_or(a, |n| n.position);
                 b = next_box.min(next_passed).min(a);
             }
         }

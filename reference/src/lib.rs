@@ -1,12 +1,12 @@
-//! Level diagrams for boat supply plans: a second reading of document 01, and of the first requests of document 02, E1 to E4.
+//! Level diagrams for boat supply plans: a second reading of document 01, and of the first requests of document 02, E1 to E5.
 //!
 //! From text to picture, one module for each part of the paper:
 //! - [`text`] reads a plan text (check 1) and writes it again; [`plan`] holds the plan and makes checks 2 to 6;
 //! - [`walk`] is check 6 between two levels, with its count (E3);
 //! - [`tangled`] reads a plan text whose inner segments may cross, and rearranges the plan (E1);
 //! - [`preliminary`] gives every vertex its preliminary position;
-//! - [`place_run`] places one run, with E4's start for a lone box: [`half_steps`] is the definition, [`jumps`] the fast way to
-//!   the same outcome;
+//! - [`place_run`] places one run, with E4's start for a lone box and E5's ratings: [`half_steps`] is the definition, [`jumps`]
+//!   the fast way to the same outcome;
 //! - [`passes`] goes over the levels three times, places their runs and lists the placings;
 //! - [`report`] prints the drawing, and reads a printed one; [`marks`] gives it as points for a screen;
 //! - [`picture`] gives it as an SVG document: [`names`] reads what boxes are called, [`label`] fits it into them;
@@ -42,6 +42,7 @@ mod poke;
 mod pokes;
 pub mod preliminary;
 pub mod random;
+mod ratings;
 pub mod readings;
 pub mod report;
 pub mod requests;

@@ -18,8 +18,8 @@ reference check [REPORT] < PLAN  judges the report, its own or that in the file:
                                  promise that fails
 reference gen KIND SEED          a random plan text
 reference vectors DIR            compares the report of every NAME.plan with NAME.report
-reference requests COUNT         cases 3 to 7 and E4's, and random requests for place-run, COUNT of any sort and as many
-                                 with boxes between feeds, a line each
+reference requests COUNT         cases 3 to 7, E4's and E5's, and random requests for place-run, COUNT of any sort, as many
+                                 with boxes between feeds and as many with ratings, a line each
 reference outcomes COUNT         what place-run answers to them, a line each
 reference inputs DIR COUNT       plan texts, each after a line with its length: those at the edges of the checks, all plans
                                  in the folder, COUNT random ones of each kind
@@ -32,8 +32,10 @@ reference scripts COUNT SEED text
                                  the same with lines of the text besides
 reference scripts COUNT SEED walk
                                  the same with walks along a level besides
+reference scripts COUNT SEED rated
+                                 the same with ratings besides
 reference answers DIR START      compares the answers to every NAME.script whose name starts so with NAME.answers
-KIND: small medium wide deep vias max tangled crossed crossed-max damaged
+KIND: small medium wide deep vias max tangled crossed crossed-max damaged, or one of these after rated-
 ";
 
 /// Most characters in the line of a request that is listed.
@@ -76,6 +78,7 @@ fn run(words: &[&str]) -> io::Result<bool> {
         }
         ["scripts", count, seed, "text"] => print(scripts::text_scripts(number(count)?, number(seed)?).as_bytes()),
         ["scripts", count, seed, "walk"] => print(scripts::walk_scripts(number(count)?, number(seed)?).as_bytes()),
+        ["scripts", count, seed, "rated"] => print(scripts::rated_scripts(number(count)?, number(seed)?).as_bytes()),
         ["answers", folder, start] => answers(Path::new(folder), start),
         _ => Err(wrong(USAGE)),
     }
@@ -151,15 +154,16 @@ fn random_text(kind: &str, seed: u64) -> io::Result<Vec<u8>> {
     generate::generate(kind, seed).ok_or_else(|| wrong("no such kind"))
 }
 
-/// What is to be said of cases 3 to 7 and E4's, and of random requests for place-run, those with short lines: `count` of any sort, and as
-/// many with boxes between feeds.
+/// What is to be said of cases 3 to 7, E4's and E5's, and of random requests for place-run, those with short lines: `count` of any sort,
+/// as many with boxes between feeds, and as many with ratings.
 fn lines(count: u64, say: impl Fn(&Request) -> String) -> String {
     let count = usize::try_from(count).unwrap_or(0);
     let short = |name: &'static str, request: fn(&mut Random) -> Request| {
         let random = (0..).map(move |seed| request(&mut Random::new(name, seed)));
         random.filter(|q| q.to_string().len() <= MOST_IN_LINE).take(count)
     };
-    let random = short("request", Request::any).chain(short("feeds", Request::between_feeds));
+    let unrated = short("request", Request::any).chain(short("feeds", Request::between_feeds));
+    let random = unrated.chain(short("rated", Request::rated));
     requests::cases().into_iter().chain(random).map(|q| say(&q) + "\n").collect()
 }
 

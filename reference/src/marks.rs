@@ -45,7 +45,8 @@ pub fn marks(plan: &Plan, drawing: &Drawing) -> Vec<Mark> {
         }
     };
     let vertices = (0..plan.vertices()).map(vertex);
-    vertices.chain(plan.segments().iter().map(|&(upper, lower)| Mark::Line(point(upper), point(lower)))).collect()
+    let lines = plan.segments().iter().map(|segment| Mark::Line(point(segment.upper), point(segment.lower)));
+    vertices.chain(lines).collect()
 }
 
 #[cfg(test)]

@@ -69,8 +69,9 @@ struct Passes<'a, P> {
     /// Whether a bounded run is settled, and whether it is ready; a bounded run goes by its left via.
     settled: Vec<bool>,
     ready: Vec<bool>,
-    /// Working memory: a run's neighbours, how many each box has, and the answer.
+    /// Working memory: a run's neighbours with their ratings, how many each box has, and the answer.
     neighbours: Vec<i64>,
+    ratings: Vec<i64>,
     counts: Vec<usize>,
     answer: [i64; MAX_BOXES],
 }
@@ -86,6 +87,7 @@ impl<'a, P: FnMut(&Run, &mut [i64])> Passes<'a, P> {
             settled: vec![false; plan.vertices()],
             ready: vec![false; plan.vertices()],
             neighbours: Vec::new(),
+            ratings: Vec::new(),
             counts: Vec::new(),
             answer: [0; MAX_BOXES],
         };
@@ -162,6 +164,7 @@ impl<'a, P: FnMut(&Run, &mut [i64])> Passes<'a, P> {
             distances: &self.distance[members.start..members.end - 1],
             counts: &self.counts,
             neighbours: &self.neighbours,
+            ratings: &self.ratings,
         };
         debug_assert!(task.is_acceptable());
         (self.place)(&task, answer);
@@ -170,11 +173,13 @@ impl<'a, P: FnMut(&Run, &mut [i64])> Passes<'a, P> {
 
     fn gather_neighbours(&mut self, preceding: Side, run: &Stretch) {
         self.neighbours.clear();
+        self.ratings.clear();
         self.counts.clear();
         for v in run.boxes() {
             let neighbours = self.plan.neighbours(v, preceding);
             self.counts.push(neighbours.len());
             self.neighbours.extend(neighbours.iter().map(|&w| self.drawing.position[w]));
+            self.ratings.extend_from_slice(self.plan.ratings(v, preceding));
         }
     }
 

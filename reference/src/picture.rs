@@ -60,7 +60,7 @@ pub fn document(plan: &Plan, drawing: &Drawing, names: &Names) -> Vec<u8> {
     );
     svg += STYLE;
     svg += &format!("<g class=\"lines\" stroke-width=\"{pen}\">\n");
-    plan.segments().iter().for_each(|&(upper, lower)| svg += &view.line(upper, lower));
+    plan.segments().iter().for_each(|segment| svg += &view.line(segment.upper, segment.lower));
     svg += "</g>\n<g class=\"bends\">\n";
     (0..plan.vertices()).filter(|&v| plan.is_via(v)).for_each(|v| svg += &view.bend(v));
     svg += &format!("</g>\n<g class=\"boxes\" stroke-width=\"{pen}\">\n");

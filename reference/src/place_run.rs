@@ -2,12 +2,13 @@
 //!
 //! A run is a row of boxes with an optional bound on either side. Boxes and bounds are its *members*; each two
 //! neighbouring members have a distance to keep. Every box has neighbours on one other level, and wants to stand near
-//! them.
+//! them, the more so the higher the segment to a neighbour is rated (E5).
 //!
 //! The outcome is defined by single half steps, see [`crate::half_steps`]; [`crate::jumps`] reaches the same outcome
 //! faster.
 
 use crate::jumps::Placer;
+use crate::plan::Plan;
 use crate::{refusal, Refusal};
 
 /// Most boxes of a run.
@@ -30,9 +31,10 @@ pub fn place_run(
     distances: &[i64],
     counts: &[usize],
     neighbours: &[i64],
+    ratings: &[i64],
     answer: &mut [i64],
 ) -> Result<(), Refusal> {
-    let run = Run { left, right, old, distances, counts, neighbours };
+    let run = Run { left, right, old, distances, counts, neighbours, ratings };
     if old.len() != r || answer.len() != r || !run.is_acceptable() {
         return Err(refusal::RUN);
     }
@@ -55,6 +57,8 @@ pub struct Run<'a> {
     pub counts: &'a [usize],
     /// The positions of all neighbours, box by box, in nondecreasing order for each.
     pub neighbours: &'a [i64],
+    /// The rating of the segment to each neighbour.
+    pub ratings: &'a [i64],
 }
 
 impl<'a> Run<'a> {
@@ -70,7 +74,17 @@ impl<'a> Run<'a> {
 
     /// The neighbours of each box.
     pub fn neighbours_of_boxes(&self) -> impl Iterator<Item = &'a [i64]> {
-        let mut rest = self.neighbours;
+        self.of_boxes(self.neighbours)
+    }
+
+    /// The ratings of the segments to the neighbours of each box.
+    pub fn ratings_of_boxes(&self) -> impl Iterator<Item = &'a [i64]> {
+        self.of_boxes(self.ratings)
+    }
+
+    /// What belongs to each box, of a list with an entry for each neighbour.
+    fn of_boxes(&self, list: &'a [i64]) -> impl Iterator<Item = &'a [i64]> {
+        let mut rest = list;
         self.counts.iter().map(move |&count| {
             let (own, others) = rest.split_at(count);
             rest = others;
@@ -107,6 +121,7 @@ impl<'a> Run<'a> {
         self.distances.len() == members.saturating_sub(1)
             && neighbours <= MAX_NEIGHBOURS
             && self.neighbours.len() == neighbours
+            && self.ratings.len() == neighbours
     }
 
     fn numbers_fit(&self) -> bool {
@@ -116,6 +131,7 @@ impl<'a> Run<'a> {
             && self.old.iter().all(fits)
             && self.neighbours.iter().all(fits)
             && self.distances.iter().all(|distance| (1..=MAX_DISTANCE).contains(distance))
+            && self.ratings.iter().all(|rating| (1..=Plan::MAX_RATING).contains(rating))
     }
 
     fn neighbours_in_order(&self) -> bool {
@@ -130,11 +146,21 @@ impl<'a> Run<'a> {
     }
 }
 
-/// Where a lone box starts before its bounds apply: halfway between the two middle ones of its s neighbours, rounded
-/// toward minus infinity (document 02, E4), or where it stood if it has none. If s is odd, the two are one.
-pub(crate) fn start_of(neighbours: &[i64], old: i64) -> i64 {
-    match neighbours.len() {
-        0 => old,
-        s => (neighbours[(s - 1) / 2] + neighbours[s / 2]).div_euclid(2),
-    }
+/// Where a lone box starts before its bounds apply: halfway between the lower and the upper middle one of its neighbours, rounded
+/// toward minus infinity (document 02, E4 and E5), or where it stood if it has none.
+pub(crate) fn start_of(neighbours: &[i64], ratings: &[i64], old: i64) -> i64 {
+    let total: i64 = ratings.iter().sum();
+    let lower = first_at_which(neighbours, ratings, |twice| twice >= total);
+    let upper = first_at_which(neighbours, ratings, |twice| twice > total);
+    lower.zip(upper).map_or(old, |(lower, upper)| (lower + upper).div_euclid(2))
+}
+
+/// The first neighbour at which twice the ratings so far, its own included, are enough.
+fn first_at_which(neighbours: &[i64], ratings: &[i64], is_enough: impl Fn(i64) -> bool) -> Option<i64> {
+    let mut so_far = 0;
+    let found = neighbours.iter().zip(ratings).find(|(_, rating)| {
+        so_far += **rating;
+        is_enough(2 * so_far)
+    });
+    found.map(|(position, _)| *position)
 }

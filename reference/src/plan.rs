@@ -29,6 +29,42 @@ impl Vertex {
     }
 }
 
+/// A segment as its line says it. Segments are ordered by upper, then by lower end.
+#[derive(Clone, Copy, Debug, PartialEq, Eq, PartialOrd, Ord)]
+pub struct Segment {
+    /// The number of its upper end, A.
+    pub upper: usize,
+    /// The number of its lower end, B.
+    pub lower: usize,
+    /// The rating that stands in the line, W, if there is one (E5).
+    pub written: Option<i64>,
+}
+
+impl Segment {
+    /// The rating of a segment without a written one.
+    pub const UNRATED: i64 = 1;
+
+    /// A segment without a written rating.
+    pub fn new((upper, lower): (usize, usize)) -> Self {
+        Segment { upper, lower, written: None }
+    }
+
+    /// A segment of that rating, which is written unless it is 1.
+    pub fn rated((upper, lower): (usize, usize), rating: i64) -> Self {
+        Segment { upper, lower, written: (rating != Segment::UNRATED).then_some(rating) }
+    }
+
+    /// Upper and lower end.
+    pub fn ends(&self) -> (usize, usize) {
+        (self.upper, self.lower)
+    }
+
+    /// Its rating: "without one it has rating 1".
+    pub fn rating(&self) -> i64 {
+        self.written.unwrap_or(Segment::UNRATED)
+    }
+}
+
 /// What a text in the right form says, before checks 2 to 6.
 #[derive(Clone, Debug, PartialEq, Eq)]
 pub struct Draft {
@@ -42,8 +78,8 @@ pub struct Draft {
     pub sizes: Vec<usize>,
     /// The vertices of all level lines in reading order.
     pub vertices: Vec<Vertex>,
-    /// Upper and lower end of each segment, in reading order.
-    pub segments: Vec<(usize, usize)>,
+    /// The segments in reading order.
+    pub segments: Vec<Segment>,
 }
 
 /// The two sides on which a level can precede another.
@@ -116,6 +152,8 @@ impl Plan {
     pub const MAX_VERTICES: usize = 1_024;
     /// Most segments.
     pub const MAX_SEGMENTS: usize = 2_048;
+    /// Greatest rating of a segment.
+    pub const MAX_RATING: i64 = 100;
 
     /// The plan that the draft describes, if it passes checks 2 to 6. A draft that no text can say is refused with 1.
     pub fn new(draft: Draft) -> Result<Plan, Refusal> {
@@ -134,8 +172,8 @@ impl Plan {
         check_ends(&draft.segments, &level_of)?;
         check_rising(&draft.segments)?;
         let vertices = level_of.len();
-        let above = Links::new(vertices, draft.segments.iter().map(|&(upper, lower)| (lower, upper)));
-        let below = Links::new(vertices, draft.segments.iter().copied());
+        let above = Links::new(vertices, draft.segments.iter().map(|s| (s.lower, s.upper, s.rating())));
+        let below = Links::new(vertices, draft.segments.iter().map(|s| (s.upper, s.lower, s.rating())));
         let plan = Plan { draft, level_start, level_of, above, below };
         plan.check_vias()?;
         Ok(plan)
@@ -171,8 +209,8 @@ impl Plan {
         self.draft.vertices.len()
     }
 
-    /// Upper and lower end of each segment.
-    pub fn segments(&self) -> &[(usize, usize)] {
+    /// The segments in their order.
+    pub fn segments(&self) -> &[Segment] {
         &self.draft.segments
     }
 
@@ -219,6 +257,14 @@ impl Plan {
         }
     }
 
+    /// The ratings of the segments to these neighbours, in the same order.
+    pub fn ratings(&self, v: usize, side: Side) -> &[i64] {
+        match side {
+            Side::Above => self.above.ratings_of(v),
+            Side::Below => self.below.ratings_of(v),
+        }
+    }
+
     /// The via on that side to which a segment joins v, if v is a via too (an inner segment).
     pub fn joined_via(&self, v: usize, side: Side) -> Option<usize> {
         if !self.is_via(v) {
@@ -250,10 +296,11 @@ fn check_sayable(draft: &Draft) -> Result<(), Refusal> {
     sayable.then_some(()).ok_or(refusal::FORM)
 }
 
-/// Check 2: every number and count within its limit, and K level lines.
+/// Check 2: every number and count within its limit, and K level lines. A rating of 1 is never written.
 fn check_limits(draft: &Draft) -> Result<(), Refusal> {
     let levels: RangeInclusive<i64> = 1..=Plan::MAX_LEVELS as i64;
     let half_widths = 1..=Plan::MAX_HALF_WIDTH;
+    let ratings = Segment::UNRATED + 1..=Plan::MAX_RATING;
     let good = levels.contains(&draft.levels)
         && draft.sizes.len() as i64 == draft.levels
         && (1..=Plan::MAX_GAP).contains(&draft.gap)
@@ -261,22 +308,23 @@ fn check_limits(draft: &Draft) -> Result<(), Refusal> {
         && draft.vertices.iter().all(|vertex| vertex.is_via || half_widths.contains(&vertex.half_width))
         && draft.sizes.iter().all(|&size| size <= Plan::MAX_ON_LEVEL)
         && draft.vertices.len() <= Plan::MAX_VERTICES
-        && draft.segments.len() <= Plan::MAX_SEGMENTS;
+        && draft.segments.len() <= Plan::MAX_SEGMENTS
+        && draft.segments.iter().all(|segment| segment.written.is_none_or(|rating| ratings.contains(&rating)));
     good.then_some(()).ok_or(refusal::LIMIT)
 }
 
 /// Check 3: both ends of every segment are vertices, the second one level below the first.
-fn check_ends(segments: &[(usize, usize)], level_of: &[usize]) -> Result<(), Refusal> {
-    let joins_neighbours = |&(upper, lower): &(usize, usize)| match (level_of.get(upper), level_of.get(lower)) {
+fn check_ends(segments: &[Segment], level_of: &[usize]) -> Result<(), Refusal> {
+    let joins_neighbours = |segment: &Segment| match (level_of.get(segment.upper), level_of.get(segment.lower)) {
         (Some(a), Some(b)) => a + 1 == *b,
         _ => false,
     };
     segments.iter().all(joins_neighbours).then_some(()).ok_or(refusal::ENDS)
 }
 
-/// Check 4: segments rise strictly by upper, then by lower end.
-fn check_rising(segments: &[(usize, usize)]) -> Result<(), Refusal> {
-    let rising = segments.windows(2).all(|pair| pair[0] < pair[1]);
+/// Check 4: segments rise strictly by upper, then by lower end, whatever their ratings.
+fn check_rising(segments: &[Segment]) -> Result<(), Refusal> {
+    let rising = segments.windows(2).all(|pair| pair[0].ends() < pair[1].ends());
     rising.then_some(()).ok_or(refusal::RISING)
 }
 
@@ -294,32 +342,39 @@ fn levels_of_vertices(sizes: &[usize]) -> Vec<usize> {
     sizes.iter().enumerate().flat_map(|(level, &size)| iter::repeat_n(level, size)).collect()
 }
 
-/// For each vertex the vertices it is joined to on one side, all in one flat list.
+/// For each vertex the vertices it is joined to on one side and the ratings of the segments to them, in flat lists.
 #[derive(Clone, Debug, PartialEq, Eq)]
 struct Links {
-    /// The list of v is `others[start[v]..start[v + 1]]`.
+    /// The list of v is `others[start[v]..start[v + 1]]`, that of ratings likewise.
     start: Vec<usize>,
     others: Vec<usize>,
+    ratings: Vec<i64>,
 }
 
 impl Links {
-    /// From pairs (vertex, other); each vertex's list keeps the order of the pairs.
-    fn new(vertices: usize, pairs: impl Iterator<Item = (usize, usize)> + Clone) -> Self {
+    /// From links (vertex, other, rating); each vertex's lists keep the order of the links.
+    fn new(vertices: usize, links: impl Iterator<Item = (usize, usize, i64)> + Clone) -> Self {
         let mut start = vec![0; vertices + 1];
-        pairs.clone().for_each(|(v, _)| start[v + 1] += 1);
+        links.clone().for_each(|(v, ..)| start[v + 1] += 1);
         for v in 0..vertices {
             start[v + 1] += start[v];
         }
         let mut next = start.clone();
         let mut others = vec![0; start[vertices]];
-        for (v, other) in pairs {
+        let mut ratings = vec![0; start[vertices]];
+        for (v, other, rating) in links {
             others[next[v]] = other;
+            ratings[next[v]] = rating;
             next[v] += 1;
         }
-        Links { start, others }
+        Links { start, others, ratings }
     }
 
     fn of(&self, v: usize) -> &[usize] {
         &self.others[self.start[v]..self.start[v + 1]]
+    }
+
+    fn ratings_of(&self, v: usize) -> &[i64] {
+        &self.ratings[self.start[v]..self.start[v + 1]]
     }
 }

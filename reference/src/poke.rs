@@ -1,7 +1,7 @@
 //! The command poke: alters the stored record of a sheet, so that scripts reach sheets handed in.
 
 use crate::sheet::{Sheet, Stage};
-use crate::stored::{StoredBox, StoredVertex};
+use crate::stored::{StoredBox, StoredPlan, StoredVertex};
 use crate::words::number;
 
 /// Alters the record as the words say; none, and nothing altered, if they are no poke. What is stored may be any number
@@ -15,7 +15,8 @@ pub(crate) fn poke(sheet: &mut Sheet, words: &[&str]) -> Option<()> {
         ["s", s] => plan.spacing = number(s)?,
         ["size", level, size] => *entry(&mut plan.sizes, level)? = number(size)?,
         ["vertex", i, kind, half_width] => *entry(&mut plan.vertices, i)? = vertex_in(kind, half_width)?,
-        ["seg", i, a, b] => *entry(&mut plan.segments, i)? = (number(a)?, number(b)?),
+        ["seg", i, a, b] => poke_segment(plan, i, [a, b, "1"])?,
+        ["seg", i, a, b, rating] => poke_segment(plan, i, [a, b, rating])?,
         ["mem", i, number_in_text] => *entry(&mut loading.numbers, i)? = number(number_in_text)?,
         ["tangled", "0"] => loading.tangled = false,
         ["tangled", "1"] => loading.tangled = true,
@@ -35,6 +36,14 @@ pub(crate) fn poke(sheet: &mut Sheet, words: &[&str]) -> Option<()> {
 /// The entry that a word names.
 fn entry<'a, T>(entries: &'a mut [T], index: &str) -> Option<&'a mut T> {
     entries.get_mut(number::<usize>(index)?)
+}
+
+/// The ends and the rating of a segment; none, and nothing altered, if a word is no number.
+fn poke_segment(plan: &mut StoredPlan, index: &str, [a, b, rating]: [&str; 3]) -> Option<()> {
+    let (ends, rating) = ((number(a)?, number(b)?), number(rating)?);
+    *entry(&mut plan.segments, index)? = ends;
+    *entry(&mut plan.ratings, index)? = rating;
+    Some(())
 }
 
 fn stage_in(words: &[&str]) -> Option<Stage> {

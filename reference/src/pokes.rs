@@ -14,9 +14,21 @@ pub(crate) struct Damage {
     pub repair: String,
 }
 
-/// One kind of damage, which may take several pokes; with E1's pokes or without. A plan that grows needs one of them.
-pub(crate) fn damage(random: &mut Random, sheet: &Sheet, with_tangled: bool) -> Vec<Damage> {
-    match random.below(if with_tangled { 23 } else { 18 }) {
+/// Which pokes there are.
+#[derive(Clone, Copy)]
+pub(crate) struct Pokes {
+    /// Those of what a sheet remembers (E1). A plan that grows needs one of them.
+    pub tangled: bool,
+    /// Those of ratings (E5). Without them a poke of a segment makes its rating 1, and so does its repair.
+    pub rated: bool,
+}
+
+/// One kind of damage, which may take several pokes.
+pub(crate) fn damage(random: &mut Random, sheet: &Sheet, pokes: Pokes) -> Vec<Damage> {
+    if pokes.rated && random.once_in(8) {
+        return rating(random, sheet);
+    }
+    match random.below(if pokes.tangled { 23 } else { 18 }) {
         0 | 1 => vec![stage(random, sheet)],
         2 => vec![levels(random, sheet)],
         3 => vec![gap(random, sheet)],
@@ -24,10 +36,10 @@ pub(crate) fn damage(random: &mut Random, sheet: &Sheet, with_tangled: bool) -> 
         5 => vec![size(random, sheet)],
         6 => shift_size(random, sheet),
         7 | 8 => vec![vertex(random, sheet)],
-        9 => vec![segment(random, sheet)],
-        10 => exchange_segments(random, sheet),
-        11 => exchange_lower_ends(random, sheet),
-        12 if with_tangled => grow(sheet),
+        9 => vec![segment(random, sheet, pokes)],
+        10 => exchange_segments(random, sheet, pokes),
+        11 => exchange_lower_ends(random, sheet, pokes),
+        12 if pokes.tangled => grow(sheet),
         13 | 14 => vec![position(random, sheet)],
         15 => vec![placing(random, sheet)],
         18 | 19 => vec![number(random, sheet)],
@@ -146,7 +158,7 @@ fn vertex_words(vertex: StoredVertex) -> String {
 }
 
 /// Another end, or both exchanged.
-fn segment(random: &mut Random, sheet: &Sheet) -> Damage {
+fn segment(random: &mut Random, sheet: &Sheet, pokes: Pokes) -> Damage {
     let (v, e, _) = counts(sheet.stage);
     let i = index(random, e, Plan::MAX_SEGMENTS);
     let (upper, lower) = sheet.plan.segments[i];
@@ -156,27 +168,54 @@ fn segment(random: &mut Random, sheet: &Sheet) -> Damage {
         1 => (near(random, upper, &others), lower),
         _ => (upper, near(random, lower, &others)),
     };
-    segment_change(sheet, i, new)
+    segment_change(sheet, pokes, i, new)
 }
 
-fn segment_change(sheet: &Sheet, i: usize, new: (u64, u64)) -> Damage {
-    let old = sheet.plan.segments[i];
+/// Other ends of a segment, which keeps its rating where pokes have ratings.
+fn segment_change(sheet: &Sheet, pokes: Pokes, i: usize, new: (u64, u64)) -> Damage {
+    let (old, rating) = (sheet.plan.segments[i], sheet.plan.ratings[i]);
+    if pokes.rated {
+        return rated_change(sheet, i, new, rating);
+    }
     let pair = |(upper, lower)| format!("{upper} {lower}");
     change(&format!("seg {i}"), pair(new), pair(old))
 }
 
+/// Other ends and another rating of a segment; a rating of 1 is said from every other upper end on.
+fn rated_change(sheet: &Sheet, i: usize, new: (u64, u64), rating: u64) -> Damage {
+    let words = |(upper, lower): (u64, u64), rating: u64| {
+        if rating == 1 && upper % 2 == 0 {
+            format!("{upper} {lower}")
+        } else {
+            format!("{upper} {lower} {rating}")
+        }
+    };
+    change(&format!("seg {i}"), words(new, rating), words(sheet.plan.segments[i], sheet.plan.ratings[i]))
+}
+
+/// Another rating of a segment, within its limits or not, or two segments exchange theirs.
+fn rating(random: &mut Random, sheet: &Sheet) -> Vec<Damage> {
+    let i = index(random, counts(sheet.stage).1.saturating_sub(1), Plan::MAX_SEGMENTS - 1);
+    let change = |i: usize, rating: u64| rated_change(sheet, i, sheet.plan.segments[i], rating);
+    if random.once_in(4) {
+        return vec![change(i, sheet.plan.ratings[i + 1]), change(i + 1, sheet.plan.ratings[i])];
+    }
+    vec![change(i, near(random, sheet.plan.ratings[i], &[0, 1, 2, 7, 100, 101, 255, 65_535, u64::MAX]))]
+}
+
 /// Two segments that follow each other change places.
-fn exchange_segments(random: &mut Random, sheet: &Sheet) -> Vec<Damage> {
+fn exchange_segments(random: &mut Random, sheet: &Sheet, pokes: Pokes) -> Vec<Damage> {
     let i = index(random, counts(sheet.stage).1.saturating_sub(1), Plan::MAX_SEGMENTS - 1);
     let [first, second] = [sheet.plan.segments[i], sheet.plan.segments[i + 1]];
-    vec![segment_change(sheet, i, second), segment_change(sheet, i + 1, first)]
+    vec![segment_change(sheet, pokes, i, second), segment_change(sheet, pokes, i + 1, first)]
 }
 
 /// Two segments from the same level exchange their lower ends: inner ones then cross, or cease to.
-fn exchange_lower_ends(random: &mut Random, sheet: &Sheet) -> Vec<Damage> {
+fn exchange_lower_ends(random: &mut Random, sheet: &Sheet, pokes: Pokes) -> Vec<Damage> {
     let i = index(random, counts(sheet.stage).1.saturating_sub(1), Plan::MAX_SEGMENTS - 1);
     let [first, second] = [sheet.plan.segments[i], sheet.plan.segments[i + 1]];
-    vec![segment_change(sheet, i, (first.0, second.1)), segment_change(sheet, i + 1, (second.0, first.1))]
+    let (one, other) = ((first.0, second.1), (second.0, first.1));
+    vec![segment_change(sheet, pokes, i, one), segment_change(sheet, pokes, i + 1, other)]
 }
 
 /// The last level gains a box at its right end, remembered by its own number; no placing is listed any more. All of it

@@ -155,7 +155,8 @@ impl<'a> Placement<'a> {
         least
     }
 
-    /// The ⌈s/2⌉-th smallest way from a member of the class to a neighbour of a lower class, if there are such.
+    /// The ⌈s/2⌉-th smallest way from a member of the class to a neighbour of a lower class, if there are such. "Class shifts
+    /// stay unrated."
     fn shift_to_neighbours(&self, class: &[usize], position: &[i64]) -> Option<i64> {
         let mut ways = Vec::new();
         for &strand in class {

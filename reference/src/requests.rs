@@ -1,12 +1,12 @@
 //! Requests for place-run as plain numbers: random ones, accepted and refused in every way, and their lines of text.
 //!
 //! A request's line has r, then flag and value of the left bound and of the right one (a flag of 0 means that there is
-//! none), then old positions, distances, neighbour counts, neighbours and the answer buffer, each as its length and its
+//! none), then old positions, distances, neighbour counts, neighbours, ratings and the answer buffer, each as its length and its
 //! numbers. The line of its outcome has 0 or 8 and the answer buffer afterwards.
 
 use crate::place_run::{place_run, MAX_BOXES, MAX_DISTANCE, MAX_NEIGHBOURS, MAX_POSITION};
 use crate::random::Random;
-use crate::Refusal;
+use crate::{ratings, Refusal};
 use std::fmt::{self, Display};
 
 /// A side of a run: whether there is a bound (the flag is not 0), and its value, ignored where there is none.
@@ -42,6 +42,8 @@ pub struct Request {
     pub counts: Vec<u64>,
     /// All neighbours, box by box.
     pub neighbours: Vec<i64>,
+    /// The ratings of the segments to them.
+    pub ratings: Vec<u64>,
     /// The answer buffer before the call.
     pub answer: Vec<i64>,
 }
@@ -72,6 +74,7 @@ impl Request {
     pub fn outcome(&self) -> (Refusal, Vec<i64>) {
         let distances: Vec<i64> = self.distances.iter().map(|&d| i64::try_from(d).unwrap_or(i64::MAX)).collect();
         let counts: Vec<usize> = self.counts.iter().map(|&c| usize::try_from(c).unwrap_or(usize::MAX)).collect();
+        let ratings: Vec<i64> = self.ratings.iter().map(|&w| i64::try_from(w).unwrap_or(i64::MAX)).collect();
         let r = usize::try_from(self.r).unwrap_or(usize::MAX);
         let mut answer = self.answer.clone();
         let placed = place_run(
@@ -82,6 +85,7 @@ impl Request {
             &distances,
             &counts,
             &self.neighbours,
+            &ratings,
             &mut answer,
         );
         (placed.err().unwrap_or(0), answer)
@@ -93,7 +97,7 @@ impl Request {
         answer.iter().fold(number.to_string(), |line, x| line + " " + &x.to_string())
     }
 
-    /// A request that is accepted, with `boxes` boxes and `neighbours` neighbours in all.
+    /// A request that is accepted, with `boxes` boxes and `neighbours` neighbours in all, all ratings 1.
     pub fn accepted(random: &mut Random, boxes: usize, neighbours: usize, scale: Scale) -> Request {
         let mut counts = vec![0u64; boxes];
         for _ in 0..neighbours {
@@ -104,7 +108,7 @@ impl Request {
         Request::with_counts(random, counts, scale)
     }
 
-    /// A request that is accepted, its boxes with so many neighbours each.
+    /// A request that is accepted, its boxes with so many neighbours each, all ratings 1.
     fn with_counts(random: &mut Random, counts: Vec<u64>, scale: Scale) -> Request {
         let position = |random: &mut Random| random.within(-scale.position, scale.position);
         let boxes = counts.len();
@@ -121,6 +125,7 @@ impl Request {
             old: (0..boxes).map(|_| position(random)).collect(),
             distances: Vec::new(),
             counts,
+            ratings: vec![1; all.len()],
             neighbours: all,
             answer: (0..boxes).map(|_| position(random)).collect(),
         };
@@ -158,7 +163,7 @@ impl Request {
         }
     }
 
-    /// A random request of any size and scale, damaged once in three times.
+    /// A random request of any size and scale, damaged once in three times; all ratings are 1.
     pub fn any(random: &mut Random) -> Request {
         let boxes = random.pick(&[0, 1, 2, 3, 4, 5, 8, 16, 33, MAX_BOXES]);
         let neighbours = random.pick(&[0, 1, 3, 10, 64, 200, MAX_NEIGHBOURS]);
@@ -167,6 +172,7 @@ impl Request {
         let mut request = Request::accepted(random, boxes, neighbours, scale);
         if random.once_in(3) {
             request.damage(random);
+            request.ratings = vec![1; request.neighbours.len()];
         }
         request
     }
@@ -178,6 +184,27 @@ impl Request {
         let counts = (0..boxes).map(|_| random.pick(&[2, 2, 4])).collect();
         let scale = random.pick(&[Scale::NEAR, Scale::NEAR.times(1 << 30), Scale::EXTREME]);
         Request::with_counts(random, counts, scale)
+    }
+
+    /// A request of either sort with random ratings (E5), which are damaged once in six times. With few neighbours it is often so
+    /// that twice the ratings so far are the total of all.
+    pub fn rated(random: &mut Random) -> Request {
+        let mut request = if random.once_in(3) { Request::any(random) } else { Request::between_feeds(random) };
+        let choice = ratings::choose(random);
+        request.ratings = request.neighbours.iter().map(|_| random.pick(choice).unsigned_abs()).collect();
+        if random.once_in(6) {
+            request.damage_ratings(random);
+        }
+        request
+    }
+
+    /// One rating more or less, or one at a limit, some of them with the last bits of a rating.
+    fn damage_ratings(&mut self, random: &mut Random) {
+        match random.below(4) {
+            0 => self.ratings.push(1),
+            1 => drop(self.ratings.pop()),
+            _ => set(random, &mut self.ratings, &[0, 1, 100, 101, 257, (1 << 32) + 1, 1 << 63, u64::MAX]),
+        }
     }
 
     /// Changes one thing, so that it is refused, or just not.
@@ -231,6 +258,7 @@ impl Display for Request {
         list(f, &self.distances)?;
         list(f, &self.counts)?;
         list(f, &self.neighbours)?;
+        list(f, &self.ratings)?;
         list(f, &self.answer)
     }
 }
@@ -240,17 +268,23 @@ fn list<T: Display>(f: &mut fmt::Formatter<'_>, items: &[T]) -> fmt::Result {
     items.iter().try_for_each(|item| write!(f, " {item}"))
 }
 
-/// Cases 3 to 7 of document 01, and boxes between two feeds (E4): half an odd sum, and half a negative one.
+/// Cases 3 to 7 of document 01; boxes between two feeds (E4): half an odd sum, and half a negative one; and rated ones (E5): the
+/// middles by ratings, apart where twice the ratings so far reach the total and do not exceed it, and rated resistance.
 pub fn cases() -> Vec<Request> {
-    let request = |left: Side, old: &[i64], distances: &[u64], near: &[&[i64]]| Request {
+    let rated = |left: Side, old: &[i64], distances: &[u64], near: &[&[(i64, u64)]]| Request {
         r: old.len() as u64,
         left,
         right: Side { flag: 0, value: 0 },
         old: old.to_vec(),
         distances: distances.to_vec(),
         counts: near.iter().map(|own| own.len() as u64).collect(),
-        neighbours: near.concat(),
+        neighbours: near.concat().iter().map(|&(n, _)| n).collect(),
+        ratings: near.concat().iter().map(|&(_, rating)| rating).collect(),
         answer: vec![0; old.len()],
+    };
+    let request = |left: Side, old: &[i64], distances: &[u64], near: &[&[i64]]| {
+        let near: Vec<Vec<(i64, u64)>> = near.iter().map(|own| own.iter().map(|&n| (n, 1)).collect()).collect();
+        rated(left, old, distances, &near.iter().map(Vec::as_slice).collect::<Vec<_>>())
     };
     let none = Side { flag: 0, value: 0 };
     vec![
@@ -261,5 +295,12 @@ pub fn cases() -> Vec<Request> {
         request(none, &[0, 0, 0, 100], &[10, 10, 10], &[&[0, 0, 0], &[0], &[12, 12, 12], &[]]),
         request(none, &[0], &[], &[&[4, 9]]),
         request(none, &[0], &[], &[&[-5, 2]]),
+        rated(none, &[0], &[], &[&[(4, 1), (10, 2)]]),
+        rated(none, &[0], &[], &[&[(4, 100), (10, 99)]]),
+        rated(none, &[0], &[], &[&[(-20, 1), (-5, 2), (2, 2), (30, 1)]]),
+        rated(none, &[0], &[], &[&[(-5, 3), (2, 1), (9, 2)]]),
+        rated(none, &[0], &[], &[&[(0, 1), (10, 1), (20, 3), (30, 1)]]),
+        rated(none, &[0, 0], &[4], &[&[(0, 1)], &[(0, 3)]]),
+        rated(none, &[0, 0], &[4], &[&[(0, 3), (1, 2)], &[(0, 5)]]),
     ]
 }

@@ -2,16 +2,17 @@
 //!
 //! A script is answered while it is made, so that its commands know how many lines, marks and entries there are to ask for
 //! or to alter. Scripts come with the commands of no request, of E1 (tangled loads, and pokes of what a sheet remembers), of
-//! E1 and E2 (also lines of the text as it was read) or of E1 to E3 (also walks along a level). E4 has none of its own.
+//! E1 and E2 (also lines of the text as it was read), of E1 to E3 (also walks along a level) or of E1 to E5 (also ratings, in
+//! texts, pokes and runs). E4 has none of its own.
 
 use crate::generate::generate;
-use crate::pokes::{self, Damage};
+use crate::pokes::{self, Damage, Pokes};
 use crate::random::Random;
 use crate::requests::Request;
 use crate::script::Script;
 use crate::sheet::Stage;
 use crate::words::escaped;
-use crate::{cables, run_line, text, walk_lines};
+use crate::{cables, ratings, run_line, text, walk_lines};
 
 /// Most bytes in the line of a load.
 const MOST_IN_LOAD: usize = 200_000;
@@ -97,6 +98,42 @@ const EDGES: [&str; 10] = [
     "poke 1 stage loaded 18446744073709551615 18446744073709551615",
 ];
 
+/// Lines with ratings that are no commands.
+const NO_RATINGS: [&str; 12] = [
+    "poke 1 seg 0 0 1 x",
+    "poke 1 seg 0 0 1 -1",
+    "poke 1 seg 0 0 1 01",
+    "poke 1 seg 0 0 1 18446744073709551616",
+    "poke 1 seg 0 0 1 1 1",
+    "poke 1 seg 0 0 1 ",
+    "poke 1 seg 2048 0 1 1",
+    "placerun r=1 old=0 counts=1 nbrs=3 dist= ratings=x",
+    "placerun r=1 old=0 counts=1 nbrs=3 dist= ratings=1,",
+    "placerun r=1 old=0 counts=1 nbrs=3 dist= ratings=1 ratings=1",
+    "placerun r=1 old=0 counts=1 nbrs=3 dist= ratings=18446744073709551616",
+    "placerun r=1 old=0 counts=1 nbrs=3 dist= rating=1",
+];
+
+/// Commands with ratings at the edges of the form, and of refusal 8.
+const RATINGS: [&str; 16] = [
+    "poke 1 seg 2047 18446744073709551615 0 18446744073709551615",
+    "poke 1 seg 2047 0 0 0",
+    "placerun ratings=2,3 dist= nbrs=3,8 counts=2 old=0 r=1",
+    "placerun r=0 old= counts= nbrs= dist= ratings=",
+    "placerun r=0 old= counts= nbrs= dist= ratings=1",
+    "placerun r=1 old=0 counts=1 nbrs=3 dist= ratings=",
+    "placerun r=1 old=0 counts=1 nbrs=3 dist= ratings=0",
+    "placerun r=1 old=0 counts=1 nbrs=3 dist= ratings=1",
+    "placerun r=1 old=0 counts=1 nbrs=3 dist= ratings=100",
+    "placerun r=1 old=0 counts=1 nbrs=3 dist= ratings=101",
+    "placerun r=1 old=0 counts=1 nbrs=3 dist= ratings=1,1",
+    "placerun r=1 old=0 counts=1 nbrs=3 dist= ratings=4294967297",
+    "placerun r=1 old=0 counts=1 nbrs=3 dist= ratings=18446744073709551615",
+    "placerun r=1 old=0 counts=3 nbrs=3,8,9 dist= ratings=1,1,2",
+    "placerun r=1 old=0 counts=3 nbrs=-9,-8,3 dist= ratings=2,1,1",
+    "placerun r=2 old=0,0 counts=1,1 nbrs=5,5 dist=4 ratings=1,2",
+];
+
 /// Commands of later requests, each with the number of its request; until that has landed they are no commands either.
 const LATER: [(u32, &str); 14] = [
     (13, "draw 2"),
@@ -135,6 +172,11 @@ pub fn walk_scripts(count: u64, seed: u64) -> String {
     joined(count, seed, walk_script)
 }
 
+/// The same with the commands of E1 to E5.
+pub fn rated_scripts(count: u64, seed: u64) -> String {
+    joined(count, seed, rated_script)
+}
+
 fn joined(count: u64, seed: u64, script: fn(u64) -> String) -> String {
     let one = |seed: u64| format!("# script {seed}\nclear 1\n{}", script(seed));
     (0..count).map(|i| one(seed.wrapping_add(i))).collect()
@@ -158,6 +200,11 @@ pub fn text_script(seed: u64) -> String {
 /// The script of a seed, with the commands of E1 to E3.
 pub fn walk_script(seed: u64) -> String {
     made(Random::new("walk script", seed), 3)
+}
+
+/// The script of a seed, with the commands of E1 to E5.
+pub fn rated_script(seed: u64) -> String {
+    made(Random::new("rated script", seed), 5)
 }
 
 fn made(random: Random, requests: u32) -> String {
@@ -214,11 +261,18 @@ impl Maker {
             14 | 15 => self.ask(),
             16..=18 => self.place_run(),
             19 => self.say("clear 1"),
+            20 if self.is_rated() => self.say_one_of(&NO_RATINGS),
+            22 if self.is_rated() => self.say_one_of(&RATINGS),
             20 => self.say_one_of(&UNKNOWN),
             21 => self.later(),
             22 => self.say_one_of(&EDGES),
             _ => self.say_one_of(&["", "# a remark", "#draw 1"]),
         }
+    }
+
+    /// Whether it is ratings' turn, which is every other time in scripts that have them.
+    fn is_rated(&mut self) -> bool {
+        self.requests >= 5 && self.random.once_in(2)
     }
 
     fn say_one_of(&mut self, lines: &[&str]) {
@@ -239,7 +293,10 @@ impl Maker {
         let large = ["wide", "deep", "max"];
         if self.requests >= 3 && self.random.once_in(4) {
             let way = self.random.pick(&["strict", "tangled"]);
-            let draft = cables::draft(&mut self.random, cables::FEW);
+            let mut draft = cables::draft(&mut self.random, cables::FEW);
+            if self.is_rated() {
+                ratings::rate(&mut self.random, &mut draft);
+            }
             self.load_text(way, &text::write_form(&draft));
         } else if self.requests >= 1 && !self.random.once_in(3) {
             let kinds = ["small", "vias", "tangled", "crossed", "crossed", "crossed", "damaged", "damaged"];
@@ -254,8 +311,9 @@ impl Maker {
 
     fn load_one_of(&mut self, way: &str, kinds: &[&str], large: &[&str]) {
         let kind = if self.random.once_in(50) { self.random.pick(large) } else { self.random.pick(kinds) };
+        let kind = if self.is_rated() { format!("rated-{kind}") } else { kind.to_string() };
         let seed = self.random.next();
-        self.load_text(way, &generate(kind, seed).unwrap_or_default());
+        self.load_text(way, &generate(&kind, seed).unwrap_or_default());
     }
 
     fn load_text(&mut self, way: &str, text: &[u8]) {
@@ -309,7 +367,8 @@ impl Maker {
     }
 
     fn walk(&mut self) {
-        walk_lines::lines(&mut self.random).iter().for_each(|line| self.say(line));
+        let is_rated = self.is_rated();
+        walk_lines::lines(&mut self.random, is_rated).iter().for_each(|line| self.say(line));
     }
 
     /// A number that one of so many items has, or the next, or seldom any.
@@ -322,7 +381,8 @@ impl Maker {
     }
 
     fn place_run(&mut self) {
-        let line = run_line::line(&Request::any(&mut self.random));
+        let request = if self.is_rated() { Request::rated } else { Request::any };
+        let line = run_line::line(&request(&mut self.random));
         if line.len() <= MOST_IN_REQUEST {
             self.say(&line);
         }
@@ -348,7 +408,8 @@ impl Maker {
     }
 
     fn damage(&mut self) {
-        for Damage { poke, repair } in pokes::damage(&mut self.random, &self.run.sheet, self.requests >= 1) {
+        let pokes = Pokes { tangled: self.requests >= 1, rated: self.requests >= 5 };
+        for Damage { poke, repair } in pokes::damage(&mut self.random, &self.run.sheet, pokes) {
             self.say(&poke);
             self.repairs.push(repair);
         }
@@ -361,19 +422,19 @@ mod tests {
     use crate::script;
 
     /// How many requests there are the commands of.
-    const LANDED: u32 = 4;
+    const LANDED: u32 = 5;
 
     #[test]
     fn lines_that_are_no_commands() {
         let later = LATER.iter().filter(|(request, _)| *request > LANDED).map(|(_, line)| line);
-        for line in UNKNOWN.iter().chain(later) {
+        for line in UNKNOWN.iter().chain(&NO_RATINGS).chain(later) {
             assert_eq!(Script::new().answers(line.as_bytes()), ["unknown"], "{line}");
         }
     }
 
     #[test]
     fn commands_at_the_edges_of_the_form() {
-        for line in EDGES {
+        for line in EDGES.iter().chain(&RATINGS) {
             assert_ne!(Script::new().answers(line.as_bytes()), ["unknown"], "{line}");
         }
     }
@@ -383,17 +444,28 @@ mod tests {
         for seed in 0..600 {
             let random = &mut Random::new("damage", seed);
             let mut run = Script::new();
-            run.sheet.load_tangled(&generate("crossed", seed).expect("a kind")).expect("a plan that may be tangled");
+            let text = generate(if seed % 3 == 0 { "crossed" } else { "rated-crossed" }, seed).expect("a kind");
+            run.sheet.load_tangled(&text).expect("a plan that may be tangled");
             run.sheet.draw().expect("a plan");
             let before = run.sheet.clone();
-            let damage = pokes::damage(random, &run.sheet, seed % 2 == 0);
+            let damage = pokes::damage(random, &run.sheet, Pokes { tangled: seed % 2 == 0, rated: seed % 3 > 0 });
             for Damage { poke, .. } in &damage {
                 assert_eq!(run.answers(poke.as_bytes()), ["ok"], "{poke}");
             }
             for Damage { repair, .. } in damage.iter().rev() {
                 assert_eq!(run.answers(repair.as_bytes()), ["ok"], "{repair}");
             }
+            // A poke without a rating makes it 1, also beyond the segments, where it was 0.
+            let segments = segments_in_use(&run.sheet);
+            run.sheet.plan.ratings[segments..].copy_from_slice(&before.plan.ratings[segments..]);
             assert!(run.sheet == before, "{seed}");
+        }
+    }
+
+    fn segments_in_use(sheet: &crate::sheet::Sheet) -> usize {
+        match sheet.stage {
+            Stage::Empty => 0,
+            Stage::Loaded { segments, .. } | Stage::Drawn { segments, .. } => segments as usize,
         }
     }
 
@@ -421,6 +493,7 @@ mod tests {
         meet_every_answer(&tangled_scripts(300, 0), &numbers[..12]);
         meet_every_answer(&text_scripts(300, 0), &numbers);
         meet_every_answer(&walk_scripts(300, 0), &numbers);
+        meet_every_answer(&rated_scripts(300, 0), &numbers);
     }
 
     fn meet_every_answer(script: &str, numbers: &[u32]) {
@@ -493,5 +566,32 @@ mod tests {
             let (without, with) = (done(&without), done(&with));
             assert!(without == 0 && with > 20, "{start}: {without} and {with}");
         }
+    }
+
+    /// Without E5 there are one run with a rating and one poke of a rating among the commands of later requests.
+    #[test]
+    fn ratings_in_scripts() {
+        let rated_loads = |scripts: &str| {
+            let loads = scripts.lines().filter_map(|line| line.strip_prefix("load 1 ")?.split_once(' '));
+            let texts = loads.filter_map(|(_, text)| text::read_form(&crate::words::unescaped(text.as_bytes())?));
+            texts.filter(|draft| draft.segments.iter().any(|segment| segment.written.is_some())).count()
+        };
+        let runs = |scripts: &str| scripts.lines().filter(|line| line.contains(" ratings=")).count();
+        let pokes = |scripts: &str| {
+            let pokes = scripts.lines().filter(|line| line.starts_with("poke 1 seg ") && line.split(' ').count() == 7);
+            pokes.count()
+        };
+        let others = |scripts: &str, line: &str| scripts.lines().filter(|other| *other == line).count();
+        for without in [scripts(300, 0), tangled_scripts(300, 0), text_scripts(300, 0), walk_scripts(300, 0)] {
+            let run = others(&without, "placerun r=1 old=0 counts=1 nbrs=3 dist= ratings=1");
+            let poke = others(&without, "poke 1 seg 0 0 1 1");
+            assert_eq!((runs(&without), pokes(&without)), (run, poke));
+            assert!(rated_loads(&without) < 10, "{}", rated_loads(&without));
+        }
+        let with = rated_scripts(300, 0);
+        let counts = [rated_loads(&with), runs(&with), pokes(&with)];
+        assert!(counts.iter().all(|&count| count > 200), "{counts:?}");
+        let answers = answers_to("placerun", &with);
+        assert!(["ok ", "refused 8", "unknown"].iter().all(|start| answers.iter().any(|line| line.starts_with(start))));
     }
 }

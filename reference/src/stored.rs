@@ -7,7 +7,7 @@
 
 use crate::passes::{Drawing, Placing};
 use crate::place_run::MAX_POSITION;
-use crate::plan::{Draft, Plan, Vertex};
+use crate::plan::{Draft, Plan, Segment, Vertex};
 use crate::text;
 
 /// Most placings in a list, and most boxes in all placings of a list.
@@ -37,6 +37,8 @@ pub struct StoredPlan {
     pub vertices: [StoredVertex; Plan::MAX_VERTICES],
     /// Upper and lower end of each segment.
     pub segments: [(u64, u64); Plan::MAX_SEGMENTS],
+    /// The rating of each segment, also where it is 1.
+    pub ratings: [u64; Plan::MAX_SEGMENTS],
 }
 
 impl StoredPlan {
@@ -49,6 +51,7 @@ impl StoredPlan {
             sizes: [0; Plan::MAX_LEVELS],
             vertices: [StoredVertex::default(); Plan::MAX_VERTICES],
             segments: [(0, 0); Plan::MAX_SEGMENTS],
+            ratings: [0; Plan::MAX_SEGMENTS],
         }
     }
 
@@ -63,13 +66,14 @@ impl StoredPlan {
             |vertex: &Vertex| StoredVertex { is_via: vertex.is_via, half_width: vertex.half_width.unsigned_abs() };
         fill(&mut stored.sizes, draft.sizes.iter().map(|&size| size as u64));
         fill(&mut stored.vertices, draft.vertices.iter().map(vertex));
-        fill(&mut stored.segments, draft.segments.iter().map(|&(upper, lower)| (upper as u64, lower as u64)));
+        fill(&mut stored.segments, draft.segments.iter().map(|segment| (segment.upper as u64, segment.lower as u64)));
+        fill(&mut stored.ratings, draft.segments.iter().map(|segment| segment.rating().unsigned_abs()));
         stored
     }
 
     /// The plan with so many vertices and segments, if it is that of a text which passes checks 1 to 6: the text written
     /// of the data is read again, and must say the same. So data are turned away too that no check has a number for, as a
-    /// via with a half-width, or level sizes that do not add up.
+    /// via with a half-width, or level sizes that do not add up. A rating of 1 is not written.
     pub fn plan(&self, vertices: u64, segments: u64) -> Option<Plan> {
         let data = self.data(vertices, segments)?;
         let plan = text::read(&text::write_form(&data)).ok()?;
@@ -83,14 +87,18 @@ impl StoredPlan {
             let half_width = i64::try_from(stored.half_width).ok()?;
             Some(Vertex { is_via: stored.is_via, half_width })
         };
-        let segment = |&(upper, lower): &(u64, u64)| usize::try_from(upper).ok().zip(usize::try_from(lower).ok());
+        let segment = |(&(upper, lower), &rating): (&(u64, u64), &u64)| {
+            let ends = usize::try_from(upper).ok().zip(usize::try_from(lower).ok())?;
+            Some(Segment::rated(ends, i64::try_from(rating).ok()?))
+        };
+        let rated = first(&self.segments, segments)?.iter().zip(&self.ratings);
         Some(Draft {
             levels: i64::try_from(self.levels).ok()?,
             gap: i64::try_from(self.gap).ok()?,
             spacing: i64::try_from(self.spacing).ok()?,
             sizes: first(&self.sizes, self.levels)?.iter().map(size).collect::<Option<_>>()?,
             vertices: first(&self.vertices, vertices)?.iter().map(vertex).collect::<Option<_>>()?,
-            segments: first(&self.segments, segments)?.iter().map(segment).collect::<Option<_>>()?,
+            segments: rated.map(segment).collect::<Option<_>>()?,
         })
     }
 }

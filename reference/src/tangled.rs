@@ -5,7 +5,7 @@
 //! vertices keep their places. Vertices are then renumbered, segments sorted anew". The order of upper ends is that in
 //! which they stand once their own level is rearranged.
 
-use crate::plan::{Draft, Plan, Side};
+use crate::plan::{Draft, Plan, Segment, Side};
 use crate::{text, Refusal};
 
 /// A plan that was loaded, and what is remembered of its text.
@@ -48,10 +48,12 @@ fn order(plan: &Plan) -> Vec<usize> {
     order
 }
 
-/// The same plan in other numbers: vertex `order[i]` becomes vertex i, and segments are sorted anew, by A, then B.
+/// The same plan in other numbers: vertex `order[i]` becomes vertex i, and segments are sorted anew, by A, then B, each with its
+/// rating.
 pub fn renumbered(draft: &Draft, order: &[usize]) -> Draft {
     let number = inverse(order);
-    let mut segments: Vec<_> = draft.segments.iter().map(|&(upper, lower)| (number[upper], number[lower])).collect();
+    let in_numbers = |s: &Segment| Segment { upper: number[s.upper], lower: number[s.lower], ..*s };
+    let mut segments: Vec<_> = draft.segments.iter().map(in_numbers).collect();
     segments.sort_unstable();
     Draft { vertices: order.iter().map(|&v| draft.vertices[v]).collect(), segments, ..draft.clone() }
 }

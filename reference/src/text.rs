@@ -3,12 +3,12 @@
 //! ```text
 //! (plan K G S)
 //! (level (box 3) (via))     one line per level, at least one vertex in each
-//! (seg A B)
+//! (seg A B)                 with a rating other than 1 (seg A B W)
 //! (end)
 //! ```
 
 use crate::cursor::Cursor;
-use crate::plan::{Draft, Plan, Vertex};
+use crate::plan::{Draft, Plan, Segment, Vertex};
 use crate::{refusal, Refusal};
 
 /// A text of more bytes is refused with 1.
@@ -78,12 +78,14 @@ fn read_vertex(cursor: &mut Cursor) -> Option<Vertex> {
     Some(Vertex::new_box(half_width))
 }
 
-fn read_segment(cursor: &mut Cursor) -> Option<(usize, usize)> {
+/// The two ends, a rating if there is one, and the line's end. The form allows any rating, also a written 1; check 2 does not.
+fn read_segment(cursor: &mut Cursor) -> Option<Segment> {
     let upper = cursor.number(MAX_DIGITS)?;
     cursor.expect(b" ")?;
     let lower = cursor.number(MAX_DIGITS)?;
+    let written = if cursor.take(b" ") { Some(cursor.number(MAX_DIGITS)?) } else { None };
     cursor.expect(b")\n")?;
-    Some((upper as usize, lower as usize))
+    Some(Segment { upper: upper as usize, lower: lower as usize, written })
 }
 
 /// The text of a plan. Reading it gives the plan back.
@@ -101,8 +103,12 @@ pub fn write_form(draft: &Draft) -> Vec<u8> {
         vertices.by_ref().take(size).for_each(|vertex| push_vertex(&mut text, vertex));
         text.extend_from_slice(b")\n");
     }
-    for &(upper, lower) in &draft.segments {
-        push_line(&mut text, b"(seg", &[upper as i64, lower as i64]);
+    for &Segment { upper, lower, written } in &draft.segments {
+        let ends = [upper as i64, lower as i64];
+        match written {
+            None => push_line(&mut text, b"(seg", &ends),
+            Some(rating) => push_line(&mut text, b"(seg", &[ends[0], ends[1], rating]),
+        }
     }
     text.extend_from_slice(b"(end)\n");
     text

@@ -5,7 +5,7 @@ use crate::plan::Plan;
 use crate::random::Random;
 use crate::walk::{walk, Walk};
 use crate::words::escaped;
-use crate::{cables, damage, text};
+use crate::{cables, damage, ratings, text};
 
 /// Most bytes in a text that is walked along level after level.
 const MOST_WITH_ALL_LEVELS: usize = 800;
@@ -49,14 +49,15 @@ const EDGES: [&str; 10] = [
     "walk 2 \\x28plan 2 1 1)\\x0A(level (box 1))\\x0a(level (box 1))\\n(end)\\n",
 ];
 
-/// Walks along a level of a text, or along one after another; or a line at the edge of the form, or beyond.
-pub(crate) fn lines(random: &mut Random) -> Vec<String> {
+/// Walks along a level of a text, or along one after another; or a line at the edge of the form, or beyond. Texts have ratings
+/// (E5) or not.
+pub(crate) fn lines(random: &mut Random, is_rated: bool) -> Vec<String> {
     match random.below(12) {
         0 | 1 => return vec![random.pick(&NO_WALKS).to_string()],
         2 => return vec![random.pick(&EDGES).to_string()],
         _ => {}
     }
-    let plan_text = plan_text(random);
+    let plan_text = if is_rated { rated_text(random) } else { plan_text(random) };
     let words = escaped(&plan_text);
     let walked = if words.len() > MOST_IN_LINE {
         Vec::new()
@@ -112,6 +113,26 @@ fn plan_text(random: &mut Random) -> Vec<u8> {
     generate(kind, seed).unwrap_or_default()
 }
 
+/// The same with ratings.
+fn rated_text(random: &mut Random) -> Vec<u8> {
+    match random.below(4) {
+        0 => {
+            let kind = random.pick(&["rated-vias", "rated-tangled", "rated-crossed", "rated-damaged"]);
+            let seed = random.next();
+            generate(kind, seed).unwrap_or_default()
+        }
+        choice => {
+            let mut draft = cables::draft(random, cables::FEW);
+            ratings::rate(random, &mut draft);
+            if choice == 1 {
+                damage::damaged_rated(random, draft)
+            } else {
+                text::write_form(&draft)
+            }
+        }
+    }
+}
+
 #[cfg(test)]
 mod tests {
     use super::*;
@@ -131,7 +152,7 @@ mod tests {
     #[test]
     fn every_answer_is_met() {
         let random = &mut Random::new("walk lines", 0);
-        let all: Vec<String> = (0..6_000).flat_map(|_| lines(random)).flat_map(|line| answers(&line)).collect();
+        let all: Vec<String> = (0..6_000).flat_map(|_| lines(random, false)).flat_map(|line| answers(&line)).collect();
         let met = |answer: &str| all.iter().filter(|given| *given == answer).count();
         let taken = |answer: &str, least: u32, most: u32| (least..=most).map(|n| met(&format!("{answer} {n}"))).sum();
         let counts: [usize; 16] = [
@@ -154,5 +175,16 @@ mod tests {
         ];
         assert!(counts.iter().all(|&count| count >= 10), "{counts:?}");
         assert_eq!(counts.iter().sum::<usize>(), all.len());
+    }
+
+    /// The walk minds no ratings; check 2 does, and a segment twice is refused with 4 whatever its ratings.
+    #[test]
+    fn walks_of_rated_texts() {
+        let random = &mut Random::new("rated walk lines", 0);
+        let lines: Vec<String> = (0..2_000).flat_map(|_| lines(random, true)).collect();
+        let all: Vec<String> = lines.iter().flat_map(|line| answers(line)).collect();
+        let met = |start: &str| all.iter().filter(|given| given.starts_with(start)).count();
+        let counts = ["ok clear", "ok crossed", "refused 1", "refused 2", "refused 4", "refused 5"].map(met);
+        assert!(counts.iter().all(|&count| count >= 10), "{counts:?}");
     }
 }

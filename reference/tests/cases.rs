@@ -1,4 +1,5 @@
-//! The cases and edges of document 01, cases 1 and 3 as document 02 has them with E4, more of E4, and the text's form.
+//! The cases and edges of document 01, cases 1 and 3 as document 02 has them with E4, more of E4, and the text's form. In cases
+//! 3 to 7 all ratings are 1; other ratings are in `ratings.rs`.
 
 use reference::place_run::{place_run, Run, MAX_POSITION};
 use reference::{half_steps, preliminary, report, text};
@@ -59,9 +60,10 @@ fn placed_between(
 ) -> Vec<i64> {
     let counts: Vec<usize> = neighbours.iter().map(|own| own.len()).collect();
     let flat = neighbours.concat();
+    let ratings = vec![1; flat.len()];
     let mut answer = vec![0; old.len()];
-    place_run(old.len(), left, right, old, distances, &counts, &flat, &mut answer).expect("acceptable");
-    let run = Run { left, right, old, distances, counts: &counts, neighbours: &flat };
+    place_run(old.len(), left, right, old, distances, &counts, &flat, &ratings, &mut answer).expect("acceptable");
+    let run = Run { left, right, old, distances, counts: &counts, neighbours: &flat, ratings: &ratings };
     assert_eq!(half_steps::place(&run).0, answer);
     answer
 }
@@ -322,7 +324,7 @@ fn texts_not_in_the_form() {
         ("(level (via))", "(level (box))"),
         ("(level (via))", "(level (Via))"),
         ("(seg 0 1)", "(seg 0)"),
-        ("(seg 0 1)", "(seg 0 1 1)"),
+        ("(seg 0 1)", "(seg 0 1 2 2)"),
         ("(seg 0 1)", "(seg 0\t1)"),
         ("(plan 2 1 1)\n", ""),
         ("(plan 2 1 1)\n", "(plan 2 1 1)\n\n"),

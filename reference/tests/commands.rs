@@ -154,6 +154,8 @@ fn scripts_and_their_answers() {
     assert_eq!((code, String::from_utf8_lossy(&tangled)), (WELL, reference::scripts::tangled_scripts(3, 7).into()));
     let (code, walks) = run(&["scripts", "3", "7", "walk"], b"");
     assert_eq!((code, String::from_utf8_lossy(&walks)), (WELL, reference::scripts::walk_scripts(3, 7).into()));
+    let (code, rated) = run(&["scripts", "3", "7", "rated"], b"");
+    assert_eq!((code, String::from_utf8_lossy(&rated)), (WELL, reference::scripts::rated_scripts(3, 7).into()));
     let starts: Vec<&[u8]> =
         scripts.split(|&byte| byte == b'\n').filter(|line| line.starts_with(b"# script ")).collect();
     assert_eq!(starts, [b"# script 7", b"# script 8", b"# script 9"]);
@@ -172,9 +174,21 @@ fn scripts_and_their_answers() {
     fs::remove_dir_all(&folder).expect("the folder");
 }
 
+/// After the cases so many requests of any sort, between feeds and with ratings, each with its outcome.
+#[test]
+fn requests_and_their_outcomes() {
+    let cases = reference::requests::cases().len();
+    for count in [0, 1, 9] {
+        let (code, requests) = run(&["requests", &count.to_string()], b"");
+        let (_, outcomes) = run(&["outcomes", &count.to_string()], b"");
+        let lines = |bytes: &[u8]| bytes.iter().filter(|&&byte| byte == b'\n').count();
+        assert_eq!((code, lines(&requests), lines(&outcomes)), (WELL, cases + 3 * count, cases + 3 * count));
+    }
+}
+
 #[test]
 fn wrong_requests() {
-    let wrong: [&[&str]; 28] = [
+    let wrong: [&[&str]; 30] = [
         &[],
         &[""],
         &["draw"],
@@ -188,6 +202,8 @@ fn wrong_requests() {
         &["gen", "small", ""],
         &["gen", "small", "99999999999999999999999999"],
         &["gen", "large", "1"],
+        &["gen", "rated", "1"],
+        &["requests"],
         &["gen", "small", "1", "2"],
         &["vectors"],
         &["vectors", "no such folder"],

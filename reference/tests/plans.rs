@@ -85,6 +85,22 @@ fn damaged_plans() {
 }
 
 #[test]
+fn rated_plans() {
+    judge_kind("rated-small", 3_000);
+    judge_kind("rated-medium", 800);
+    judge_kind("rated-deep", 100);
+    judge_kind("rated-vias", 800);
+    judge_kind("rated-tangled", 500);
+    judge_kind("rated-damaged", 1_500);
+}
+
+#[test]
+fn large_rated_plans() {
+    judge_kind("rated-wide", 100);
+    judge_kind("rated-max", 20);
+}
+
+#[test]
 fn equal_seeds_give_equal_texts_and_other_kinds_give_none() {
     for kind in KINDS {
         assert_eq!(text_of(kind, 5), text_of(kind, 5));
@@ -97,7 +113,7 @@ fn equal_seeds_give_equal_texts_and_other_kinds_give_none() {
 
 #[test]
 fn whole_kinds_are_always_accepted() {
-    for kind in ["small", "medium", "wide", "deep", "vias", "max"] {
+    for kind in ["small", "medium", "wide", "deep", "vias", "max", "rated-small", "rated-vias", "rated-max"] {
         assert_eq!(plans(kind, 50).count(), 50, "{kind}");
     }
     let tangled = plans("tangled", 200).count();

@@ -25,32 +25,36 @@ fn assert_optimal(task: &Task, positions: &[i64]) {
 #[test]
 fn half_steps_and_jumps_agree_on_short_runs() {
     let random = &mut Random::new("short runs", 1);
-    for _ in 0..100_000 {
-        agree(&OwnedRun::random(random, &Limits { boxes: (0, 9), neighbours: 5, position: 40, distance: 9 }));
+    for rating in [1, 1, 2, 3, 100] {
+        let limits = Limits { boxes: (0, 9), neighbours: 5, position: 40, distance: 9, rating };
+        (0..40_000).for_each(|_| agree(&OwnedRun::random(random, &limits)));
     }
 }
 
 #[test]
 fn half_steps_and_jumps_agree_on_crowded_runs() {
     let random = &mut Random::new("crowded runs", 1);
-    for _ in 0..20_000 {
-        agree(&OwnedRun::random(random, &Limits { boxes: (2, 16), neighbours: 8, position: 6, distance: 3 }));
+    for rating in [1, 1, 2, 3, 100] {
+        let limits = Limits { boxes: (2, 16), neighbours: 8, position: 6, distance: 3, rating };
+        (0..8_000).for_each(|_| agree(&OwnedRun::random(random, &limits)));
     }
 }
 
 #[test]
 fn half_steps_and_jumps_agree_on_the_largest_runs() {
     let random = &mut Random::new("largest runs", 1);
-    for _ in 0..25 {
-        agree(&OwnedRun::random(random, &Limits { boxes: (60, 64), neighbours: 32, position: 400, distance: 40 }));
+    for rating in [1, 2, 100] {
+        let limits = Limits { boxes: (60, 64), neighbours: 32, position: 400, distance: 40, rating };
+        (0..12).for_each(|_| agree(&OwnedRun::random(random, &limits)));
     }
 }
 
 #[test]
 fn jumps_are_optimal_at_the_limits() {
     let random = &mut Random::new("limits", 1);
-    for _ in 0..200 {
-        let limits = Limits { boxes: (2, 64), neighbours: 20, position: MAX_POSITION, distance: MAX_DISTANCE };
+    for i in 0..200 {
+        let rating = if i % 2 == 0 { 1 } else { 100 };
+        let limits = Limits { boxes: (2, 64), neighbours: 20, position: MAX_POSITION, distance: MAX_DISTANCE, rating };
         let mut owned = OwnedRun::random(random, &limits);
         if owned.right.is_some_and(|right| right > MAX_POSITION) {
             owned.right = None;
@@ -62,11 +66,11 @@ fn jumps_are_optimal_at_the_limits() {
 }
 
 /// The least length of all placements with every box within ±`reach`.
-fn least_by_trying(task: &Task, reach: i64, positions: &mut Vec<i64>) -> Option<i64> {
+fn least_by_trying(task: &Task, reach: i64, positions: &mut Vec<i64>) -> Option<i128> {
     if positions.len() == task.neighbours.len() {
         return task.is_placement(positions).then(|| task.length(positions));
     }
-    let mut least: Option<i64> = None;
+    let mut least: Option<i128> = None;
     for position in -reach..=reach {
         positions.push(position);
         let found = least_by_trying(task, reach, positions);
@@ -79,9 +83,10 @@ fn least_by_trying(task: &Task, reach: i64, positions: &mut Vec<i64>) -> Option<
 #[test]
 fn the_exact_optimum_is_the_least_of_all_placements() {
     let random = &mut Random::new("optimum", 1);
-    for _ in 0..2_000 {
-        let owned = OwnedRun::random(random, &Limits { boxes: (1, 3), neighbours: 4, position: 3, distance: 3 });
-        let task = owned.task();
+    for i in 0..2_000 {
+        let rating = [1, 2, 3, 100][i % 4];
+        let limits = Limits { boxes: (1, 3), neighbours: 4, position: 3, distance: 3, rating };
+        let task = OwnedRun::random(random, &limits).task();
         assert_eq!(Some(task.least_length()), least_by_trying(&task, 18, &mut Vec::new()), "{task:?}");
     }
 }
@@ -95,6 +100,7 @@ struct Call {
     distances: Vec<i64>,
     counts: Vec<usize>,
     neighbours: Vec<i64>,
+    ratings: Vec<i64>,
     answer: Vec<i64>,
 }
 
@@ -107,6 +113,7 @@ fn good_call() -> Call {
         distances: vec![6, 10, 5],
         counts: vec![2, 1],
         neighbours: vec![2, 9, 4],
+        ratings: vec![1; 3],
         answer: vec![-77; 2],
     }
 }
@@ -116,12 +123,12 @@ impl Call {
     fn bare(r: usize) -> Self {
         let distances = vec![1; r.saturating_sub(1)];
         let (old, counts, answer) = (vec![0; r], vec![0; r], vec![-77; r]);
-        Call { r, left: None, right: None, old, distances, counts, neighbours: vec![], answer }
+        Call { r, left: None, right: None, old, distances, counts, neighbours: vec![], ratings: vec![], answer }
     }
 
     fn make(&mut self) -> Result<(), u32> {
-        let Call { r, left, right, old, distances, counts, neighbours, answer } = self;
-        place_run(*r, *left, *right, old, distances, counts, neighbours, answer)
+        let Call { r, left, right, old, distances, counts, neighbours, ratings, answer } = self;
+        place_run(*r, *left, *right, old, distances, counts, neighbours, ratings, answer)
     }
 
     fn accepted(mut self) -> bool {
@@ -181,6 +188,7 @@ fn place_run_refuses_too_many_neighbours() {
         let mut call = Call::bare(2);
         call.counts = vec![first, second];
         call.neighbours = vec![0; first + second];
+        call.ratings = vec![1; first + second];
         call.accepted()
     };
     assert!(with(2_048, 0) && with(1_000, 1_048));
@@ -210,6 +218,24 @@ fn place_run_refuses_numbers_outside_their_limits() {
     assert!(distance(1) && distance(MAX_DISTANCE));
     assert!(!distance(0) && !distance(-1) && !distance(MAX_DISTANCE + 1));
     assert!(!distance(i64::MAX) && !distance(i64::MIN));
+}
+
+/// "Exactly as many, and another length or one outside 1 to 100 is refused with 8."
+#[test]
+fn place_run_refuses_wrong_ratings() {
+    assert!(!accepted(|call| call.ratings.push(1)));
+    assert!(!accepted(|call| call.ratings.truncate(2)));
+    assert!(!accepted(|call| call.ratings.clear()));
+    assert!(!Call { ratings: vec![1], ..Call::bare(1) }.accepted());
+    assert!(!Call { ratings: vec![1], ..Call::bare(0) }.accepted());
+    for i in 0..3 {
+        for rating in [1, 2, 99, 100] {
+            assert!(accepted(|call| call.ratings[i] = rating), "{i} {rating}");
+        }
+        for rating in [0, -1, 101, 257, (1 << 32) + 1, i64::MAX, i64::MIN] {
+            assert!(!accepted(|call| call.ratings[i] = rating), "{i} {rating}");
+        }
+    }
 }
 
 #[test]

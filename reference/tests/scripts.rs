@@ -14,7 +14,7 @@ fn scripts() -> Vec<PathBuf> {
 #[test]
 fn answers_are_those_of_the_vectors() {
     let scripts = scripts();
-    assert_eq!(scripts.len(), 138);
+    assert_eq!(scripts.len(), 167);
     for file in scripts {
         let expected = fs::read(file.with_extension("answers")).expect("answers");
         assert!(script::answers(&fs::read(&file).expect("a script")) == expected, "{}", file.display());
@@ -209,7 +209,11 @@ fn other_lines_change_nothing() {
         "poke 1 vertex 0 box -1",
         "poke 1 vertex 1024 box 1",
         "poke 1 seg 0 0",
-        "poke 1 seg 0 0 1 1",
+        "poke 1 seg 0 0 1 -1",
+        "poke 1 seg 0 0 1 01",
+        "poke 1 seg 0 0 1 1 1",
+        "poke 1 seg 0 0 1 18446744073709551616",
+        "poke 1 seg 2048 0 1 1",
         "poke 1 seg 2048 0 1",
         "poke 1 pre 1024 0",
         "poke 1 pos 0 9223372036854775808",
@@ -234,7 +238,10 @@ fn other_lines_change_nothing() {
         "walk 1\\t(plan 2 1 1)\\n(level (box 1))\\n(level (box 1))\\n(end)\\n",
         "walk 1 (plan 2 1 1)\\n(level (box 1))\\n(level (box 1))\\n(end)\\n\\q",
         "walk (plan 2 1 1)\\n(level (box 1))\\n(level (box 1))\\n(end)\\n",
-        "placerun r=1 old=0 counts=0 nbrs= dist= ratings=",
+        "placerun r=1 old=0 counts=0 nbrs= dist= ratings= ratings=",
+        "placerun r=1 old=0 counts=1 nbrs=3 dist= ratings=x",
+        "placerun r=1 old=0 counts=1 nbrs=3 dist= ratings=1,",
+        "placerun r=1 old=0 counts=1 nbrs=3 dist= ratings=18446744073709551616",
         "placerun r=1 old=0 old=0 counts=0 nbrs= dist=",
         "placerun r=1 old=0, counts=0 nbrs= dist=",
         "placerun r=1 old=0 counts=0 nbrs= dist= left=",

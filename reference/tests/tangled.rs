@@ -7,7 +7,7 @@ use std::path::Path;
 use reference::edges::edges;
 use reference::generate::{generate, KINDS};
 use reference::passes::{self, Drawing};
-use reference::plan::{Draft, Plan};
+use reference::plan::{Draft, Plan, Segment};
 use reference::sheet::{Sheet, Stage};
 use reference::tangled::{self, inverse, renumbered, Loaded};
 use reference::{check, marks, report, text};
@@ -32,7 +32,7 @@ fn crossed() -> Vec<u8> {
 fn rearranged(text: &[u8], numbers: &[usize], segments: &[(usize, usize)]) {
     let loaded = tangled::read(text).expect("a plan that may be tangled");
     assert_eq!(loaded.numbers, numbers);
-    assert_eq!(loaded.plan.segments(), segments);
+    assert!(loaded.plan.segments().iter().map(Segment::ends).eq(segments.iter().copied()));
 }
 
 // ---------------------------------------------------------------------------------------------------------------------
@@ -121,7 +121,7 @@ fn renumbering_by_an_order_and_back() {
     let draft = text::read_form(&crossed()).expect("in the form");
     let order = [1, 0, 3, 2, 4, 5, 7, 6];
     let other = renumbered(&draft, &order);
-    assert_eq!(other.segments, [(0, 2), (1, 3), (2, 4), (3, 5), (4, 7), (5, 6)]);
+    assert_eq!(other.segments, [(0, 2), (1, 3), (2, 4), (3, 5), (4, 7), (5, 6)].map(Segment::new));
     assert_eq!((other.vertices[0], other.vertices[1]), (draft.vertices[1], draft.vertices[0]));
     assert_eq!(renumbered(&other, &inverse(&order)), draft);
     assert_eq!(inverse(&[2, 0, 1]), [1, 2, 0]);
@@ -179,8 +179,17 @@ fn plans(kind: &'static str, seeds: u64) -> impl Iterator<Item = (String, Draft,
 }
 
 /// How many texts of each kind are tried.
-const TIMES: [(&str, u64); 6] =
-    [("crossed", 2_000), ("crossed-max", 60), ("tangled", 1_000), ("damaged", 1_000), ("vias", 300), ("small", 500)];
+const TIMES: [(&str, u64); 9] = [
+    ("crossed", 2_000),
+    ("crossed-max", 60),
+    ("tangled", 1_000),
+    ("damaged", 1_000),
+    ("vias", 300),
+    ("small", 500),
+    ("rated-crossed", 1_000),
+    ("rated-crossed-max", 20),
+    ("rated-damaged", 500),
+];
 
 fn each_plan(judge: impl Fn(&str, &Draft, &Loaded)) {
     for (kind, times) in TIMES {
@@ -241,7 +250,7 @@ fn renumbering_back_gives_the_plan() {
 fn only_vias_whose_upper_end_is_a_via_move() {
     each_plan(|name, draft, Loaded { plan, numbers }| {
         let is_via = |v: usize| draft.vertices[v].is_via;
-        let hangs_on_via = |v: usize| draft.segments.iter().any(|&(upper, lower)| lower == v && is_via(upper));
+        let hangs_on_via = |v: usize| draft.segments.iter().any(|s| s.lower == v && is_via(s.upper));
         for (v, &number) in numbers.iter().enumerate().filter(|(v, number)| v != *number) {
             assert!(is_via(v) && hangs_on_via(v) && is_via(number) && hangs_on_via(number), "{name}");
             assert!(plan.level(plan.level_of(v)).contains(&number), "{name}");
@@ -262,7 +271,7 @@ fn order_by_exchanges(draft: &Draft, plan: &Plan) -> Vec<usize> {
     for level in 1..draft.sizes.len() {
         let between =
             |&(upper, lower): &(usize, usize)| plan.level_of(lower) == level && is_via(upper) && is_via(lower);
-        let inner: Vec<(usize, usize)> = draft.segments.iter().copied().filter(between).collect();
+        let inner: Vec<(usize, usize)> = draft.segments.iter().map(Segment::ends).filter(between).collect();
         while exchange_crossed(&inner, &mut place) {}
     }
     inverse(&place)
@@ -522,7 +531,7 @@ fn given_back(sheet: &Sheet) -> Vec<u8> {
 #[test]
 fn the_text_is_given_back() {
     for kind in KINDS {
-        for seed in 0..if kind.ends_with("max") { 3 } else { 60 } {
+        for seed in 0..if kind.ends_with("max") { 2 } else { 30 } {
             let text = generate(kind, seed).expect("a kind");
             let mut sheet = Sheet::empty();
             if sheet.load_tangled(&text).is_ok() {

@@ -7,7 +7,7 @@ use std::iter;
 use reference::cables;
 use reference::edges::edges;
 use reference::generate::generate;
-use reference::plan::{Draft, Plan};
+use reference::plan::{Draft, Plan, Segment};
 use reference::walk::{of_text, Walk};
 use reference::{tangled, text};
 
@@ -164,7 +164,7 @@ fn inner_segments(draft: &Draft) -> Vec<Vec<(usize, usize)>> {
     let sizes = draft.sizes.iter().enumerate();
     let level_of: Vec<usize> = sizes.flat_map(|(level, &size)| iter::repeat_n(level, size)).collect();
     let mut inner = vec![Vec::new(); draft.sizes.len() - 1];
-    for &(upper, lower) in &draft.segments {
+    for (upper, lower) in draft.segments.iter().map(Segment::ends) {
         if draft.vertices[upper].is_via && draft.vertices[lower].is_via {
             inner[level_of[upper]].push((upper, lower));
         }
@@ -223,15 +223,19 @@ fn random_texts_of_every_kind() {
         ("crossed", 1_000),
         ("crossed-max", 30),
         ("damaged", 2_000),
+        ("rated-crossed", 500),
+        ("rated-damaged", 2_000),
     ];
     for (kind, times) in kinds {
         let mut met = Met::new();
         let judge_seed =
             |seed: &u64| judge(&format!("{kind} {seed}"), &generate(kind, *seed).expect("a kind"), &mut met);
         let passed = (0..times).filter(judge_seed).count() as u64;
-        assert!(if kind == "damaged" { passed > 300 && passed < times } else { passed == times }, "{kind} {passed}");
+        let some = passed > 300 && passed < times;
+        assert!(if kind.ends_with("damaged") { some } else { passed == times }, "{kind} {passed}");
         let crossed: usize = met.iter().filter(|((_, is_crossed, _), _)| *is_crossed).map(|(_, times)| times).sum();
-        assert_eq!(crossed > 0, ["tangled", "crossed", "crossed-max", "damaged"].contains(&kind), "{kind} {crossed}");
+        let crosses = ["tangled", "crossed", "crossed-max", "damaged"].contains(&kind.trim_start_matches("rated-"));
+        assert_eq!(crossed > 0, crosses, "{kind} {crossed}");
     }
 }
 

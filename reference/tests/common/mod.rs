@@ -11,14 +11,16 @@ pub struct OwnedRun {
     pub distances: Vec<i64>,
     pub counts: Vec<usize>,
     pub neighbours: Vec<i64>,
+    pub ratings: Vec<i64>,
 }
 
-/// What random runs are to be like: numbers of boxes, neighbours of each, greatest position and distance.
+/// What random runs are to be like: numbers of boxes, neighbours of each, greatest position, distance and rating.
 pub struct Limits {
     pub boxes: (usize, usize),
     pub neighbours: usize,
     pub position: i64,
     pub distance: i64,
+    pub rating: i64,
 }
 
 impl OwnedRun {
@@ -46,7 +48,8 @@ impl OwnedRun {
             right = None;
             distances.pop();
         }
-        OwnedRun { left, right, old, distances, counts, neighbours }
+        let ratings = neighbours.iter().map(|_| random.within(1, limits.rating)).collect();
+        OwnedRun { left, right, old, distances, counts, neighbours, ratings }
     }
 
     pub fn run(&self) -> Run<'_> {
@@ -57,6 +60,7 @@ impl OwnedRun {
             distances: &self.distances,
             counts: &self.counts,
             neighbours: &self.neighbours,
+            ratings: &self.ratings,
         }
     }
 
@@ -72,7 +76,12 @@ impl OwnedRun {
             lowest: self.left.map(|left| left + self.distances[0]),
             highest: self.right.map(|right| right - self.distances[self.distances.len() - 1]),
             distances: self.distances[first..first + inner].to_vec(),
-            neighbours: run.neighbours_of_boxes().map(<[i64]>::to_vec).collect(),
+            neighbours: run.neighbours_of_boxes().zip(run.ratings_of_boxes()).map(rated).collect(),
         }
     }
+}
+
+/// Each neighbour with the rating of the segment to it.
+fn rated((neighbours, ratings): (&[i64], &[i64])) -> Vec<(i64, i64)> {
+    neighbours.iter().copied().zip(ratings.iter().copied()).collect()
 }
