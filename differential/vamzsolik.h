@@ -23,7 +23,7 @@ extern "C" {
 #define VAMZSOLIK_MAX_PICTURE 1257182
 
 /* A buffer of this many bytes has room for the text of every plan, one of this many numbers for the numbers of its vertices. */
-#define VAMZSOLIK_MAX_TEXT 43546
+#define VAMZSOLIK_MAX_TEXT 51738
 #define VAMZSOLIK_MAX_VERTICES 1024
 
 /* Writes the report of the plan text into out and returns its length. If the text is refused with N, 1 to 6, it returns -N, and
@@ -67,11 +67,11 @@ int64_t picture_c(const uint8_t *text, size_t text_length, const uint8_t *names,
 int64_t script_c(const uint8_t *script, size_t script_length, uint8_t *out, size_t out_length);
 
 /* Places one run of r boxes: writes their positions into answer and returns 0, or returns 8 if the run is refused; answer is then
-   untouched. A flag that is not 0 says that there is that bound. */
+   untouched. A flag that is not 0 says that there is that bound. Each neighbour has the rating, 1 to 100, of the segment to it. */
 uint32_t place_run_c(uint64_t r, uint32_t has_left, int64_t left, uint32_t has_right, int64_t right,
                      const int64_t *old, size_t old_length, const uint64_t *distances, size_t distances_length,
                      const uint64_t *counts, size_t counts_length, const int64_t *neighbours, size_t neighbours_length,
-                     int64_t *answer, size_t answer_length);
+                     const uint64_t *ratings, size_t ratings_length, int64_t *answer, size_t answer_length);
 
 #ifdef __cplusplus
 }

@@ -11,7 +11,7 @@ pub const MAX_REPORT: usize = 119_834;
 pub const MAX_PICTURE: usize = 1_257_182;
 
 /// No plan has a longer text.
-pub const MAX_TEXT: usize = 43_546;
+pub const MAX_TEXT: usize = 51_738;
 
 /// No plan has more vertices.
 pub const MAX_VERTICES: usize = 1_024;
@@ -38,6 +38,8 @@ extern "C" {
         counts_len: usize,
         neighbours: *const i64,
         neighbours_len: usize,
+        ratings: *const u64,
+        ratings_len: usize,
         answer: *mut i64,
         answer_len: usize,
     ) -> u32;
@@ -93,6 +95,8 @@ pub fn place_run(q: &Request, answer: &mut [i64]) -> u32 {
             q.counts.len(),
             q.neighbours.as_ptr(),
             q.neighbours.len(),
+            q.ratings.as_ptr(),
+            q.ratings.len(),
             answer.as_mut_ptr(),
             answer.len(),
         )

@@ -62,11 +62,21 @@ fn every_kind() {
         ("deep", 1_500),
         ("vias", 2_500),
         ("max", 500),
+        ("rated-small", 8_000),
+        ("rated-medium", 4_000),
+        ("rated-wide", 1_500),
+        ("rated-deep", 1_500),
+        ("rated-vias", 2_500),
+        ("rated-max", 300),
     ] {
         assert_eq!(random_plans(kind, seeds), seeds, "{kind}");
     }
-    assert!(random_plans("tangled", 3_000) > 100);
-    assert!(random_plans("damaged", 4_000) > 100);
+    for kind in ["tangled", "rated-tangled"] {
+        assert!(random_plans(kind, 3_000) > 100, "{kind}");
+    }
+    for kind in ["damaged", "rated-damaged"] {
+        assert!(random_plans(kind, 4_000) > 100, "{kind}");
+    }
 }
 
 #[test]

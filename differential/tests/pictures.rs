@@ -115,6 +115,10 @@ fn accepted_texts() {
         ("deep", 300),
         ("vias", 1_000),
         ("max", 60),
+        ("rated-small", 3_000),
+        ("rated-medium", 1_000),
+        ("rated-vias", 500),
+        ("rated-max", 30),
     ] {
         let drawn = compare_kind(kind, times);
         assert!(drawn > times / 2 && drawn < times, "{kind}");
@@ -125,6 +129,7 @@ fn accepted_texts() {
 fn refused_texts() {
     assert!(compare_kind("tangled", 2_000) > 100);
     assert!(compare_kind("damaged", 10_000) > 100);
+    assert!(compare_kind("rated-damaged", 5_000) > 50);
 }
 
 #[test]

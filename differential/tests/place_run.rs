@@ -32,6 +32,12 @@ fn between_feeds() {
 }
 
 #[test]
+fn rated() {
+    let [accepted, refused] = compare(Request::rated, "rated", 150_000);
+    assert!(accepted > 50_000 && refused > 10_000);
+}
+
+#[test]
 fn too_large() {
     let [accepted, _] = compare(Request::too_large, "too large", 2_000);
     assert_eq!(accepted, 0);

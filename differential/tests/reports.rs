@@ -86,6 +86,12 @@ fn accepted_texts() {
         ("deep", 2_000),
         ("vias", 6_000),
         ("max", 500),
+        ("rated-small", 20_000),
+        ("rated-medium", 8_000),
+        ("rated-wide", 1_500),
+        ("rated-deep", 1_500),
+        ("rated-vias", 4_000),
+        ("rated-max", 300),
     ] {
         assert_eq!(compare_kind(kind, times), times, "{kind}");
     }
@@ -94,11 +100,13 @@ fn accepted_texts() {
 #[test]
 fn tangled_texts() {
     assert!(compare_kind("tangled", 12_000) > 1_000);
+    assert!(compare_kind("rated-tangled", 8_000) > 600);
 }
 
 #[test]
 fn damaged_texts() {
     assert!(compare_kind("damaged", 40_000) > 1_000);
+    assert!(compare_kind("rated-damaged", 40_000) > 1_000);
 }
 
 #[test]

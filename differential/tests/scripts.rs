@@ -92,11 +92,21 @@ fn more_random_walk_scripts() {
     (SCRIPTS..2 * SCRIPTS).for_each(|seed| compare_random(seed, scripts::walk_script));
 }
 
+#[test]
+fn random_rated_scripts() {
+    (0..SCRIPTS).for_each(|seed| compare_random(seed, scripts::rated_script));
+}
+
+#[test]
+fn more_random_rated_scripts() {
+    (SCRIPTS..2 * SCRIPTS).for_each(|seed| compare_random(seed, scripts::rated_script));
+}
+
 /// Each script gives the answers that stand beside it.
 #[test]
 fn vectors() {
     let scripts = vectors::scripts();
-    assert_eq!(scripts.len(), 138);
+    assert_eq!(scripts.len(), 167);
     for file in scripts {
         let expected = fs::read(file.with_extension("answers")).expect("answers");
         let mut out = vec![OLD; expected.len()];
@@ -129,6 +139,44 @@ fn remembered_numbers() {
     }
 }
 
+/// A poke makes a rating what it says, or 1; what is outside 1 to 100 is no text's. Beyond the segments that were loaded it is 0.
+#[test]
+fn poked_ratings() {
+    let plan = "(plan 2 1 5)\\n(level (box 1))\\n(level (box 1) (box 1))\\n";
+    let rated = format!("load 1 tangled {plan}(seg 0 1 7)\\n(seg 0 2)\\n(end)\\n\n");
+    let bare = format!("load 1 tangled {plan}(end)\\n\npoke 1 stage loaded 3 1\n");
+    let ask = "texts 1\ndraw 1\nlines 1\nmarks 1\n";
+    let within = ["", " 1", " 2", " 100"];
+    let outside = [
+        " 0",
+        " 101",
+        " 255",
+        " 256",
+        " 257",
+        " 65537",
+        " 4294967297",
+    ];
+    let others = [" 18446744073709551615", " -1", " 01", " x", " 2 2", " "];
+    for rating in within.into_iter().chain(outside).chain(others) {
+        let poke = |i: usize| format!("poke 1 seg {i} 0 {}{rating}\n{ask}", i + 1);
+        compare(
+            [
+                &rated,
+                ask,
+                &poke(1),
+                &poke(0),
+                "clear 1\n",
+                ask,
+                &rated,
+                ask,
+            ]
+            .concat()
+            .as_bytes(),
+        );
+        compare([&bare, ask, &poke(0)].concat().as_bytes());
+    }
+}
+
 #[test]
 fn scripts_of_the_gate() {
     let file = Path::new(env!("CARGO_MANIFEST_DIR")).join("../crates/script/stdin");
@@ -152,6 +200,13 @@ fn edges() {
         "walk 1 ",
         "walk 1 \\",
         "walk 1 (end)\\n\nwalk 1 (end)\\n",
+        "poke 1 seg 0 0 1 ",
+        "poke 1 seg 2048 0 1 1",
+        "placerun r=0 old= counts= nbrs= dist= ratings=",
+        "placerun r=0 old= counts= nbrs= dist= ratings",
+        "placerun r=0 old= counts= nbrs= dist= ratings= ratings=",
+        "placerun r=1 old=0 counts=1 nbrs=3 dist= ratings=1,",
+        "placerun ratings=1,2 r=1 old=0 counts=2 nbrs=3,9 dist=",
     ];
     edges
         .iter()

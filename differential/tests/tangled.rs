@@ -162,22 +162,33 @@ fn texts_of_other_kinds_are_given_back() {
         ("small", 10_000),
         ("crossed-max", 200),
         ("max", 100),
+        ("rated-crossed", 40_000),
+        ("rated-tangled", 10_000),
+        ("rated-vias", 5_000),
+        ("rated-small", 5_000),
+        ("rated-crossed-max", 100),
+        ("rated-max", 50),
     ] {
         assert_eq!(given_back(kind, times).0, times, "{kind}");
     }
-    let (taken, _) = given_back("damaged", 20_000);
-    assert!(taken > 50 && taken < 20_000);
+    for kind in ["damaged", "rated-damaged"] {
+        let (taken, _) = given_back(kind, 20_000);
+        assert!(taken > 50 && taken < 20_000, "{kind}");
+    }
 }
 
 #[test]
 fn crossed_texts() {
     assert!(compare_kind("crossed", 5_000) > 3_000);
     assert!(compare_kind("tangled", 4_000) > 400);
+    assert!(compare_kind("rated-crossed", 4_000) > 2_400);
+    assert!(compare_kind("rated-tangled", 2_000) > 200);
 }
 
 #[test]
 fn crossed_texts_at_the_limits() {
     assert!(compare_kind("crossed-max", 150) > 100);
+    assert!(compare_kind("rated-crossed-max", 100) > 60);
 }
 
 #[test]
@@ -189,6 +200,10 @@ fn texts_without_crossings() {
         ("deep", 200),
         ("vias", 1_500),
         ("max", 60),
+        ("rated-small", 2_000),
+        ("rated-medium", 800),
+        ("rated-vias", 800),
+        ("rated-max", 30),
     ] {
         assert_eq!(compare_kind(kind, times), 0, "{kind}");
     }
@@ -197,6 +212,7 @@ fn texts_without_crossings() {
 #[test]
 fn damaged_texts() {
     assert!(compare_kind("damaged", 5_000) > 20);
+    assert!(compare_kind("rated-damaged", 5_000) > 20);
 }
 
 #[test]
@@ -220,7 +236,12 @@ fn vectors() {
 #[test]
 fn short_buffers() {
     for seed in 0..300 {
-        let plan_text = generate("crossed", seed).expect("a kind");
+        let kind = if seed % 2 == 0 {
+            "crossed"
+        } else {
+            "rated-crossed"
+        };
+        let plan_text = generate(kind, seed).expect("a kind");
         let expected = Expected::of(&plan_text).expect("a plan that may be tangled");
         short_report(&plan_text, expected.report.len());
         let (length, count) = (expected.text.len(), expected.numbers.len());
@@ -269,11 +290,8 @@ fn short_report(plan_text: &[u8], length: usize) {
 #[test]
 fn two_mebibytes_of_stack() {
     let compare_all = || {
-        (0..12).all(|seed| {
-            compare(
-                "crossed-max",
-                &generate("crossed-max", seed).expect("a kind"),
-            ) == 0
+        ["crossed-max", "rated-crossed-max"].iter().all(|kind| {
+            (0..12).all(|seed| compare(kind, &generate(kind, seed).expect("a kind")) == 0)
         })
     };
     let thread = std::thread::Builder::new()

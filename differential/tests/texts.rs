@@ -74,14 +74,18 @@ fn at_the_edges() {
 
 #[test]
 fn damaged_texts() {
-    let outcomes = compare_kind("damaged", 100_000);
-    assert!(outcomes.iter().all(|&count| count > 1_000));
+    for kind in ["damaged", "rated-damaged"] {
+        let outcomes = compare_kind(kind, 100_000);
+        assert!(outcomes.iter().all(|&count| count > 1_000), "{kind}");
+    }
 }
 
 #[test]
 fn tangled_texts() {
-    let [accepted, .., crossing] = compare_kind("tangled", 20_000);
-    assert!(accepted > 1_000 && crossing > 1_000);
+    for kind in ["tangled", "rated-tangled"] {
+        let [accepted, .., crossing] = compare_kind(kind, 20_000);
+        assert!(accepted > 1_000 && crossing > 1_000, "{kind}");
+    }
 }
 
 /// Up to 64 vias on a level, the first crossing at the start, at the end or between.
@@ -103,9 +107,15 @@ fn accepted_texts() {
         ("deep", 2_000),
         ("vias", 5_000),
         ("max", 300),
+        ("rated-small", 20_000),
+        ("rated-medium", 10_000),
+        ("rated-wide", 2_000),
+        ("rated-deep", 2_000),
+        ("rated-vias", 5_000),
+        ("rated-max", 300),
     ];
     for (kind, times) in kinds {
-        assert_eq!(compare_kind(kind, times)[0], times);
+        assert_eq!(compare_kind(kind, times)[0], times, "{kind}");
     }
 }
 

@@ -190,12 +190,17 @@ impl Request {
     /// that twice the ratings so far are the total of all.
     pub fn rated(random: &mut Random) -> Request {
         let mut request = if random.once_in(3) { Request::any(random) } else { Request::between_feeds(random) };
-        let choice = ratings::choose(random);
-        request.ratings = request.neighbours.iter().map(|_| random.pick(choice).unsigned_abs()).collect();
+        request.rate(random);
         if random.once_in(6) {
             request.damage_ratings(random);
         }
         request
+    }
+
+    /// Gives it random ratings, one for each neighbour.
+    pub fn rate(&mut self, random: &mut Random) {
+        let choice = ratings::choose(random);
+        self.ratings = self.neighbours.iter().map(|_| random.pick(choice).unsigned_abs()).collect();
     }
 
     /// One rating more or less, or one at a limit, some of them with the last bits of a rating.

@@ -20,16 +20,38 @@ fn seconds_each(passes: usize, mut call: impl FnMut(usize)) -> f64 {
     seconds(passes, || (0..REQUESTS).for_each(&mut call)) / REQUESTS as f64
 }
 
-/// Accepted requests of this size.
-fn requests(boxes: usize, neighbours: usize, scale: Scale) -> Vec<Request> {
-    let request =
-        |seed| Request::accepted(&mut Random::new("bench", seed), boxes, neighbours, scale);
+/// Sizes of requests and their name.
+struct Sort {
+    boxes: usize,
+    neighbours: usize,
+    name: &'static str,
+    scale: Scale,
+    /// Whether they have ratings; without them, all are 1.
+    is_rated: bool,
+}
+
+/// Accepted requests of this sort.
+fn requests(sort: &Sort) -> Vec<Request> {
+    let request = |seed| {
+        let random = &mut Random::new("bench", seed);
+        let mut request = Request::accepted(random, sort.boxes, sort.neighbours, sort.scale);
+        if sort.is_rated {
+            request.rate(random);
+        }
+        request
+    };
     (0..REQUESTS as u64).map(request).collect()
 }
 
 /// The proved call alone.
-fn time(boxes: usize, neighbours: usize, name: &str, scale: Scale) {
-    let requests = requests(boxes, neighbours, scale);
+fn time(sort: &Sort) {
+    let requests = requests(sort);
+    let Sort {
+        boxes,
+        neighbours,
+        name,
+        ..
+    } = *sort;
     let mut answer = vec![0; boxes];
     let time = nanoseconds(|| {
         for request in &requests {
@@ -43,8 +65,14 @@ fn time(boxes: usize, neighbours: usize, name: &str, scale: Scale) {
 }
 
 /// The proved call against the reference's jumps, on the same accepted requests.
-fn beside_reference(boxes: usize, neighbours: usize, name: &str, scale: Scale) {
-    let requests = requests(boxes, neighbours, scale);
+fn beside_reference(sort: &Sort) {
+    let requests = requests(sort);
+    let Sort {
+        boxes,
+        neighbours,
+        name,
+        ..
+    } = *sort;
     let distances: Vec<Vec<i64>> = requests
         .iter()
         .map(|q| q.distances.iter().map(|&d| d as i64).collect())
@@ -52,6 +80,10 @@ fn beside_reference(boxes: usize, neighbours: usize, name: &str, scale: Scale) {
     let counts: Vec<Vec<usize>> = requests
         .iter()
         .map(|q| q.counts.iter().map(|&c| c as usize).collect())
+        .collect();
+    let ratings: Vec<Vec<i64>> = requests
+        .iter()
+        .map(|q| q.ratings.iter().map(|&w| w as i64).collect())
         .collect();
     let mut ours = vec![vec![0; boxes]; REQUESTS];
     let mut theirs = ours.clone();
@@ -71,6 +103,7 @@ fn beside_reference(boxes: usize, neighbours: usize, name: &str, scale: Scale) {
                 distances: &distances[i],
                 counts: &counts[i],
                 neighbours: &q.neighbours,
+                ratings: &ratings[i],
             };
             assert!(black_box(run.is_acceptable()));
             placer.place(&run, &mut theirs[i]);
@@ -80,7 +113,7 @@ fn beside_reference(boxes: usize, neighbours: usize, name: &str, scale: Scale) {
     assert_eq!(ours, theirs);
     let (a, b) = (median(proved_times), median(reference_times));
     println!(
-        "place-run r={boxes:2} s={neighbours:4} {name:6}  proved {:9.3} us  reference {:9.3} us  ratio {:.2}",
+        "place-run r={boxes:2} s={neighbours:4} {name:11}  proved {:9.3} us  reference {:9.3} us  ratio {:.2}",
         a * 1e6,
         b * 1e6,
         a / b
@@ -95,8 +128,20 @@ fn main() {
     };
     for boxes in [2, 8, 64] {
         for neighbours in [0, 64, 2_048] {
-            measure(boxes, neighbours, "near", Scale::NEAR);
-            measure(boxes, neighbours, "x2^30", Scale::NEAR.times(1 << 30));
+            for (name, scale, is_rated) in [
+                ("near", Scale::NEAR, false),
+                ("x2^30", Scale::NEAR.times(1 << 30), false),
+                ("near-rated", Scale::NEAR, true),
+                ("x2^30-rated", Scale::NEAR.times(1 << 30), true),
+            ] {
+                measure(&Sort {
+                    boxes,
+                    neighbours,
+                    name,
+                    scale,
+                    is_rated,
+                });
+            }
         }
     }
 }

@@ -30,7 +30,7 @@ fn beside_reference(name: &str, plan_text: &[u8]) {
     assert_eq!(out[vertices..], passes::draw(&plan).position);
     let (a, b) = (median(proved_times), median(reference_times));
     println!(
-        "draw {name:14} V={vertices:4} E={:4}  proved {:9.1} us  reference {:9.1} us  ratio {:.2}",
+        "draw {name:16} V={vertices:4} E={:4}  proved {:9.1} us  reference {:9.1} us  ratio {:.2}",
         plan.segments().len(),
         a * 1e6,
         b * 1e6,
@@ -61,6 +61,11 @@ fn main() {
         ("wide", 300),
         ("deep", 300),
         ("max", 1_000),
+        ("rated-medium", 100),
+        ("rated-vias", 100),
+        ("rated-wide", 300),
+        ("rated-deep", 300),
+        ("rated-max", 1_000),
     ] {
         measure(
             &format!("{kind} {vertices}"),

@@ -17,7 +17,7 @@ const STARTS: usize = 101;
 
 fn print(what: &str, name: &str, vertices: usize, proved: f64, reference: f64) {
     println!(
-        "{what:8} {name:11} V={vertices:4}  proved {:9.1} us  reference {:9.1} us  ratio {:.2}",
+        "{what:8} {name:14} V={vertices:4}  proved {:9.1} us  reference {:9.1} us  ratio {:.2}",
         proved * 1e6,
         reference * 1e6,
         proved / reference
@@ -99,6 +99,9 @@ fn main() {
         ("wide", 300),
         ("deep", 300),
         ("max", 1_000),
+        ("rated-wide", 300),
+        ("rated-deep", 300),
+        ("rated-max", 1_000),
     ] {
         measure(
             &format!("{kind} {vertices}"),

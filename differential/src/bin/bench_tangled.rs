@@ -4,14 +4,15 @@
 use differential::measure::{median, seconds};
 use differential::proved::{self, MAX_REPORT, MAX_TEXT, MAX_VERTICES};
 use reference::generate::generate;
-use reference::plan::{Draft, Vertex};
+use reference::plan::{Draft, Segment, Vertex};
 use reference::{report, tangled, text};
 use std::hint::black_box;
 
 const ROUNDS: usize = 41;
 
-/// Plans of the kind `crossed-max` that are measured.
+/// Plans of the kind `crossed-max` that are measured, and how many of them with ratings besides.
 const PLANS: u64 = 12;
+const RATED_PLANS: u64 = 6;
 
 /// The report of a tangled plan against that of its rearranged text, and the reference's.
 fn reports(name: &str, plan_text: &[u8]) {
@@ -39,7 +40,7 @@ fn reports(name: &str, plan_text: &[u8]) {
     }
     let [tangled, first_way, reference] = times.map(median);
     println!(
-        "tangled report {name:14} V={:4} E={:4}  proved {:8.1} us  first way {:8.1} us  ratio {:.2}  reference {:8.1} us  ratio {:.2}",
+        "tangled report {name:19} V={:4} E={:4}  proved {:8.1} us  first way {:8.1} us  ratio {:.2}  reference {:8.1} us  ratio {:.2}",
         plan.vertices(),
         plan.segments().len(),
         tangled * 1e6,
@@ -73,7 +74,7 @@ fn rearranging(name: &str, plan_text: &[u8]) {
     }
     let [proved, reference] = times.map(median);
     println!(
-        "untangle {name:14}  proved {:8.1} us  reference {:8.1} us  ratio {:.2}",
+        "untangle {name:19}  proved {:8.1} us  reference {:8.1} us  ratio {:.2}",
         proved * 1e6,
         reference * 1e6,
         proved / reference
@@ -107,18 +108,25 @@ fn far_from_sorted() -> Vec<u8> {
             boxes(64),
         ]
         .concat(),
-        segments: straight.chain(crossed).chain(ends).collect(),
+        segments: straight
+            .chain(crossed)
+            .chain(ends)
+            .map(Segment::new)
+            .collect(),
     };
     text::write_form(&draft)
 }
 
 fn main() {
-    let crossed = (0..PLANS).map(|seed| {
+    let named = |kind: &'static str, seed: u64| {
         (
-            format!("crossed-max {seed}"),
-            generate("crossed-max", seed).expect("a kind"),
+            format!("{kind} {seed}"),
+            generate(kind, seed).expect("a kind"),
         )
-    });
+    };
+    let crossed = (0..PLANS)
+        .map(|seed| named("crossed-max", seed))
+        .chain((0..RATED_PLANS).map(|seed| named("rated-crossed-max", seed)));
     let plans: Vec<(String, Vec<u8>)> = crossed
         .filter(|(_, plan_text)| text::read(plan_text).is_err())
         .collect();

@@ -3,7 +3,7 @@
 
 use differential::measure::{asked_for_times, median, nanoseconds, seconds};
 use differential::{proved, vectors};
-use reference::plan::{Draft, Plan, Vertex};
+use reference::plan::{Draft, Plan, Segment, Vertex};
 use reference::text;
 use std::fs;
 use std::hint::black_box;
@@ -40,7 +40,7 @@ fn side_by_side(crossing: Option<(usize, usize)>) -> Vec<u8> {
         spacing: 1,
         sizes: vec![WIDE; LEVELS],
         vertices: (0..Plan::MAX_VERTICES).map(vertex).collect(),
-        segments,
+        segments: segments.into_iter().map(Segment::new).collect(),
     })
 }
 
