@@ -133,6 +133,7 @@ pub extern "C" fn place_run_c(
     distances: &[u64],
     counts: &[u64],
     neighbours: &[i64],
+    ratings: &[u64],
     answer: &mut [i64],
 ) -> u32
     ensures { λ n. ⌜ Answers (callOf (record {
@@ -143,6 +144,7 @@ pub extern "C" fn place_run_c(
       distances = now (distances .entry);
       counts = now (counts .entry);
       neighbours = now (neighbours .entry);
+      ratings = now (ratings .entry);
     }) (now (answer .entry))) n (now (answer .exit)) ⌝ }
 {
     let answered = place_run(
@@ -153,6 +155,7 @@ pub extern "C" fn place_run_c(
         distances,
         counts,
         neighbours,
+        ratings,
         answer,
     );
     run_code(answered)

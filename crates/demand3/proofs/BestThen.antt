@@ -11,7 +11,7 @@ use lib.IntN.{ℤ}
 use Rattle.run.specs.Words.{sidewaysLength}
 use Rattle.ints.proofs.Tests.{and-left}
 use Rattle.plan.specs.Plan.{PlanData}
-use Rattle.plan.specs.Segments.{segmentsOf}
+use Rattle.plan.specs.Segments.{ratedOf}
 use Rattle.passes.specs.Runs.{Run, members}
 use Rattle.passes.specs.State.{Step}
 use Rattle.passes.specs.Passes.{boxesAt, placed}
@@ -44,7 +44,7 @@ module _ {p : PlanData} (so : Sound p) (pre : Preliminary p) {n : ℕ} (m : Mome
   -- and so are their lengths
   pub length-is : (ys : List ℤ) → length ys ≡ visit-run so pre m .count → sidewaysThen p (step m) (then m .at) ys ≡ sidewaysLength (boxesAt p (m .visit .pass) (then m) (m .visit .run .boxes)) ys
   unfolding sidewaysThen
-  length-is ys e = let i = visit-run so pre m in ap (λ (r : Run). sidewaysSum (m .visit .pass) (r .boxes) ys (then m .at) (segmentsOf p)) (run-is so pre m)
+  length-is ys e = let i = visit-run so pre m in ap (λ (r : Run). sidewaysSum (m .visit .pass) (r .boxes) ys (then m .at) (ratedOf p)) (run-is so pre m)
       ∙ rw (i .boxes) (sum-is p (m .visit .pass) (then m) (i .first) (i .count) ys e)
 
   pub then-length : (ys : List ℤ) → isPlacementThen p (traceOf p) n ys ≡ true → length ys ≡ visit-run so pre m .count

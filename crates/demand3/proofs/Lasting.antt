@@ -11,7 +11,7 @@ use lib.IntN.{ℤ}
 use Rattle.ints.specs.Ints.{_⊑_}
 use Rattle.ints.proofs.Laws.{cases, eq-read}
 use Rattle.plan.specs.Plan.{PlanData, vertexCount, isVia, levelOf}
-use Rattle.plan.specs.Segments.{Segment, segmentsOf}
+use Rattle.plan.specs.Segments.{segmentsOf, ratedOf}
 use Rattle.passes.specs.Runs.{Run, runsOn, noRun, isBounded}
 use Rattle.passes.specs.State.{State, positionOf, put}
 use Rattle.passes.specs.Ready.{isSettled, liesBetween, settledBetween}
@@ -36,7 +36,7 @@ use Rattle.demand3.proofs.BestThen.{stepAt-is, then-is, best-then}
 use Rattle.demand3.proofs.Settled.{settled-from, stands-still}
 use Rattle.passes.proofs.Covered.{box-range, found, between-vias}
 use Rattle.demand3.proofs.ReadyVias.{levels-same, Beside, IsReady, ready, due-ready}
-use Rattle.demand3.proofs.Steady.{Steady, steady-right, steady-left, steady-same, place-out, place-in, SteadyFrom, steady-from, steady-none, SteadyAt, weightedSum, weighted-one, sum-steady}
+use Rattle.demand3.proofs.Steady.{Steady, steady-right, steady-left, steady-same, place-out, place-in, SteadyFrom, steady-from, steady-none, SteadyAt, sum-steady}
 use Rattle.passes.proofs.Preliminary.{Preliminary}
 
 settled-at : (p : PlanData) (s : State) (u w : ℕ) → settledBetween p s u w ≡ true → (k : ℕ) → k < length (runsOn p (levelOf p u))
@@ -151,25 +151,26 @@ module _ {p : PlanData} (so : Sound p) (pre : Preliminary p) {n : ℕ} (m : Mome
   was-ready : IsReady p (eqb (m .visit .pass) 2) (then m) (m .visit .run)
   was-ready = ready so (m .visit .pass) (then m) (m .visit .run) (due-ready p (m .visit .pass) (then m) (m .visit .run) b h (m .due))
 
-  -- the difference of two placements is the same then and in the end, whatever the segments' factors
-  pub same-weighted : (f : Segment → ℕ) (ys zs : List ℤ) → isPlacementThen p (traceOf p) n ys ≡ true → isPlacementThen p (traceOf p) n zs ≡ true
-      → weightedSum f (m .visit .pass) (m .visit .run .boxes) zs (final p .at) (segmentsOf p) + weightedSum f (m .visit .pass) (m .visit .run .boxes) ys (then m .at) (segmentsOf p)
-      ≡ weightedSum f (m .visit .pass) (m .visit .run .boxes) ys (final p .at) (segmentsOf p) + weightedSum f (m .visit .pass) (m .visit .run .boxes) zs (then m .at) (segmentsOf p)
-  same-weighted f ys zs e g =
+  sum-then : (xs ys : List ℤ) → sidewaysThen p (step m) xs ys ≡ sidewaysSum (m .visit .pass) (m .visit .run .boxes) ys xs (ratedOf p)
+  unfolding sidewaysThen
+  sum-then xs ys = ap (λ (r : Run). sidewaysSum (m .visit .pass) (r .boxes) ys xs (ratedOf p)) (run-is so pre m)
+
+  -- the difference of two placements is the same then and in the end, whatever the ratings
+  same-rated : (ys zs : List ℤ) → isPlacementThen p (traceOf p) n ys ≡ true → isPlacementThen p (traceOf p) n zs ≡ true
+      → sidewaysSum (m .visit .pass) (m .visit .run .boxes) zs (final p .at) (ratedOf p) + sidewaysSum (m .visit .pass) (m .visit .run .boxes) ys (then m .at) (ratedOf p)
+      ≡ sidewaysSum (m .visit .pass) (m .visit .run .boxes) ys (final p .at) (ratedOf p) + sidewaysSum (m .visit .pass) (m .visit .run .boxes) zs (then m .at) (ratedOf p)
+  unfolding ratedOf
+  same-rated ys zs e g =
       let i = visit-run so pre m in let c = reached-then so pre m in let q = m .visit .pass in
       let y = placement-points so (c .inv) i q ys (sym (then-is so pre m ys) ∙ e) in let z = placement-points so (c .inv) i q zs (sym (then-is so pre m zs) ∙ g) in
       let js = all-right (m .past) (m .visit ∷ m .coming) (runs-of so pre m) in
       let cf : Reached p (visitAll p (m .visit ∷ m .coming) (then m)) = subst (Reached p) (sym rest-is) (reached-final so pre) in
-      rw (← rest-is) (sum-steady f (eqb q 2) q (m .visit .run .boxes) ys zs (then m .at) (visitAll p (m .visit ∷ m .coming) (then m) .at) refl
+      rw (← rest-is) (sum-steady (eqb q 2) q (m .visit .run .boxes) ys zs (then m .at) (visitAll p (m .visit ∷ m .coming) (then m) .at) (p .ratings) refl
       (steady-segments so pre c js cf i was-ready ys zs (y .1) (z .1) (y .0) (z .0) (eqb q 2) refl))
-
-  one-each : (xs ys : List ℤ) → sidewaysThen p (step m) xs ys ≡ weightedSum (λ s. 1) (m .visit .pass) (m .visit .run .boxes) ys xs (segmentsOf p)
-  unfolding sidewaysThen
-  one-each xs ys = ap (λ (r : Run). sidewaysSum (m .visit .pass) (r .boxes) ys xs (segmentsOf p)) (run-is so pre m) ∙ sym (weighted-one (m .visit .pass) (m .visit .run .boxes) ys xs (segmentsOf p))
 
   same-sum : (ys zs : List ℤ) → isPlacementThen p (traceOf p) n ys ≡ true → isPlacementThen p (traceOf p) n zs ≡ true
       → sidewaysThen p (step m) (final p .at) zs + sidewaysThen p (step m) (then m .at) ys ≡ sidewaysThen p (step m) (final p .at) ys + sidewaysThen p (step m) (then m .at) zs
-  same-sum ys zs e g = omega (arith, same-weighted (λ s. 1) ys zs e g, one-each (final p .at) zs, one-each (then m .at) ys, one-each (final p .at) ys, one-each (then m .at) zs)
+  same-sum ys zs e g = omega (arith, same-rated ys zs e g, sum-then (final p .at) zs, sum-then (then m .at) ys, sum-then (final p .at) ys, sum-then (then m .at) zs)
 
   pub best-last : Best p (traceOf p) n (finished p (traceOf p))
   best-last = let o = best-then so pre m in record {

@@ -12,7 +12,7 @@ use lib.IntN.{ℤ, pos}
 use Rattle.ints.specs.Ints.{_⊑_, gap}
 use Rattle.ints.proofs.Laws.{gap-r, gap-l}
 use Rattle.plan.specs.Plan.{numbers}
-use Rattle.plan.specs.Segments.{Segment}
+use Rattle.plan.specs.Segments.{Segment, ratedFrom}
 use Rattle.passes.specs.State.{positionOf, put}
 use Rattle.passes.specs.Words.{placeOf, sidewaysFrom, sidewaysSum}
 use Rattle.plan.proofs.All.{All, all-nil, all-cons}
@@ -69,25 +69,13 @@ abbrev pub SteadyAt : Bool → List ℕ → List ℤ → List ℤ → List ℤ �
 SteadyAt true vs ys zs xs fs s = SteadyFrom vs ys zs xs fs (s .upper) (s .lower)
 SteadyAt false vs ys zs xs fs s = SteadyFrom vs ys zs xs fs (s .lower) (s .upper)
 
--- the sum with a factor for each segment; every factor is 1 now
-unfoldable pub weightedSum : (Segment → ℕ) → ℕ → List ℕ → List ℤ → List ℤ → List Segment → ℕ
-weightedSum f q vs ys xs [] = 0
-weightedSum f q vs ys xs (s ∷ ss) =
-    let down = sidewaysFrom vs ys xs (s .upper) (s .lower) in
-    let up = sidewaysFrom vs ys xs (s .lower) (s .upper) in
-    f s * cond (eqb q 2) down up + weightedSum f q vs ys xs ss
-
-pub weighted-one : (q : ℕ) (vs : List ℕ) (ys xs : List ℤ) (ss : List Segment) → weightedSum (λ s. 1) q vs ys xs ss ≡ sidewaysSum q vs ys xs ss
-unfolding weightedSum sidewaysSum
-weighted-one q vs ys xs [] = refl
-weighted-one q vs ys xs (s ∷ ss) = omega (arith, weighted-one q vs ys xs ss)
-
 factor : (f a b c d : ℕ) → a + b ≡ c + d → f * a + f * b ≡ f * c + f * d
 factor f a b c d e = omega (arith, ap (λ n. f * n) e)
 
-pub sum-steady : (f : Segment → ℕ) (t : Bool) (q : ℕ) (vs : List ℕ) (ys zs xs fs : List ℤ) {ss : List Segment} → eqb q 2 ≡ t → All (SteadyAt t vs ys zs xs fs) ss
-    → weightedSum f q vs zs fs ss + weightedSum f q vs ys xs ss ≡ weightedSum f q vs ys fs ss + weightedSum f q vs zs xs ss
-unfolding weightedSum
-sum-steady f t q vs ys zs xs fs e all-nil = refl
-sum-steady f true q vs ys zs xs fs e (all-cons {x = s} h hs) = rw e (omega (arith, factor (f s) _ _ _ _ h, sum-steady f true q vs ys zs xs fs e hs))
-sum-steady f false q vs ys zs xs fs e (all-cons {x = s} h hs) = rw e (omega (arith, factor (f s) _ _ _ _ h, sum-steady f false q vs ys zs xs fs e hs))
+pub sum-steady : (t : Bool) (q : ℕ) (vs : List ℕ) (ys zs xs fs : List ℤ) {ss : List Segment} (ws : List ℕ) → eqb q 2 ≡ t → All (SteadyAt t vs ys zs xs fs) ss
+    → sidewaysSum q vs zs fs (ratedFrom ss ws) + sidewaysSum q vs ys xs (ratedFrom ss ws) ≡ sidewaysSum q vs ys fs (ratedFrom ss ws) + sidewaysSum q vs zs xs (ratedFrom ss ws)
+unfolding sidewaysSum ratedFrom
+sum-steady t q vs ys zs xs fs ws e all-nil = refl
+sum-steady t q vs ys zs xs fs [] e (all-cons h hs) = refl
+sum-steady true q vs ys zs xs fs (w ∷ ws) e (all-cons {x = s} h hs) = rw e (omega (arith, factor w _ _ _ _ h, sum-steady true q vs ys zs xs fs ws e hs))
+sum-steady false q vs ys zs xs fs (w ∷ ws) e (all-cons {x = s} h hs) = rw e (omega (arith, factor w _ _ _ _ h, sum-steady false q vs ys zs xs fs ws e hs))

@@ -19,8 +19,8 @@ use Rattle.pass_draw.specs.inner.Drawn.{Wanted, Drawn, Unlisted, planLis
 use Rattle.pass_draw.specs.inner.Made.{Blank, Made, BlankIfWanted, MadeIfWanted, drawingAt}
 
 -- The arrays of an empty list.
-pub room : {gap : ℕ} {ns : List ℕ} {vias : List Bool} {halves uppers lowers : List ℕ} {xs ys : List ℤ} {passes levels counts vertices : List ℕ} {positions : List ℤ}
-    → Blank gap ns vias halves uppers lowers xs ys passes levels counts vertices positions → BlankIfWanted gap ns vias halves uppers lowers xs ys passes levels counts vertices positions
+pub room : {gap : ℕ} {ns : List ℕ} {vias : List Bool} {halves uppers lowers ratings : List ℕ} {xs ys : List ℤ} {passes levels counts vertices : List ℕ} {positions : List ℤ}
+    → Blank gap ns vias halves uppers lowers ratings xs ys passes levels counts vertices positions → BlankIfWanted gap ns vias halves uppers lowers ratings xs ys passes levels counts vertices positions
 room b = record {
   some = b .some;
   preliminaryRoom = b .preliminaryRoom;
@@ -29,12 +29,12 @@ room b = record {
 }
 
 -- With the preliminary positions in place the three passes can begin.
-pub ready : {gap : ℕ} {ns : List ℕ} {vias : List Bool} {halves uppers lowers : List ℕ} {xs ys at : List ℤ} {passes levels counts vertices : List ℕ} {positions : List ℤ}
-    → (b : BlankIfWanted gap ns vias halves uppers lowers xs ys passes levels counts vertices positions)
+pub ready : {gap : ℕ} {ns : List ℕ} {vias : List Bool} {halves uppers lowers ratings : List ℕ} {xs ys at : List ℤ} {passes levels counts vertices : List ℕ} {positions : List ℤ}
+    → (b : BlankIfWanted gap ns vias halves uppers lowers ratings xs ys passes levels counts vertices positions)
     → at ≡ spec.preliminary (b .some .plan)
-    → Some (Outset (planLists gap ns vias halves uppers lowers) at) × (Wanted (columns passes levels counts vertices positions) → Unlisted (columns passes levels counts vertices positions))
+    → Some (Outset (planLists gap ns vias halves uppers lowers ratings) at) × (Wanted (columns passes levels counts vertices positions) → Unlisted (columns passes levels counts vertices positions))
 ready b e = (
-  record { it = b .some .plan; is = record { lists = b .some .lists; preliminaries = e } },
+  record { it = b .some .plan; is = record { lists = b .some .lists .lists; ratingsAre = b .some .lists .ratingsAre; preliminaries = e } },
   b .noList,
 )
 

@@ -73,9 +73,9 @@ module _ {p : PlanData} {gap : ℕ} {ns : List ℕ} {vias : List Bool} {halves u
             ∙ ap (λ (xs : List ℤ). levelwise (λ (v to : ℕ). startsLoose (p .vias) (doubledIn p (levelsOf p)) xs v to) 0 ns) a
             ∙ ap (λ (ms : List ℕ). levelwise (λ (v to : ℕ). startsLoose (p .vias) (doubledIn p (levelsOf p)) (preliminary p) v to) 0 ms) (sym (l .sizesAre))
 
-        pub at-start : {g : Columns} → (Wanted g → Unlisted g) → AtStart (begun (graph ns vias uppers lowers) at apart marks g) p
+        pub at-start : {ratings : List ℕ} → p .ratings ≡ ratings → {g : Columns} → (Wanted g → Unlisted g) → AtStart (begun (graph ns vias uppers lowers ratings) at apart marks g) p
         unfolding visitAll startAt
-        at-start u = record {
+        at-start w u = record {
           is = record {
             held = record {
               ok = l .ok;
@@ -85,10 +85,11 @@ module _ {p : PlanData} {gap : ℕ} {ns : List ℕ} {vias : List Bool} {halves u
               long = marks-length p marks-are (l .ok);
               unsettled = start-unsettled p marks-are (l .ok);
             };
-            written = λ w. none-written p (u w);
+            written = λ z. none-written p (u z);
             viasAre = sym (l .viasAre);
             uppersAre = sym (l .uppersAre);
             lowersAre = sym (l .lowersAre);
+            ratingsAre = sym w;
           };
           sizesAre = sym (l .sizesAre);
         }

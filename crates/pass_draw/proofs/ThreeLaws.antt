@@ -14,7 +14,6 @@ use Rattle.passes.specs.Drawing.{Placing, drawingOf, listed}
 use Rattle.passes.proofs.Sound.{sound}
 use Rattle.passes.specs.inner.Schedule.{start, Visit, passVisits, firstPass, secondPass, thirdPass, schedule}
 use Rattle.passes.proofs.Schedule.{three-is}
-use Rattle.plan.proofs.HeldLaws.{bounds as proper}
 use Rattle.pass_tables.specs.inner.Moments.{stateAfter, Held, AtPass}
 use Rattle.pass_neighbours.specs.inner.Order.{inTurn}
 use Rattle.pass_neighbours.proofs.OrderLaws.{starts-are}
@@ -61,12 +60,6 @@ module _ {k : Begun} {p : PlanData} (s : AtStart k p) where
   ok : acceptable p ≡ true
   ok = s .is .held .ok
 
-  pub vertices-few : length (k .graph .vias) ≤ 1024
-  vertices-few = rw (s .is .viasAre) (proper p ok .few)
-
-  pub segments-few : length (k .graph .uppers) ≤ 2048
-  segments-few = rw (s .is .uppersAre) (proper p ok .segments)
-
   pub levels-few : length (k .graph .levels) + 1 ≤ 65
   levels-few = omega (arith, ap length (s .sizesAre), sound p ok .sizes, sound p ok .levels)
 
@@ -74,9 +67,16 @@ module _ {k : Begun} {p : PlanData} (s : AtStart k p) where
   sizes-sum = omega (arith, ap sum (s .sizesAre), sound p ok .total, sound p ok .vertices)
 
   pub at-first : (starts : List ℕ) → length starts ≡ length (k .graph .levels) + 1 → ((i : ℕ) → i ≤ length (k .graph .levels) → getD starts i 0 ≡ sum (take i (k .graph .levels)))
-      → AtFirst (begun (graph starts (k .graph .vias) (k .graph .uppers) (k .graph .lowers)) (k .at) (k .apart) (k .marks) (k .list)) p
+      → AtFirst (begun (graph starts (k .graph .vias) (k .graph .uppers) (k .graph .lowers) (k .graph .ratings)) (k .at) (k .apart) (k .marks) (k .list)) p
   at-first starts l f = record {
-    is = record { held = s .is .held; written = s .is .written; viasAre = s .is .viasAre; uppersAre = s .is .uppersAre; lowersAre = s .is .lowersAre };
+    is = record {
+      held = s .is .held;
+      written = s .is .written;
+      viasAre = s .is .viasAre;
+      uppersAre = s .is .uppersAre;
+      lowersAre = s .is .lowersAre;
+      ratingsAre = s .is .ratingsAre;
+    };
     startsAre = starts-are (sound p ok) (k .graph .levels) starts (s .sizesAre) l f;
   }
 
@@ -117,6 +117,7 @@ module _ {k : Begun} {p : PlanData} (s : AtFirst k p) {q n b : ℕ} {at : List �
       viasAre = s .is .viasAre;
       uppersAre = s .is .uppersAre;
       lowersAre = s .is .lowersAre;
+      ratingsAre = s .is .ratingsAre;
     }
 
     module _ {had : List Bool} (copy : Copied marks had) (long : 1024 ≤ length had) {at′ : List ℤ} {apart′ : List ℕ} {marks′ : List Bool} (d : PassDone q at′ apart′ marks′ now-at) where

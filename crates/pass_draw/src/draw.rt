@@ -4,8 +4,7 @@ use prelim_positions::positions::preliminary_positions;
 ghost use mathlib.Core.Path.{_≡_};
 ghost use lib.ListN.{length};
 ghost use Rattle.plan.specs.Plan.{PlanData};
-ghost use Rattle.plan.specs.inner.Held.{HoldsPlan};
-ghost use Rattle.pass_draw.specs.inner.Made.{Blank, Made, BlankIfWanted, MadeIfWanted};
+ghost use Rattle.pass_draw.specs.inner.Made.{HoldsRated, Blank, Made, BlankIfWanted, MadeIfWanted};
 
 pub fn copy_positions(from: &[i64], to: &mut [i64])
     requires { ⌜ length (now to) ≡ length (now from) ⌝ }
@@ -26,6 +25,7 @@ pub fn make_drawing(
     halves: &[u16],
     uppers: &[u32],
     lowers: &[u32],
+    ratings: &[u32],
     preliminary: &mut [i64],
     finals: &mut [i64],
     passes: &mut [u16],
@@ -34,9 +34,9 @@ pub fn make_drawing(
     vertices: &mut [u16],
     positions: &mut [i64],
 ) -> usize
-    requires { ⌜ BlankIfWanted gap (now lengths) (now vias) (now halves) (now uppers) (now lowers) (now preliminary) (now finals)
+    requires { ⌜ BlankIfWanted gap (now lengths) (now vias) (now halves) (now uppers) (now lowers) (now ratings) (now preliminary) (now finals)
         (now passes) (now levels) (now counts) (now vertices) (now positions) ⌝ }
-    ensures { λ r. ⌜ ((p : PlanData) → HoldsPlan p gap (now (lengths .entry)) (now (vias .entry)) (now (halves .entry)) (now (uppers .entry)) (now (lowers .entry))
+    ensures { λ r. ⌜ ((p : PlanData) → HoldsRated p gap (now (lengths .entry)) (now (vias .entry)) (now (halves .entry)) (now (uppers .entry)) (now (lowers .entry)) (now (ratings .entry))
         → MadeIfWanted p r (now (preliminary .exit)) (now (finals .exit)) (now (passes .exit)) (now (levels .exit)) (now (counts .exit)) (now (vertices .exit)) (now (positions .exit))) ⌝ }
 {
     preliminary_positions(gap, lengths, vias, halves, uppers, lowers, preliminary);
@@ -48,6 +48,7 @@ pub fn make_drawing(
         halves,
         uppers,
         lowers,
+        ratings,
         finals,
         passes,
         levels,
@@ -66,6 +67,7 @@ pub fn draw(
     halves: &[u16],
     uppers: &[u32],
     lowers: &[u32],
+    ratings: &[u32],
     preliminary: &mut [i64],
     finals: &mut [i64],
     passes: &mut [u16],
@@ -74,9 +76,9 @@ pub fn draw(
     vertices: &mut [u16],
     positions: &mut [i64],
 ) -> usize
-    requires { ⌜ Blank gap (now lengths) (now vias) (now halves) (now uppers) (now lowers) (now preliminary) (now finals)
+    requires { ⌜ Blank gap (now lengths) (now vias) (now halves) (now uppers) (now lowers) (now ratings) (now preliminary) (now finals)
         (now passes) (now levels) (now counts) (now vertices) (now positions) ⌝ }
-    ensures { λ r. ⌜ ((p : PlanData) → HoldsPlan p gap (now (lengths .entry)) (now (vias .entry)) (now (halves .entry)) (now (uppers .entry)) (now (lowers .entry))
+    ensures { λ r. ⌜ ((p : PlanData) → HoldsRated p gap (now (lengths .entry)) (now (vias .entry)) (now (halves .entry)) (now (uppers .entry)) (now (lowers .entry)) (now (ratings .entry))
         → Made p r (now (preliminary .exit)) (now (finals .exit)) (now (passes .exit)) (now (levels .exit)) (now (counts .exit)) (now (vertices .exit)) (now (positions .exit))) ⌝ }
 {
     make_drawing(
@@ -86,6 +88,7 @@ pub fn draw(
         halves,
         uppers,
         lowers,
+        ratings,
         preliminary,
         finals,
         passes,

@@ -29,28 +29,49 @@ fn copy_marks(marks: &[bool], had: &mut [bool])
     }
 }
 
-// Pass q: the neighbours that it goes by, then its visits.
+// Pass q: the neighbours that it goes by, in tables that are long enough for any plan, then its visits.
 fn run_pass(
     q: u16,
     starts: &[u16],
     vias: &[bool],
     uppers: &[u32],
     lowers: &[u32],
+    ratings: &[u32],
     first: &mut [u16],
     ends: &mut [u32],
+    sums: &mut [u64],
     at: &mut [i64],
     apart: &mut [u64],
     marks: &mut [bool],
 )
     ghost { Graph }
-    requires { λ h. ⌜ graph (now starts) (now vias) (now uppers) (now lowers) ≡ h ⌝ }
-    requires { λ h. ⌜ Lent (length (now vias)) (length (now uppers)) (now first) (now ends)
-        × Some (TurnNext q h (now at) (now apart) (now marks)) ⌝ }
+    requires { λ h. ⌜ graph (now starts) (now vias) (now uppers) (now lowers) (now ratings) ≡ h ⌝ }
+    requires { λ h. ⌜ Lent (now first) (now ends) (now sums) × Some (TurnNext q h (now at) (now apart) (now marks)) ⌝ }
     ensures { λ h _. ⌜ Leaves (TurnNext q h (now (at .entry)) (now (apart .entry)) (now (marks .entry)))
         (PassDone q (now (at .exit)) (now (apart .exit)) (now (marks .exit))) ⌝ }
 {
-    neighbours(q, uppers, lowers, first, ends);
-    pass(q, starts, vias, first, ends, at, apart, marks);
+    let n = vias.len() + 1;
+    let e = uppers.len();
+    neighbours(
+        q,
+        uppers,
+        lowers,
+        ratings,
+        &mut first[..n],
+        &mut ends[..e],
+        &mut sums[..e + 1],
+    );
+    pass(
+        q,
+        starts,
+        vias,
+        &first[..n],
+        &ends[..e],
+        &sums[..e + 1],
+        at,
+        apart,
+        marks,
+    );
 }
 
 // Lists the placed runs of pass q, if the list is wanted.
@@ -99,8 +120,7 @@ fn run_passes(
     vias: &[bool],
     uppers: &[u32],
     lowers: &[u32],
-    first: &mut [u16],
-    ends: &mut [u32],
+    ratings: &[u32],
     at: &mut [i64],
     apart: &mut [u64],
     marks: &mut [bool],
@@ -111,12 +131,15 @@ fn run_passes(
     positions: &mut [i64],
 ) -> Listed
     ghost { Begun }
-    requires { λ k. ⌜ begun (graph (now starts) (now vias) (now uppers) (now lowers)) (now at) (now apart) (now marks)
+    requires { λ k. ⌜ begun (graph (now starts) (now vias) (now uppers) (now lowers) (now ratings)) (now at) (now apart) (now marks)
         (columns (now passes) (now levels) (now sizes) (now vertices) (now positions)) ≡ k ⌝ }
-    requires { λ k. ⌜ Lent (length (now vias)) (length (now uppers)) (now first) (now ends) × Some (AtFirst k) ⌝ }
+    requires { λ k. ⌜ Some (AtFirst k) ⌝ }
     ensures { λ k r. ⌜ Leaves (AtFirst k) (Drawn (r .placings) (r .boxes) (now (at .exit))
         (columns (now (passes .exit)) (now (levels .exit)) (now (sizes .exit)) (now (vertices .exit)) (now (positions .exit)))) ⌝ }
 {
+    let mut first = [0u16; Plan::MAX_VERTICES + 1];
+    let mut ends = [0u32; Plan::MAX_SEGMENTS];
+    let mut sums = [0u64; Plan::MAX_SEGMENTS + 1];
     let mut had = [false; Plan::MAX_VERTICES];
     let mut listed = Listed {
         placings: 0,
@@ -131,8 +154,10 @@ fn run_passes(
             vias,
             uppers,
             lowers,
-            first,
-            ends,
+            ratings,
+            &mut first,
+            &mut ends,
+            &mut sums,
             at,
             apart,
             marks,
@@ -156,12 +181,13 @@ fn run_passes(
     listed
 }
 
-// The same, with room for the tables of the passes.
-fn run_with_tables(
+// The same from the sizes of the levels: where each starts is found first.
+fn run_with_starts(
     lengths: &[u16],
     vias: &[bool],
     uppers: &[u32],
     lowers: &[u32],
+    ratings: &[u32],
     at: &mut [i64],
     apart: &mut [u64],
     marks: &mut [bool],
@@ -172,26 +198,21 @@ fn run_with_tables(
     positions: &mut [i64],
 ) -> Listed
     ghost { Begun }
-    requires { λ k. ⌜ begun (graph (now lengths) (now vias) (now uppers) (now lowers)) (now at) (now apart) (now marks)
+    requires { λ k. ⌜ begun (graph (now lengths) (now vias) (now uppers) (now lowers) (now ratings)) (now at) (now apart) (now marks)
         (columns (now passes) (now levels) (now sizes) (now vertices) (now positions)) ≡ k ⌝ }
     requires { λ k. ⌜ Some (AtStart k) ⌝ }
     ensures { λ k r. ⌜ Leaves (AtStart k) (Drawn (r .placings) (r .boxes) (now (at .exit))
         (columns (now (passes .exit)) (now (levels .exit)) (now (sizes .exit)) (now (vertices .exit)) (now (positions .exit)))) ⌝ }
 {
-    let m = vias.len() + 1;
-    let e = uppers.len();
     let k = lengths.len() + 1;
     let mut starts = [0u16; Plan::MAX_LEVELS + 1];
-    let mut first = [0u16; Plan::MAX_VERTICES + 1];
-    let mut ends = [0u32; Plan::MAX_SEGMENTS];
     level_starts(lengths, &mut starts[..k]);
     run_passes(
         &starts[..k],
         vias,
         uppers,
         lowers,
-        &mut first[..m],
-        &mut ends[..e],
+        ratings,
         at,
         apart,
         marks,
@@ -211,6 +232,7 @@ pub fn three_passes(
     halves: &[u16],
     uppers: &[u32],
     lowers: &[u32],
+    ratings: &[u32],
     at: &mut [i64],
     passes: &mut [u16],
     levels: &mut [u16],
@@ -219,7 +241,7 @@ pub fn three_passes(
     positions: &mut [i64],
 ) -> Listed
     ghost { PlanLists }
-    requires { λ l. ⌜ planLists gap (now lengths) (now vias) (now halves) (now uppers) (now lowers) ≡ l ⌝ }
+    requires { λ l. ⌜ planLists gap (now lengths) (now vias) (now halves) (now uppers) (now lowers) (now ratings) ≡ l ⌝ }
     requires { λ l. ⌜ Some (Outset l (now at)) × (Wanted (columns (now passes) (now levels) (now sizes) (now vertices) (now positions))
         → Unlisted (columns (now passes) (now levels) (now sizes) (now vertices) (now positions))) ⌝ }
     ensures { λ l r. ⌜ Leaves (Outset l (now (at .entry))) (Drawn (r .placings) (r .boxes) (now (at .exit))
@@ -230,11 +252,12 @@ pub fn three_passes(
     let mut marks = [false; Plan::MAX_VERTICES];
     distances(gap, lengths, halves, &mut apart[..n]);
     mark_loose(lengths, vias, &apart[..n], at, &mut marks[..n]);
-    run_with_tables(
+    run_with_starts(
         lengths,
         vias,
         uppers,
         lowers,
+        ratings,
         at,
         &mut apart[..n],
         &mut marks[..n],

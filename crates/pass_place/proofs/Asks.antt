@@ -9,8 +9,12 @@ use lib.ListN.{length, getD, take, drop, length-take, length-drop, List·getD-eq
 use lib.Seq.{length-take-le, getD-take, getD-drop}
 use lib.IntN.{ℤ}
 use Rattle.ints.specs.Lists.{sum}
+use Rattle.ints.specs.Ratings.{allRatings}
 use Rattle.ints.proofs.Laws.{cases}
+use Rattle.ints.proofs.Ratings.{ratings-take, ratings-drop}
 use Rattle.ints.proofs.Tests.{_and_}
+use Rattle.run_columns.specs.inner.Sums.{ratingsBetween}
+use Rattle.run_columns.proofs.SumLaws.{length-between}
 use Rattle.plan.specs.Plan.{PlanData, numbers}
 use Rattle.plan.specs.Acceptable.{acceptable}
 use Rattle.plan.proofs.Sound.{sound as sound-plan}
@@ -30,16 +34,16 @@ use Rattle.ints.specs.Reach.{isWithin}
 use Rattle.run.specs.Call.{Request, boxesOf, memberOf, leftDistance, allDistances, isSmall, isFitting, isInReach, isSound, isTaken, placedOf}
 use Rattle.run.proofs.WhenRefused.{taken-row}
 use Rattle.pass_tables.specs.inner.Moments.{stateAfter, RunIs, Neighbouring}
-use Rattle.pass_place.specs.inner.Asked.{leftOf, rightOf, part, countsOf, nearOf, asked}
+use Rattle.pass_place.specs.inner.Asked.{leftOf, rightOf, part, countsOf, nearOf, ratesOf, asked}
 use Rattle.pass_place.proofs.Reach.{past-runs, past-reached, past-lies}
 use Rattle.pass_place.proofs.LevelEnds.{last-none}
-use Rattle.pass_place.proofs.Boxes.{near-is, counts-are, rows-rise, rows-inside, sum-rows, boxes-are}
+use Rattle.pass_place.proofs.Boxes.{near-is, rates-are, counts-are, rows-rise, rows-inside, sum-rows, boxes-are}
 use Rattle.pass_place.proofs.Sides.{LeftIs, left-is, RightIs, right-is, right-last}
 use Rattle.passes.proofs.DrawingWithin.{within-lies}
 use Rattle.pass_place.proofs.Tests.{part-within, map-within, all-distances}
 
-five : (a b c d e : Bool) → a ≡ true → b ≡ true → c ≡ true → d ≡ true → e ≡ true → a && b && c && d && e ≡ true
-five a b c d e f g h i j = rw (f, g, h, i, j)
+six : (a b c d e f : Bool) → a ≡ true → b ≡ true → c ≡ true → d ≡ true → e ≡ true → f ≡ true → a && b && c && d && e && f ≡ true
+six a b c d e f g h i j k l = rw (g, h, i, j, k, l)
 
 module _ (p : PlanData) (ok : acceptable p ≡ true) (past : List Visit) (w : Visit) (coming : List Visit) (whole : schedule p ≡ past ++ w ∷ coming) where
   abbrev s : State
@@ -78,9 +82,9 @@ module _ (p : PlanData) (ok : acceptable p ≡ true) (past : List Visit) (w : Vi
     distances-long : length distances ≡ i .high - i .low - 1
     distances-long = length-take-le (i .high - i .low - 1) (drop (i .low) (s .apart)) (omega (arith, length-drop (i .low) (s .apart), inv .apart-length, so .total, b .all))
 
-    module _ {first ends : List ℕ} (m : Neighbouring p (w .pass) first ends) where
+    module _ {first ends sums : List ℕ} (m : Neighbouring p (w .pass) first ends sums) where
       abbrev request : Request
-      request = asked (leftOf start from (s .at)) (rightOf end to (s .at)) distances from end first ends (s .at)
+      request = asked (leftOf start from (s .at)) (rightOf end to (s .at)) distances from end first ends sums (s .at)
 
       rows : end < length first
       rows = omega (arith, m .long, so .total, b .all, b .right, r .past)
@@ -116,6 +120,23 @@ module _ (p : PlanData) (ok : acceptable p ≡ true) (past : List Visit) (w : Vi
       nears-long : length (nearOf ends (s .at) (getD first from 0) (getD first end 0 - getD first from 0)) ≡ getD first end 0 - getD first from 0
       nears-long = along-length _ 0 (getD first end 0 - getD first from 0)
 
+      rates-long : length (ratesOf sums (getD first from 0) (getD first end 0 - getD first from 0)) ≡ getD first end 0 - getD first from 0
+      rates-long = let n = getD first end 0 - getD first from 0 in
+          omega (
+            arith,
+            length-between (take (n + 1) (drop (getD first from 0) sums)),
+            length-take (n + 1) (drop (getD first from 0) sums),
+            length-drop (getD first from 0) sums,
+            rows-rise m from end (omega (arith, r .past, r .first)) rows,
+            rows-inside m end rows,
+            m .all,
+            m .summed,
+          )
+
+      all-rated : allRatings (ratesOf sums (getD first from 0) (getD first end 0 - getD first from 0)) ≡ true
+      all-rated = let n = getD first end 0 - getD first from 0 in
+          rw (rates-are sums (getD first from 0) n) (ratings-take n (drop (getD first from 0) (ratingsBetween sums)) (ratings-drop (getD first from 0) (ratingsBetween sums) (m .within)))
+
       near-all : nearOf ends (s .at) (getD first from 0) (getD first end 0 - getD first from 0) ≡ map (positionOf (s .at)) (take (getD first end 0 - getD first from 0) (drop (getD first from 0) ends))
       near-all = near-is ends (s .at) (getD first from 0) (getD first end 0 - getD first from 0) (omega (arith, rows-rise m from end (omega (arith, r .past, r .first)) rows, rows-inside m end rows))
 
@@ -148,10 +169,10 @@ module _ (p : PlanData) (ok : acceptable p ≡ true) (past : List Visit) (w : Vi
           small = _and_ (le-leb (length (part from end (s .at))) 64 (omega (arith, old-long, few))) (le-leb (sum (countsOf first from (end - from))) 2048 (omega (arith, counts-sum, many)))
 
           fitting : isFitting request zs ≡ true
-          fitting = five _ _ _ _ _ (eq-eqb _ _ (e ∙ sym old-long)) (eq-eqb (length (part from end (s .at))) (length (part from end (s .at))) refl) (eq-eqb _ _ (counts-long ∙ sym old-long)) (eq-eqb _ _ (nears-long ∙ sym counts-sum))
+          fitting = six _ _ _ _ _ _ (eq-eqb _ _ (e ∙ sym old-long)) (eq-eqb (length (part from end (s .at))) (length (part from end (s .at))) refl) (eq-eqb _ _ (counts-long ∙ sym old-long)) (eq-eqb _ _ (nears-long ∙ sym counts-sum)) (eq-eqb _ _ (rates-long ∙ sym counts-sum))
               (eq-eqb (length distances) (memberOf (leftOf start from (s .at)) + length (part from end (s .at)) + memberOf (rightOf end to (s .at)) - 1)
               (omega (arith, distances-long, left .member (s .at), right .member (s .at), old-long, b .left, b .right, r .first, r .past)))
 
           in-reach : isInReach request ≡ true
-          in-reach = five _ _ _ _ _ (left .within (s .at) within) (right .within (s .at) within) (part-within (s .at) within (end - from) from)
-              (rw near-all (map-within (s .at) within (take (getD first end 0 - getD first from 0) (drop (getD first from 0) ends)))) all-far
+          in-reach = six _ _ _ _ _ _ (left .within (s .at) within) (right .within (s .at) within) (part-within (s .at) within (end - from) from)
+              (rw near-all (map-within (s .at) within (take (getD first end 0 - getD first from 0) (drop (getD first from 0) ends)))) all-rated all-far

@@ -28,7 +28,7 @@ use Rattle.pass_place.proofs.Boxes.{rows-rise, rows-inside}
 use Rattle.pass_place.proofs.Sides.{bounded-both}
 use Rattle.pass_place.proofs.Asks.{left, right, distances, placed-is, few, is-taken}
 
-module _ {start′ from end to : ℕ} {first ends : List ℕ} {at : List ℤ} {apart : List ℕ} {m : AtVisit} (h : Placing start′ from end to first ends at apart m) where
+module _ {start′ from end to : ℕ} {first ends sums : List ℕ} {at : List ℤ} {apart : List ℕ} {m : AtVisit} (h : Placing start′ from end to first ends sums at apart m) where
   abbrev p : PlanData
   p = m .plan
 
@@ -95,7 +95,7 @@ module _ {start′ from end to : ℕ} {first ends : List ℕ} {at : List ℤ} {a
   pub members-in : (lowOf start′ from ≤ highOf end to) × (highOf end to ≤ vertexCount p)
   members-in = let b = bounds i in (omega (arith, low-is, high-is), omega (arith, high-is, so .total))
 
-  pub rowed : Rowed from end first ends at
+  pub rowed : Rowed from end first ends sums at
   rowed = let near = h .near in let n = long in record {
     order = order;
     boxes = omega (arith, inside .1);
@@ -104,6 +104,7 @@ module _ {start′ from end to : ℕ} {first ends : List ℕ} {at : List ℤ} {a
     rising = λ v k. rows-rise near v (v + 1) (omega arith) k;
     inside = rows-inside near end (omega (arith, inside .1, near .long));
     many = omega (arith, near .all, near .few);
+    summed = omega (arith, near .all, near .summed);
     vertices = λ k l. omega (arith, near .vertices k l);
   }
 
@@ -112,14 +113,14 @@ module _ {start′ from end to : ℕ} {first ends : List ℕ} {at : List ℤ} {a
     ds-are : part (lowOf start′ from) last apart ≡ distances p (h .ok) past w coming (h .whole) (h .run)
     ds-are = ap (part (lowOf start′ from) last) (h .distances) ∙ rw (e, low-is, high-is)
 
-    pub taken : (zs : List ℤ) → length zs ≡ end - from → isTaken (asked (leftOf start′ from at) (rightOf end to at) (part (lowOf start′ from) last apart) from end first ends at) zs ≡ true
-    taken zs k = subst (λ (xs : List ℤ). isTaken (asked (leftOf start′ from xs) (rightOf end to xs) (part (lowOf start′ from) last apart) from end first ends xs) zs ≡ true) (sym (h .places))
-        (subst (λ (ds : List ℕ). isTaken (asked (leftOf start′ from (s .at)) (rightOf end to (s .at)) ds from end first ends (s .at)) zs ≡ true) (sym ds-are)
+    pub taken : (zs : List ℤ) → length zs ≡ end - from → isTaken (asked (leftOf start′ from at) (rightOf end to at) (part (lowOf start′ from) last apart) from end first ends sums at) zs ≡ true
+    taken zs k = subst (λ (xs : List ℤ). isTaken (asked (leftOf start′ from xs) (rightOf end to xs) (part (lowOf start′ from) last apart) from end first ends sums xs) zs ≡ true) (sym (h .places))
+        (subst (λ (ds : List ℕ). isTaken (asked (leftOf start′ from (s .at)) (rightOf end to (s .at)) ds from end first ends sums (s .at)) zs ≡ true) (sym ds-are)
         (is-taken p (h .ok) past w coming (h .whole) (h .run) (h .near) zs k))
 
-    pub outcome : placedOf (asked (leftOf start′ from at) (rightOf end to at) (part (lowOf start′ from) last apart) from end first ends at) ≡ placed p (w .pass) s (w .run)
-    outcome = ap (λ (xs : List ℤ). placedOf (asked (leftOf start′ from xs) (rightOf end to xs) (part (lowOf start′ from) last apart) from end first ends xs)) (h .places)
-        ∙ ap (λ (ds : List ℕ). placedOf (asked (leftOf start′ from (s .at)) (rightOf end to (s .at)) ds from end first ends (s .at))) ds-are
+    pub outcome : placedOf (asked (leftOf start′ from at) (rightOf end to at) (part (lowOf start′ from) last apart) from end first ends sums at) ≡ placed p (w .pass) s (w .run)
+    outcome = ap (λ (xs : List ℤ). placedOf (asked (leftOf start′ from xs) (rightOf end to xs) (part (lowOf start′ from) last apart) from end first ends sums xs)) (h .places)
+        ∙ ap (λ (ds : List ℕ). placedOf (asked (leftOf start′ from (s .at)) (rightOf end to (s .at)) ds from end first ends sums (s .at))) ds-are
         ∙ placed-is p (h .ok) past w coming (h .whole) (h .run) (h .near)
 
   pub next-at : (ys : List ℤ) → ys ≡ placed p (w .pass) s (w .run) → put (numbers from (end - from)) ys at ≡ next .at

@@ -12,6 +12,6 @@ rises first f v zero h = let e : v + 0 ≡ v = omega arith in omega (arith, ap (
 rises first f v (suc n) h = let e : v + n + 1 ≡ v + suc n = omega arith in
     omega (arith, rises first f v n (omega arith), f (v + n) (omega arith), ap (λ (u : ℕ). getD first u 0) e)
 
-pub row-order : {from end : ℕ} {first ends : List ℕ} {xs : List ℤ} → Rowed from end first ends xs → getD first from 0 ≤ getD first end 0
+pub row-order : {from end : ℕ} {first ends sums : List ℕ} {xs : List ℤ} → Rowed from end first ends sums xs → getD first from 0 ≤ getD first end 0
 row-order {from} {end} {first} r = let e : from + (end - from) ≡ end = omega (arith, r .order) in
     omega (arith, rises first (r .rising) from (end - from) (omega (arith, r .rows)), ap (λ (u : ℕ). getD first u 0) e)

@@ -78,13 +78,14 @@ fn place_near(
     end: usize,
     first: &[u16],
     ends: &[u32],
+    sums: &[u64],
     at: &[i64],
     near: &mut [i64],
     answer: &mut [i64],
 )
     ghost { Request }
-    requires { λ q. ⌜ asked left right (now distances) from end (now first) (now ends) (now at) ≡ q ⌝ }
-    requires { λ q. ⌜ Rowed from end (now first) (now ends) (now at) ⌝ }
+    requires { λ q. ⌜ asked left right (now distances) from end (now first) (now ends) (now sums) (now at) ≡ q ⌝ }
+    requires { λ q. ⌜ Rowed from end (now first) (now ends) (now sums) (now at) ⌝ }
     requires { λ q. ⌜ isTaken q (now answer) ≡ true ⌝ }
     requires { λ q. ⌜ rowsLong from end (now first) ≤ length (now near) ⌝ }
     ensures { λ q _. ⌜ now (answer .exit) ≡ placedOf q ⌝ }
@@ -102,6 +103,7 @@ fn place_near(
         distances,
         &counts[..n],
         &near[..s],
+        &sums[row..row + s + 1],
         answer,
     );
 }
@@ -115,12 +117,13 @@ fn place_many(
     end: usize,
     first: &[u16],
     ends: &[u32],
+    sums: &[u64],
     at: &[i64],
     answer: &mut [i64],
 )
     ghost { Request }
-    requires { λ q. ⌜ asked left right (now distances) from end (now first) (now ends) (now at) ≡ q ⌝ }
-    requires { λ q. ⌜ Rowed from end (now first) (now ends) (now at) ⌝ }
+    requires { λ q. ⌜ asked left right (now distances) from end (now first) (now ends) (now sums) (now at) ≡ q ⌝ }
+    requires { λ q. ⌜ Rowed from end (now first) (now ends) (now sums) (now at) ⌝ }
     requires { λ q. ⌜ isTaken q (now answer) ≡ true ⌝ }
     ensures { λ q _. ⌜ now (answer .exit) ≡ placedOf q ⌝ }
 {
@@ -134,6 +137,7 @@ fn place_many(
             end,
             first,
             ends,
+            sums,
             at,
             &mut near,
             answer,
@@ -149,6 +153,7 @@ fn place_many(
         end,
         first,
         ends,
+        sums,
         at,
         &mut near,
         answer,
@@ -164,12 +169,13 @@ fn place_boxes(
     end: usize,
     first: &[u16],
     ends: &[u32],
+    sums: &[u64],
     at: &[i64],
     answer: &mut [i64],
 )
     ghost { Request }
-    requires { λ q. ⌜ asked left right (now distances) from end (now first) (now ends) (now at) ≡ q ⌝ }
-    requires { λ q. ⌜ Rowed from end (now first) (now ends) (now at) ⌝ }
+    requires { λ q. ⌜ asked left right (now distances) from end (now first) (now ends) (now sums) (now at) ≡ q ⌝ }
+    requires { λ q. ⌜ Rowed from end (now first) (now ends) (now sums) (now at) ⌝ }
     requires { λ q. ⌜ isTaken q (now answer) ≡ true ⌝ }
     ensures { λ q _. ⌜ now (answer .exit) ≡ placedOf q ⌝ }
 {
@@ -186,13 +192,25 @@ fn place_boxes(
             end,
             first,
             ends,
+            sums,
             at,
             &mut near,
             answer,
         );
         return;
     }
-    place_many(left, right, distances, from, end, first, ends, at, answer);
+    place_many(
+        left,
+        right,
+        distances,
+        from,
+        end,
+        first,
+        ends,
+        sums,
+        at,
+        answer,
+    );
 }
 
 // Whether a via stands on both sides.
@@ -222,13 +240,14 @@ fn place_with(
     to: usize,
     first: &[u16],
     ends: &[u32],
+    sums: &[u64],
     at: &mut [i64],
     apart: &mut [u64],
     answer: &mut [i64],
 )
-    requires { ⌜ Some (Placing start from end to (now first) (now ends) (now at) (now apart)) ⌝ }
+    requires { ⌜ Some (Placing start from end to (now first) (now ends) (now sums) (now at) (now apart)) ⌝ }
     requires { ⌜ length (now answer) ≡ end - from ⌝ }
-    ensures { λ _. ⌜ Leaves (Placing start from end to (now (first .entry)) (now (ends .entry)) (now (at .entry)) (now (apart .entry)))
+    ensures { λ _. ⌜ Leaves (Placing start from end to (now (first .entry)) (now (ends .entry)) (now (sums .entry)) (now (at .entry)) (now (apart .entry)))
         (Placed (now (at .exit)) (now (apart .exit))) ⌝ }
 {
     let low = low_end(start, from);
@@ -243,6 +262,7 @@ fn place_with(
         end,
         first,
         ends,
+        sums,
         at,
         answer,
     );
@@ -259,11 +279,12 @@ pub fn place_one(
     to: usize,
     first: &[u16],
     ends: &[u32],
+    sums: &[u64],
     at: &mut [i64],
     apart: &mut [u64],
 )
-    requires { ⌜ Some (Placing start from end to (now first) (now ends) (now at) (now apart)) ⌝ }
-    ensures { λ _. ⌜ Leaves (Placing start from end to (now (first .entry)) (now (ends .entry)) (now (at .entry)) (now (apart .entry)))
+    requires { ⌜ Some (Placing start from end to (now first) (now ends) (now sums) (now at) (now apart)) ⌝ }
+    ensures { λ _. ⌜ Leaves (Placing start from end to (now (first .entry)) (now (ends .entry)) (now (sums .entry)) (now (at .entry)) (now (apart .entry)))
         (Placed (now (at .exit)) (now (apart .exit))) ⌝ }
 {
     let n = end - from;
@@ -276,6 +297,7 @@ pub fn place_one(
             to,
             first,
             ends,
+            sums,
             at,
             apart,
             &mut answer[..n],
@@ -290,6 +312,7 @@ pub fn place_one(
         to,
         first,
         ends,
+        sums,
         at,
         apart,
         &mut answer[..n],

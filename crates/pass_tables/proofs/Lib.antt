@@ -1,6 +1,7 @@
 pub mod Between
 pub mod DistanceLaws
 pub mod Due
+pub mod InRows
 pub mod JoinLaws
 pub mod JoinedLevels
 pub mod LevelLaws
@@ -17,4 +18,5 @@ pub mod RunsAhead
 pub mod Settle
 pub mod SettledMarks
 pub mod StartMarks
+pub mod SumsMade
 pub mod TablesKept

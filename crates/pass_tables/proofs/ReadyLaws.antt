@@ -90,7 +90,7 @@ bool-same false false f g = refl
 abbrev readyOf : List ℕ → ℕ → ℕ → Bool
 readyOf counts u w = cond (eqb u noVertex) false (cond (eqb w noVertex) false (eqb (getD counts u 0) (getD counts w 0)))
 
-module _ {p : PlanData} (ok : acceptable p ≡ true) {q : ℕ} {first ends : List ℕ} (near : Neighbouring p q first ends) {r : Run} (i : IsRun p r)
+module _ {p : PlanData} (ok : acceptable p ≡ true) {q : ℕ} {first ends sums : List ℕ} (near : Neighbouring p q first ends sums) {r : Run} (i : IsRun p r)
     {before after counts : List ℕ} {marks : List Bool} (t : Tables p q (r .level) first ends before after counts marks)
     (a b : ℕ) (left : r .left ≡ some a) (right : r .right ≡ some b) where
   so : Sound p

@@ -48,7 +48,7 @@ module _ {q low high start to : ℕ} {vias : List Bool} {w : PassWork} {m : AtLe
   -- the tables once made
   pub made : {before after counts : List ℕ} → length before ≡ 1024 → length after ≡ 1024 → length counts ≡ 1024
       → ((q ≡ 3 → ⊥) → (u : ℕ) → start ≤ u → u < to → getD marks u false ≡ true → TablesMade low high start to vias first ends before after counts marks)
-      → Levelling q start to vias (work first ends before after counts (w .at) (w .apart) marks) m
+      → Levelling q start to vias (work first ends (w .sums) before after counts (w .at) (w .apart) marks) m
   made {before} {after} {counts} e f g tables = record {
     enter = k .enter;
     tables = λ a. let t = tables (a .notThird) (a .via) (omega (arith, k .enter .starts, a .on .from)) (omega (arith, k .enter .stops, a .on .to)) (a .unsettled) in record {

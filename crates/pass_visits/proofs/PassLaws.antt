@@ -102,7 +102,7 @@ module _ {q : ℕ} {starts : List ℕ} {vias : List Bool} {w : PassWork} {m : At
       abbrev pub at-level : AtLevel
       at-level = record { plan = p; past = past ++ passVisits p q (take k (inTurn q p)); level = l; coming = passVisits p q (drop (suc k) (inTurn q p)) ++ coming }
 
-      pub level-next : LevelNext q low high start to vias (passWork (w .first) (w .ends) at apart marks) at-level
+      pub level-next : LevelNext q low high start to vias (passWork (w .first) (w .ends) (w .sums) at apart marks) at-level
       unfolding passVisits
       level-next = record {
         enter = record {

@@ -49,7 +49,7 @@ asked-before : {p : PlanData} {q l : ℕ} {marks : List Bool} (i : ℕ) → Asks
 asked-before {marks = marks} i a = record { notThird = a .notThird; via = a .via; on = a .on; unsettled = unset marks i (a .via) (a .unsettled) }
 
 pub asking : {q start from end to : ℕ} {k : Work} {m : AtVisit} → Visiting q start from end to k m → Asking q start from end to (k .before) (k .after) (k .counts) (k .marks) m
-asking {k = k} v = record { first = k .first; ends = k .ends; at = k .at; apart = k .apart; is = v }
+asking {k = k} v = record { first = k .first; ends = k .ends; sums = k .sums; at = k .at; apart = k .apart; is = v }
 
 module _ {q start from end to : ℕ} {k : Work} {m : AtVisit} (v : Visiting q start from end to k m) {r : Bool} (e : r ≡ isDueAt q m) where
   abbrev p : PlanData
@@ -85,14 +85,14 @@ module _ {q start from end to : ℕ} {k : Work} {m : AtVisit} (v : Visiting q st
 
   -- ---- one that is
   module _ (t : not r ≡ false) where
-    pub placing : Placing start from end to first ends (k .at) (k .apart) m
+    pub placing : Placing start from end to first ends (k .sums) (k .at) (k .apart) m
     placing = record {
       ok = v .held .ok;
       whole = v .held .whole;
       places = v .held .places;
       distances = v .held .distances;
       run = v .run;
-      near = subst (λ (n : ℕ). Neighbouring p n first ends) (sym (v .pass)) (v .near);
+      near = subst (λ (n : ℕ). Neighbouring p n first ends (k .sums)) (sym (v .pass)) (v .near);
       due = is-due v e t;
     }
 

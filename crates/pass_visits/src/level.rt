@@ -13,6 +13,7 @@ pub fn visit_level(
     vias: &[bool],
     first: &[u16],
     ends: &[u32],
+    sums: &[u64],
     before: &[u32],
     after: &[u32],
     counts: &[u16],
@@ -21,7 +22,7 @@ pub fn visit_level(
     marks: &mut [bool],
 )
     ghost { Work }
-    requires { λ k. ⌜ work (now first) (now ends) (now before) (now after) (now counts) (now at) (now apart) (now marks) ≡ k ⌝ }
+    requires { λ k. ⌜ work (now first) (now ends) (now sums) (now before) (now after) (now counts) (now at) (now apart) (now marks) ≡ k ⌝ }
     requires { λ k. ⌜ Some (Levelling q start to (now vias) k) ⌝ }
     ensures { λ k _. ⌜ Leaves (Levelling q start to (now (vias .entry)) k) (LevelDone q (now (at .exit)) (now (apart .exit)) (now (marks .exit))) ⌝ }
 {
@@ -36,6 +37,7 @@ pub fn visit_level(
             to,
             first,
             ends,
+            sums,
             before,
             after,
             counts,

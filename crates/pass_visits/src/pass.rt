@@ -63,17 +63,22 @@ fn make_tables(
     count_marks(marks, low, high, counts);
 }
 
-// Visits the runs of the level from `start` up to `to`; the level that precedes it stands from `low` up to `high`. The tables that tell
-// which runs are ready are made in what is lent for them.
+// The vertices from `from` up to `to`.
+struct Stretch {
+    from: usize,
+    to: usize,
+}
+
+// Visits the runs of a level; `preceding` is the level that precedes it. The tables that tell which runs are ready are made in what is lent
+// for them.
 fn enter_level(
     q: u16,
-    low: usize,
-    high: usize,
-    start: usize,
-    to: usize,
+    preceding: Stretch,
+    level: Stretch,
     vias: &[bool],
     first: &[u16],
     ends: &[u32],
+    sums: &[u64],
     before: &mut [u32],
     after: &mut [u32],
     counts: &mut [u16],
@@ -82,17 +87,17 @@ fn enter_level(
     marks: &mut [bool],
 )
     ghost { PassWork }
-    requires { λ k. ⌜ passWork (now first) (now ends) (now at) (now apart) (now marks) ≡ k ⌝ }
-    requires { λ k. ⌜ Some (LevelNext q low high start to (now vias) k) × TableRoom (now before) (now after) (now counts) ⌝ }
-    ensures { λ k _. ⌜ Leaves (LevelNext q low high start to (now (vias .entry)) k)
+    requires { λ k. ⌜ passWork (now first) (now ends) (now sums) (now at) (now apart) (now marks) ≡ k ⌝ }
+    requires { λ k. ⌜ Some (LevelNext q (preceding .from) (preceding .to) (level .from) (level .to) (now vias) k) × TableRoom (now before) (now after) (now counts) ⌝ }
+    ensures { λ k _. ⌜ Leaves (LevelNext q (preceding .from) (preceding .to) (level .from) (level .to) (now (vias .entry)) k)
         (LevelDone q (now (at .exit)) (now (apart .exit)) (now (marks .exit))) ⌝ }
 {
     make_tables(
         q,
-        low,
-        high,
-        start,
-        to,
+        preceding.from,
+        preceding.to,
+        level.from,
+        level.to,
         vias,
         first,
         ends,
@@ -103,11 +108,12 @@ fn enter_level(
     );
     visit_level(
         q,
-        start,
-        to,
+        level.from,
+        level.to,
         vias,
         first,
         ends,
+        sums,
         before,
         after,
         counts,
@@ -124,12 +130,13 @@ pub fn pass(
     vias: &[bool],
     first: &[u16],
     ends: &[u32],
+    sums: &[u64],
     at: &mut [i64],
     apart: &mut [u64],
     marks: &mut [bool],
 )
     ghost { PassWork }
-    requires { λ k. ⌜ passWork (now first) (now ends) (now at) (now apart) (now marks) ≡ k ⌝ }
+    requires { λ k. ⌜ passWork (now first) (now ends) (now sums) (now at) (now apart) (now marks) ≡ k ⌝ }
     requires { λ k. ⌜ Some (PassNext q (now starts) (now vias) k) ⌝ }
     ensures { λ k _. ⌜ Leaves (PassNext q (now (starts .entry)) (now (vias .entry)) k)
         (PassDone q (now (at .exit)) (now (apart .exit)) (now (marks .exit))) ⌝ }
@@ -147,13 +154,15 @@ pub fn pass(
         let to = wide(starts[i + 1]);
         enter_level(
             q,
-            low,
-            high,
-            start,
-            to,
+            Stretch {
+                from: low,
+                to: high,
+            },
+            Stretch { from: start, to },
             vias,
             first,
             ends,
+            sums,
             &mut before,
             &mut after,
             &mut counts,

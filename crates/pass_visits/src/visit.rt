@@ -53,6 +53,7 @@ pub fn visit(
     to: usize,
     first: &[u16],
     ends: &[u32],
+    sums: &[u64],
     before: &[u32],
     after: &[u32],
     counts: &[u16],
@@ -61,13 +62,13 @@ pub fn visit(
     marks: &mut [bool],
 )
     ghost { Work }
-    requires { λ k. ⌜ work (now first) (now ends) (now before) (now after) (now counts) (now at) (now apart) (now marks) ≡ k ⌝ }
+    requires { λ k. ⌜ work (now first) (now ends) (now sums) (now before) (now after) (now counts) (now at) (now apart) (now marks) ≡ k ⌝ }
     requires { λ k. ⌜ Some (Visiting q start from end to k) ⌝ }
     ensures { λ k _. ⌜ Leaves (Visiting q start from end to k) (Visited q (worked k (now (at .exit)) (now (apart .exit)) (now (marks .exit)))) ⌝ }
 {
     if !is_due(q, start, from, end, to, before, after, counts, marks) {
         return;
     }
-    place_one(start, from, end, to, first, ends, at, apart);
+    place_one(start, from, end, to, first, ends, sums, at, apart);
     settle(start, from, end, to, marks);
 }

@@ -45,6 +45,7 @@ settled =
     (false ∷ false ∷ true ∷ false ∷ true ∷ true ∷ false ∷ true ∷ true ∷ true ∷ false ∷ false ∷ [])
     (1 ∷ 1 ∷ 0 ∷ 9 ∷ 0 ∷ 0 ∷ 1 ∷ 0 ∷ 0 ∷ 0 ∷ 1 ∷ 1 ∷ [])
     (0 ∷ 1 ∷ 2 ∷ 4 ∷ 5 ∷ 7 ∷ 8 ∷ 9 ∷ []) (2 ∷ 4 ∷ 5 ∷ 7 ∷ 8 ∷ 9 ∷ 10 ∷ 11 ∷ [])
+    (1 ∷ 1 ∷ 1 ∷ 1 ∷ 1 ∷ 1 ∷ 1 ∷ 1 ∷ [])
 
 pub settled-drawn : drawingOf settled ≡ record {
   preliminary = negsuc 2 ∷ pos 3 ∷ negsuc 19 ∷ pos 0 ∷ pos 20 ∷ negsuc 19 ∷ pos 0 ∷ pos 20 ∷ negsuc 19 ∷ pos 20 ∷ negsuc 2 ∷ pos 3 ∷ [];
@@ -72,6 +73,7 @@ third-pass =
     (false ∷ true ∷ false ∷ true ∷ false ∷ true ∷ true ∷ true ∷ true ∷ true ∷ false ∷ true ∷ false ∷ [])
     (1 ∷ 0 ∷ 2 ∷ 0 ∷ 1 ∷ 0 ∷ 0 ∷ 0 ∷ 0 ∷ 0 ∷ 1 ∷ 0 ∷ 1 ∷ [])
     (0 ∷ 0 ∷ 1 ∷ 3 ∷ 4 ∷ 4 ∷ 5 ∷ 6 ∷ 7 ∷ 8 ∷ 9 ∷ 11 ∷ []) (1 ∷ 3 ∷ 5 ∷ 7 ∷ 6 ∷ 8 ∷ 10 ∷ 9 ∷ 10 ∷ 11 ∷ 12 ∷ 12 ∷ [])
+    (1 ∷ 1 ∷ 1 ∷ 1 ∷ 1 ∷ 1 ∷ 1 ∷ 1 ∷ 1 ∷ 1 ∷ 1 ∷ 1 ∷ [])
 
 pub third-pass-drawn : drawingOf third-pass ≡ record {
   preliminary = pos 0 ∷ negsuc 5 ∷ pos 0 ∷ pos 6 ∷ pos 10 ∷ negsuc 5 ∷ pos 0 ∷ pos 6 ∷ pos 10 ∷ pos 0 ∷ pos 4 ∷ pos 10 ∷ pos 4 ∷ [];
@@ -101,6 +103,7 @@ nearest =
     (false ∷ true ∷ true ∷ false ∷ true ∷ true ∷ false ∷ false ∷ true ∷ false ∷ [])
     (1 ∷ 0 ∷ 0 ∷ 1 ∷ 0 ∷ 0 ∷ 1 ∷ 1 ∷ 0 ∷ 1 ∷ [])
     (0 ∷ 0 ∷ 0 ∷ 1 ∷ 2 ∷ 4 ∷ 5 ∷ 8 ∷ []) (1 ∷ 2 ∷ 4 ∷ 5 ∷ 6 ∷ 8 ∷ 9 ∷ 9 ∷ [])
+    (1 ∷ 1 ∷ 1 ∷ 1 ∷ 1 ∷ 1 ∷ 1 ∷ 1 ∷ [])
 
 pub nearest-drawn : drawingOf nearest ≡ record {
   preliminary = pos 0 ∷ negsuc 3 ∷ pos 0 ∷ pos 4 ∷ pos 10 ∷ negsuc 3 ∷ pos 0 ∷ pos 6 ∷ pos 10 ∷ pos 3 ∷ [];
@@ -128,6 +131,7 @@ above-third =
     (false ∷ false ∷ true ∷ false ∷ true ∷ false ∷ true ∷ true ∷ true ∷ true ∷ true ∷ true ∷ true ∷ true ∷ false ∷ true ∷ false ∷ [])
     (1 ∷ 1 ∷ 0 ∷ 1 ∷ 0 ∷ 1 ∷ 0 ∷ 0 ∷ 0 ∷ 0 ∷ 0 ∷ 0 ∷ 0 ∷ 0 ∷ 2 ∷ 0 ∷ 1 ∷ [])
     (0 ∷ 1 ∷ 1 ∷ 2 ∷ 3 ∷ 4 ∷ 5 ∷ 6 ∷ 7 ∷ 8 ∷ 9 ∷ 10 ∷ 11 ∷ 12 ∷ 13 ∷ 15 ∷ []) (2 ∷ 4 ∷ 7 ∷ 6 ∷ 5 ∷ 8 ∷ 9 ∷ 10 ∷ 11 ∷ 12 ∷ 13 ∷ 14 ∷ 15 ∷ 16 ∷ 16 ∷ 16 ∷ [])
+    (1 ∷ 1 ∷ 1 ∷ 1 ∷ 1 ∷ 1 ∷ 1 ∷ 1 ∷ 1 ∷ 1 ∷ 1 ∷ 1 ∷ 1 ∷ 1 ∷ 1 ∷ 1 ∷ [])
 
 pub above-third-drawn : drawingOf above-third ≡ record {
   preliminary = pos 0 ∷ negsuc 3 ∷ pos 0 ∷ pos 4 ∷ negsuc 9 ∷ negsuc 5 ∷ pos 0 ∷ pos 6 ∷ negsuc 9 ∷ negsuc 5 ∷ pos 0 ∷ pos 6 ∷ negsuc 9 ∷ negsuc 5 ∷ pos 0 ∷ pos 6 ∷ negsuc 5 ∷ [];
@@ -159,6 +163,7 @@ left-to-right =
     (false ∷ false ∷ true ∷ false ∷ false ∷ false ∷ false ∷ [])
     (1 ∷ 1 ∷ 0 ∷ 1 ∷ 1 ∷ 1 ∷ 1 ∷ [])
     (0 ∷ 0 ∷ 0 ∷ 1 ∷ 1 ∷ 1 ∷ 2 ∷ 3 ∷ 3 ∷ 3 ∷ []) (1 ∷ 2 ∷ 3 ∷ 4 ∷ 5 ∷ 6 ∷ 6 ∷ 4 ∷ 5 ∷ 6 ∷ [])
+    (1 ∷ 1 ∷ 1 ∷ 1 ∷ 1 ∷ 1 ∷ 1 ∷ 1 ∷ 1 ∷ 1 ∷ [])
 
 pub left-to-right-drawn : drawingOf left-to-right ≡ record {
   preliminary = pos 0 ∷ negsuc 5 ∷ pos 0 ∷ pos 6 ∷ negsuc 9 ∷ negsuc 1 ∷ pos 6 ∷ [];
@@ -189,6 +194,7 @@ slanting =
     (false ∷ false ∷ false ∷ true ∷ true ∷ false ∷ true ∷ true ∷ true ∷ false ∷ false ∷ false ∷ [])
     (1 ∷ 1 ∷ 1 ∷ 0 ∷ 0 ∷ 1 ∷ 0 ∷ 0 ∷ 0 ∷ 1 ∷ 1 ∷ 1 ∷ [])
     (0 ∷ 0 ∷ 0 ∷ 1 ∷ 1 ∷ 2 ∷ 2 ∷ 2 ∷ 3 ∷ 4 ∷ 5 ∷ 5 ∷ 5 ∷ 6 ∷ 7 ∷ 8 ∷ []) (3 ∷ 4 ∷ 5 ∷ 5 ∷ 7 ∷ 5 ∷ 6 ∷ 8 ∷ 9 ∷ 11 ∷ 9 ∷ 10 ∷ 11 ∷ 10 ∷ 11 ∷ 11 ∷ [])
+    (1 ∷ 1 ∷ 1 ∷ 1 ∷ 1 ∷ 1 ∷ 1 ∷ 1 ∷ 1 ∷ 1 ∷ 1 ∷ 1 ∷ 1 ∷ 1 ∷ 1 ∷ 1 ∷ [])
 
 pub slanting-drawn : drawingOf slanting ≡ record {
   preliminary = negsuc 5 ∷ pos 0 ∷ pos 6 ∷ negsuc 6 ∷ negsuc 4 ∷ negsuc 0 ∷ pos 3 ∷ pos 5 ∷ pos 7 ∷ negsuc 6 ∷ negsuc 0 ∷ pos 5 ∷ [];
@@ -211,3 +217,43 @@ pub slanting-bends :
     map (bendsAt slanting (drawingOf slanting .final)) (3 ∷ 4 ∷ 6 ∷ 7 ∷ 8 ∷ []) ≡ true ∷ true ∷ false ∷ true ∷ true ∷ []
 unfolding passesOpen
 slanting-bends = refl
+
+-- "A heavy lead should be the straight one": a box with three feeds and three lamps. It stands below the first feed and, when pass 2
+-- goes by the level below, above the last lamp; were all ratings 1, as in `light`, it would stand in the middle.
+abbrev feedsAndLamps : List ℕ → PlanData
+feedsAndLamps ratings =
+    dataOf 3 1 10
+    (3 ∷ 1 ∷ 3 ∷ [])
+    (false ∷ false ∷ false ∷ false ∷ false ∷ false ∷ false ∷ [])
+    (1 ∷ 1 ∷ 1 ∷ 1 ∷ 1 ∷ 1 ∷ 1 ∷ [])
+    (0 ∷ 1 ∷ 2 ∷ 3 ∷ 3 ∷ 3 ∷ []) (3 ∷ 3 ∷ 3 ∷ 4 ∷ 5 ∷ 6 ∷ [])
+    ratings
+
+abbrev pub heavy : PlanData
+heavy = feedsAndLamps (3 ∷ 1 ∷ 1 ∷ 1 ∷ 1 ∷ 3 ∷ [])
+
+pub heavy-drawn : drawingOf heavy ≡ record {
+  preliminary = negsuc 5 ∷ pos 0 ∷ pos 6 ∷ pos 0 ∷ negsuc 5 ∷ pos 0 ∷ pos 6 ∷ [];
+  final = negsuc 5 ∷ pos 0 ∷ pos 6 ∷ negsuc 5 ∷ negsuc 17 ∷ negsuc 11 ∷ negsuc 5 ∷ [];
+  placings =
+      place 1 1 (at 0 (negsuc 5) ∷ at 1 (pos 0) ∷ at 2 (pos 6) ∷ []) ∷
+      place 1 2 (at 3 (negsuc 5) ∷ []) ∷
+      place 1 3 (at 4 (negsuc 17) ∷ at 5 (negsuc 11) ∷ at 6 (negsuc 5) ∷ []) ∷
+      place 2 3 (at 4 (negsuc 17) ∷ at 5 (negsuc 11) ∷ at 6 (negsuc 5) ∷ []) ∷
+      place 2 2 (at 3 (negsuc 5) ∷ []) ∷
+      place 2 1 (at 0 (negsuc 5) ∷ at 1 (pos 0) ∷ at 2 (pos 6) ∷ []) ∷
+      [];
+}
+unfolding passesOpen
+heavy-drawn = refl
+
+pub heavy-words : wordsHold heavy ≡ true
+unfolding passesOpen triedOpen
+heavy-words = refl
+
+abbrev pub light : PlanData
+light = feedsAndLamps (1 ∷ 1 ∷ 1 ∷ 1 ∷ 1 ∷ 1 ∷ [])
+
+pub light-final : drawingOf light .final ≡ negsuc 5 ∷ pos 0 ∷ pos 6 ∷ pos 0 ∷ negsuc 5 ∷ pos 0 ∷ pos 6 ∷ []
+unfolding passesOpen
+light-final = refl

@@ -9,11 +9,11 @@ use native.Mathlib.Omega.{arith}
 use lib.ListN.{length, getD}
 use lib.IntN.{ℤ, pos}
 use Rattle.ints.proofs.Laws.{apart, cases, if-ind}
-use Rattle.run.specs.Run.{at, span}
+use Rattle.run.specs.Run.{at, leadPositions, leadsOf, span}
 use Rattle.plan.specs.Plan.{PlanData, numbers}
 use Rattle.passes.specs.Runs.{Run, isBounded}
 use Rattle.passes.specs.State.{State, positionOf, put}
-use Rattle.passes.specs.Ready.{preceding}
+use Rattle.passes.specs.Ready.{preceding, precedingRatings}
 use Rattle.passes.specs.Passes.{boundAt, distanceFrom, boxesAt, placed, after, isDue, visit}
 use Rattle.plan.proofs.All.{All, all-nil, all-cons, all-map, all-append, all-get, all-of-get}
 use Rattle.passes.proofs.Sound.{Sound}
@@ -84,13 +84,14 @@ left-total ds n (via-left {v = v} {low = low} {first = first} e f g t) = let y :
     omega (arith, ap (λ a. total ds a n) y, ap (λ a. total ds a (suc n)) e, ap (total ds low) z)
 
 boxes-lie : (p : PlanData) (q M : ℕ) (s : State) → LiesAt M s → (vs : List ℕ) → All (BoxLies M) (boxesAt p q s vs)
-unfolding boxesAt
+unfolding boxesAt leadsOf
 boxes-lie p q M s l [] = all-nil
-boxes-lie p q M s l (v ∷ vs) = all-cons (record { old = l .at v; near = near (preceding p q v) }) (boxes-lie p q M s l vs)
+boxes-lie p q M s l (v ∷ vs) = all-cons (record { old = l .at v; near = near (preceding p q v) (precedingRatings p q v) }) (boxes-lie p q M s l vs)
   where
-    near : (ns : List ℕ) → All (Lies M M) (map (positionOf (s .at)) ns)
-    near [] = all-nil
-    near (n ∷ ns) = all-cons (l .at n) (near ns)
+    near : (ns ws : List ℕ) → All (Lies M M) (leadPositions (leadsOf (map (positionOf (s .at)) ns) ws))
+    near [] ws = all-nil
+    near (n ∷ ns) [] = all-nil
+    near (n ∷ ns) (w ∷ ws) = all-cons (l .at n) (near ns ws)
 
 bound-lies : (M : ℕ) (s : State) → LiesAt M s → (o : Option ℕ) → LiesBound M M (boundAt (s .at) o)
 bound-lies M s l none = tt

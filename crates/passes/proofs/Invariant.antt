@@ -1,24 +1,26 @@
 -- What holds between two placings: each two siblings stand at least the distance in force apart, which is at least the doubled
 -- distance. So positions do not fall along a level, and the neighbours of a box come in order. Assumes nothing.
-use mathlib.Core.Path.{_≡_, refl, sym, _∙_, subst}
+use mathlib.Core.Path.{_≡_, refl, sym, _∙_, ap, subst}
 use mathlib.Core.Bool.{true}
 use mathlib.Core.List.{List, _∷_, map}
 use Prim.Native.Nat.{ℕ, suc, _+_, _-_, _≤_, _<_}
 use native.Mathlib.Omega.{arith}
-use lib.ListN.{length, getD}
+use lib.ListN.{length, getD, length-map}
 use Rattle.ints.specs.Ints.{_⊑_}
 use Rattle.ints.proofs.Laws.{make-le-true}
-use Rattle.run.specs.Run.{nondecreasing, neighboursInOrder}
+use Rattle.run.specs.Run.{leadPositions, leadsOf, nondecreasing, neighboursInOrder}
+use Rattle.run.proofs.Leads.{lead-positions}
 use Rattle.ints.proofs.Tests.{_and_}
 use Rattle.plan.specs.Plan.{PlanData, vertexCount, levelOf}
 use Rattle.passes.specs.State.{State, positionOf, doubled}
+use Rattle.passes.specs.Ready.{preceding, precedingRatings}
 use Rattle.passes.specs.Passes.{boxesAt}
 use Rattle.plan.proofs.All.{All, all-nil, all-cons}
 use Rattle.plan.specs.inner.Levels.{firstOn, sizeOn, On}
 use Rattle.plan.proofs.Levels.{has-level, Side}
 use Rattle.passes.proofs.Sound.{Sound}
 use Rattle.passes.proofs.Spaced.{Apart, climb}
-use Rattle.passes.proofs.Neighbours.{Upward, up-nil, up-cons, near}
+use Rattle.passes.proofs.Neighbours.{Upward, up-nil, up-cons, near, preceding-rated}
 
 pub record Inv (p : PlanData) (s : State) : Type 0 where
   pub at-length : length (s .at) ≡ vertexCount p
@@ -45,7 +47,11 @@ module _ {p : PlanData} {s : State} (inv : Inv p s) where
   up-order so up-nil = refl
   up-order so (up-cons {n = n} h k e u) = order-from so n (omega arith) e u
 
+  -- the positions of a box's neighbours, whatever their ratings
+  pub near-positions : Sound p → (q v : ℕ) → leadPositions (leadsOf (map (positionOf (s .at)) (preceding p q v)) (precedingRatings p q v)) ≡ map (positionOf (s .at)) (preceding p q v)
+  near-positions so q v = lead-positions (map (positionOf (s .at)) (preceding p q v)) (precedingRatings p q v) (omega (arith, length-map (preceding p q v) (positionOf (s .at)), preceding-rated so q v))
+
   pub near-order : Sound p → (q : ℕ) {vs : List ℕ} → All (λ v. v < vertexCount p) vs → neighboursInOrder (boxesAt p q s vs) ≡ true
   unfolding neighboursInOrder boxesAt
   near-order so q all-nil = refl
-  near-order so q (all-cons {x = v} h hs) = _and_ (up-order so (near so q v h .up)) (near-order so q hs)
+  near-order so q (all-cons {x = v} h hs) = _and_ (ap nondecreasing (near-positions so q v) ∙ up-order so (near so q v h .up)) (near-order so q hs)

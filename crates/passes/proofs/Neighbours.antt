@@ -1,17 +1,20 @@
--- A vertex's neighbours come in level order: segments are sorted (check 4) and join neighbouring levels (check 3). Assumes nothing.
+-- A vertex's neighbours come in level order: segments are sorted (check 4) and join neighbouring levels (check 3); and as many ratings
+-- beside them. Assumes nothing.
 use mathlib.Core.Path.{_≡_, refl, ap}
-use mathlib.Core.Bool.{Bool, true, false, _&&_, _||_}
+use mathlib.Core.Bool.{Bool, true, false, cond, _&&_, _||_}
 use mathlib.Core.List.{List, [], _∷_}
 use Prim.Native.Nat.{ℕ, suc, _+_, _-_, _*_, _≤_, _<_}
 use native.Mathlib.Omega.{arith}
 use lib.Dec.{ltb, eqb}
+use lib.ListN.{length}
 use borrow.Author.Tests.{ltb-true, eqb-true}
 use Rattle.ints.proofs.Laws.{if-ind}
 use Rattle.ints.proofs.Tests.{and-left, and-right}
 use Rattle.plan.specs.Plan.{PlanData, vertexCount, levelOf}
-use Rattle.plan.specs.Segments.{Segment, segmentsOf, aboveIn, belowIn, above, below}
+use Rattle.plan.specs.Segments.{Segment, segmentsOf, ratedOf, aboveIn, belowIn, above, below, ratingsAbove, ratingsBelow}
 use Rattle.plan.specs.Checks.{comesBefore, rising}
-use Rattle.passes.specs.Ready.{preceding}
+use Rattle.plan.proofs.RatedLaws.{above-rated, below-rated}
+use Rattle.passes.specs.Ready.{preceding, precedingRatings}
 use Rattle.plan.proofs.All.{All, all-cons, all-map, cond-both}
 use Rattle.plan.proofs.Levels.{has-level}
 use Rattle.passes.proofs.Sound.{Down, Sound}
@@ -77,3 +80,12 @@ near {p} so q v h = let t = so .total in let l = has-level p v (omega arith) in 
     (λ i. (suc (levelOf p v), below-up p v (suc (levelOf p v)) 0 0 refl (omega arith) d r))
     (λ i. (levelOf p v - 1, above-up p v (levelOf p v - 1) 0 0 (omega (arith, l .one)) (omega arith) d r)) in
     record { level = m .0; up = m .1 }
+
+-- ---- as many ratings beside them
+pub preceding-rated : {p : PlanData} → Sound p → (q v : ℕ) → length (precedingRatings p q v) ≡ length (preceding p q v)
+unfolding preceding precedingRatings above below ratedOf
+preceding-rated {p} so q v = go (eqb q 2)
+  where
+    go : (b : Bool) → length (cond b (ratingsBelow (ratedOf p) v) (ratingsAbove (ratedOf p) v)) ≡ length (cond b (belowIn (segmentsOf p) v) (aboveIn (segmentsOf p) v))
+    go true = below-rated (segmentsOf p) (p .ratings) v (so .rated)
+    go false = above-rated (segmentsOf p) (p .ratings) v (so .rated)

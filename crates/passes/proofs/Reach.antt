@@ -11,10 +11,10 @@ use lib.IntN.{ℤ, pos, _+ℤ_, _-ℤ_}
 use lib.Signed.{ltZ}
 use Rattle.ints.specs.Ints.{P, N, _⊏_}
 use Rattle.ints.proofs.Laws.{sum, dif, apart, lt-false, if-ind, casesZ}
-use Rattle.run.specs.Run.{Bound, free, at, Box, neighboursInOrder, span, halfDown, startOf, firstOf, lastOf}
+use Rattle.run.specs.Run.{Bound, free, at, Lead, leadPositions, Box, neighboursInOrder, span, halfDown, startOf, firstOf, lastOf}
 use Rattle.run.specs.Place.{placeRun}
 use Rattle.run.specs.Words.{isPossible}
-use Rattle.run.specs.inner.Coordinates.{less, addOffsets, leftLimit, rightLimit}
+use Rattle.run.specs.inner.Coordinates.{less, lessLead, addOffsets, leftLimit, rightLimit}
 use Rattle.run.proofs.Feasible.{Priced, totalCost}
 use Rattle.run.proofs.Exchange.{leftStep, rightStep}
 use Rattle.run.proofs.JoinBest.{joinSteps}
@@ -104,20 +104,20 @@ place-lies A B L H l h (suc n) (b ∷ c ∷ bs) ks = let s = b ∷ c ∷ bs in l
 -- ---- into run coordinates, and back
 pub record BoxLies (M : ℕ) (b : Box) : Type 0 where
   pub old : Lies M M (b .old)
-  pub near : All (Lies M M) (b .near)
+  pub near : All (Lies M M) (leadPositions (b .near))
 
 get-lies : (M : ℕ) (d : ℤ) {ns : List ℤ} (k : ℕ) → Lies M M d → All (Lies M M) ns → Lies M M (getD ns k d)
 get-lies M d k l all-nil = l
 get-lies M d zero l (all-cons q qs) = q
 get-lies M d (suc k) l (all-cons q qs) = get-lies M d k l qs
 
-starts : (M : ℕ) (old : ℤ) (ns : List ℤ) → Lies M M old → All (Lies M M) ns → Lies M M (startOf old ns)
+starts : (M : ℕ) (old : ℤ) (ns : List Lead) → Lies M M old → All (Lies M M) (leadPositions ns) → Lies M M (startOf old ns)
 starts M old ns l k = start-keeps (Lies M M) halved old ns (λ i. get-lies M old i l k)
   where
     halved : (x y : ℤ) → Lies M M x → Lies M M y → Lies M M (halfDown (x +ℤ y))
     halved x y p q = let s = sum x y in let h = half-of (x +ℤ y) in let a = apart (halfDown (x +ℤ y)) in record { right = omega (arith, p .right, q .right); left = omega (arith, p .left, q .left) }
 
-start-lies : (M S o : ℕ) (b : Box) → o ≤ S → BoxLies M b → Lies M (M + S) (startOf (less o (b .old)) (map (less o) (b .near)))
+start-lies : (M S o : ℕ) (b : Box) → o ≤ S → BoxLies M b → Lies M (M + S) (startOf (less o (b .old)) (map (lessLead o) (b .near)))
 start-lies M S o b h l = rw (start-less (b .old) (b .near) o) (lower (startOf (b .old) (b .near)) (starts M (b .old) (b .near) (l .old) (l .near)))
   where
     lower : (z : ℤ) → Lies M M z → Lies M (M + S) (less o z)

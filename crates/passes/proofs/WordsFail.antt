@@ -9,7 +9,7 @@ use Rattle.plan.proofs.Case1.{case1}
 use Rattle.passes.specs.Drawing.{Placing, Drawing, traceOf}
 use Rattle.passes.specs.Words.{before, keepsOrder, innerUpright, bendsAtMostTwice, placedAsDue, stepAt, isPlacementThen, sidewaysThen, drawingWithin}
 use Rattle.passes.proofs.Open.{passesOpen}
-use Rattle.passes.proofs.Cases.{settled, third-pass}
+use Rattle.passes.proofs.Cases.{settled, third-pass, heavy, light}
 
 -- Case 1's steps, from 0: in pass 1 the boxes of level 1, the empty run of level 2, its box 3, the box of level 3; in pass 2 those
 -- of level 3, of level 2 and of level 1.
@@ -87,6 +87,22 @@ pub sideways-in-pass-2 :
     ≡ 3 ∷ 3 ∷ 5 ∷ []
 unfolding passesOpen
 sideways-in-pass-2 = refl
+
+-- Pass 1, box 3 below three feeds, which stand at −6, 0 and 6: with the first of rating 3 it is least at −6; with all of rating 1 at 0,
+-- which is 6 dearer than the best.
+pub sideways-rated :
+    map (λ (x : ℤ). sidewaysThen heavy (stepAt (traceOf heavy) 1) (before heavy (traceOf heavy) 1) (x ∷ []))
+    (negsuc 6 ∷ negsuc 5 ∷ negsuc 4 ∷ pos 0 ∷ [])
+    ≡ 23 ∷ 18 ∷ 19 ∷ 24 ∷ []
+unfolding passesOpen
+sideways-rated = refl
+
+pub sideways-unrated :
+    map (λ (x : ℤ). sidewaysThen light (stepAt (traceOf light) 1) (before light (traceOf light) 1) (x ∷ []))
+    (negsuc 6 ∷ negsuc 5 ∷ negsuc 4 ∷ pos 0 ∷ [])
+    ≡ 21 ∷ 18 ∷ 17 ∷ 12 ∷ []
+unfolding passesOpen
+sideways-unrated = refl
 
 -- Positions go up to 2^40, the list up to 2,048 placings and 2,048 boxes in them; one more fails, wherever it stands.
 abbrev placingsAt : ℤ → ℕ → ℕ → List Placing

@@ -6,15 +6,15 @@ use Prim.Native.Nat.{ℕ}
 use lib.Dec.{eqb}
 use lib.ListN.{getD}
 use lib.IntN.{ℤ}
-use Rattle.run.specs.Run.{Bound, free, at, Box}
+use Rattle.run.specs.Run.{Bound, free, at, Box, leadsOf}
 use Rattle.run.specs.Place.{placeRun}
 use Rattle.plan.specs.Plan.{PlanData, numbers}
 use Rattle.passes.specs.Runs.{Run, isBounded, isOpen, members, runsOn}
 use Rattle.passes.specs.State.{State, positionOf, put, takeOn}
-use Rattle.passes.specs.Ready.{preceding, isSettled, isReady}
+use Rattle.passes.specs.Ready.{preceding, precedingRatings, isSettled, isReady}
 
 -- A run as "Placing one run" takes it: its bounds, and each box with its old position, its neighbours on the preceding level
--- of pass q and the distance in force to the member on its right.
+-- of pass q, each with the rating of the segment to it, and the distance in force to the member on its right.
 abbrev pub boundAt : List ℤ → Option ℕ → Bound
 boundAt xs none = free
 boundAt xs (some v) = at (positionOf xs v)
@@ -26,8 +26,11 @@ distanceFrom ds (some v) = getD ds v 0
 unfoldable pub boxesAt : PlanData → ℕ → State → List ℕ → List Box
 boxesAt p q s [] = []
 boxesAt p q s (v ∷ vs) =
-    record { old = positionOf (s .at) v; near = map (positionOf (s .at)) (preceding p q v); dist = getD (s .apart) v 0 }
-    ∷ boxesAt p q s vs
+    record {
+      old = positionOf (s .at) v;
+      near = leadsOf (map (positionOf (s .at)) (preceding p q v)) (precedingRatings p q v);
+      dist = getD (s .apart) v 0;
+    } ∷ boxesAt p q s vs
 
 unfoldable pub placed : PlanData → ℕ → State → Run → List ℤ
 placed p q s r =

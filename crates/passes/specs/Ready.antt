@@ -6,7 +6,7 @@ use Prim.Native.Nat.{ℕ, _+_}
 use lib.Dec.{eqb, leb}
 use lib.IntN.{ℤ, pos, negsuc, _-ℤ_}
 use Rattle.plan.specs.Plan.{PlanData, isVia, levelOf, levelAt}
-use Rattle.plan.specs.Segments.{above, below}
+use Rattle.plan.specs.Segments.{above, below, ratedOf, ratingsAbove, ratingsBelow}
 use Rattle.plan.specs.Checks.{every, any}
 use Rattle.passes.specs.Runs.{Run, members, runsOn}
 use Rattle.passes.specs.State.{Step, State, positionOf, doubled}
@@ -43,6 +43,13 @@ unfoldable pub preceding : PlanData → ℕ → ℕ → List ℕ
 preceding p q v =
     let under = below p v in
     let over = above p v in
+    cond (eqb q 2) under over
+
+-- The ratings of the segments to them, in their order.
+unfoldable pub precedingRatings : PlanData → ℕ → ℕ → List ℕ
+precedingRatings p q v =
+    let under = ratingsBelow (ratedOf p) v in
+    let over = ratingsAbove (ratedOf p) v in
     cond (eqb q 2) under over
 
 -- "a via w on the preceding level joined to v", where v is a via.

@@ -2,7 +2,7 @@
 use mathlib.Core.Bool.{Bool, true, false, cond, not, _&&_}
 use mathlib.Core.List.{List, [], _∷_, _++_, map}
 use mathlib.Core.Option.{Option, none, some}
-use Prim.Native.Nat.{ℕ, _+_, _-_}
+use Prim.Native.Nat.{ℕ, _+_, _-_, _*_}
 use lib.Dec.{eqb, leb}
 use lib.ListN.{length, getD, take}
 use lib.IntN.{ℤ, pos, _-ℤ_, _*ℤ_}
@@ -10,7 +10,7 @@ use lib.Signed.{leZ}
 use Rattle.ints.specs.Ints.{P, gap}
 use Rattle.ints.specs.Reach.{allWithin}
 use Rattle.plan.specs.Plan.{PlanData, vertexCount, isVia, numbers, levelsOf, levelOf, heightOf, Siblings, siblingsOf}
-use Rattle.plan.specs.Segments.{Segment, segmentsOf, above, below, innerSegments}
+use Rattle.plan.specs.Segments.{Segment, Rated, ratedOf, above, below, innerSegments}
 use Rattle.plan.specs.Strands.{firstOr, strandOf}
 use Rattle.plan.specs.Checks.{every}
 use Rattle.preliminary.specs.Positions.{preliminary}
@@ -146,8 +146,8 @@ isPlacementThen p trace i ys =
     let spaced = farApart (distancesThen p trace s) standing in
     eqb (length ys) (length (r .boxes)) && spaced
 
--- "Sideways length is summed over all segments between the run's boxes and the preceding level of that pass": the boxes vs
--- stand at ys, all else at xs.
+-- "Sideways length is summed over all segments between the run's boxes and the preceding level of that pass", each counted with its
+-- rating (document 02, E5): the boxes vs stand at ys, all else at xs.
 unfoldable pub placeOf : List ℕ → List ℤ → ℕ → Option ℤ
 placeOf [] ys v = none
 placeOf (w ∷ ws) [] v = none
@@ -162,15 +162,15 @@ farFrom x (some y) = gap y x
 unfoldable pub sidewaysFrom : List ℕ → List ℤ → List ℤ → ℕ → ℕ → ℕ
 sidewaysFrom vs ys xs box neighbour = farFrom (positionOf xs neighbour) (placeOf vs ys box)
 
-unfoldable pub sidewaysSum : ℕ → List ℕ → List ℤ → List ℤ → List Segment → ℕ
+unfoldable pub sidewaysSum : ℕ → List ℕ → List ℤ → List ℤ → List Rated → ℕ
 sidewaysSum q vs ys xs [] = 0
-sidewaysSum q vs ys xs (s ∷ ss) =
-    let down = sidewaysFrom vs ys xs (s .upper) (s .lower) in
-    let up = sidewaysFrom vs ys xs (s .lower) (s .upper) in
-    cond (eqb q 2) down up + sidewaysSum q vs ys xs ss
+sidewaysSum q vs ys xs (r ∷ rs) =
+    let down = sidewaysFrom vs ys xs (r .segment .upper) (r .segment .lower) in
+    let up = sidewaysFrom vs ys xs (r .segment .lower) (r .segment .upper) in
+    r .rating * cond (eqb q 2) down up + sidewaysSum q vs ys xs rs
 
 unfoldable pub sidewaysThen : PlanData → Step → List ℤ → List ℤ → ℕ
-sidewaysThen p s xs ys = sidewaysSum (s .pass) (runOf p s .boxes) ys xs (segmentsOf p)
+sidewaysThen p s xs ys = sidewaysSum (s .pass) (runOf p s .boxes) ys xs (ratedOf p)
 
 -- All boxes in a list of placings.
 unfoldable pub boxesListed : List Placing → List BoxAt

@@ -1,23 +1,34 @@
 -- How long an element is at most. Assumes nothing.
-use mathlib.Core.List.{List}
+use mathlib.Core.List.{List, [], _++_}
 use Prim.Native.Nat.{ℕ, _+_, _*_, _≤_}
 use native.Mathlib.Omega.{arith}
+use lib.Dec.{eqb}
 use lib.ListN.{length, length-append}
 use lib.IntN.{ℤ, pos, _-ℤ_}
-use Rattle.ints.proofs.Laws.{dif}
+use Rattle.ints.proofs.Laws.{dif, if-ind}
+use Rattle.text.specs.Bytes.{bytes}
 use Rattle.text.proofs.DecimalLaws.{decimal-length}
 use Rattle.marks.specs.Marks.{box, bend, line}
+use Rattle.picture_numbers.specs.Thousandths.{amount}
 use Rattle.picture_numbers.proofs.Lengths.{amount-short, thousandths-short, across-near, down-short}
 use Rattle.picture_labels.proofs.Lengths.{title-short, label-short}
-use Rattle.picture_elements.specs.Elements.{lineOf, bendOf, rectOf, boxOf}
-use Rattle.picture_elements.specs.inner.Near.{Near, NearVertex, NearBox}
-use Rattle.picture_elements.proofs.Limits.{in-limits}
+use Rattle.picture_elements.specs.Elements.{penOf, lineOf, bendOf, rectOf, boxOf}
+use Rattle.picture_elements.specs.inner.Near.{Near, Pen, NearVertex, NearBox}
+use Rattle.picture_elements.proofs.Limits.{in-limits, pen-thin}
 
-pub line-short : (x : ℤ) (y : ℕ) (a : ℤ) (b : ℕ) → Near x y → Near a b → length (lineOf (line x y a b)) ≤ 78
+pen-short : (u w : ℕ) → Pen u w → length (penOf u w) ≤ 24
+unfolding penOf
+pen-short u w h =
+    if-ind (eqb w 1) [] (bytes "\" stroke-width=\"" ++ amount ((19 + w) * u)) (λ (l : List ℕ). length l ≤ 24)
+    (λ e. omega arith)
+    (λ e. omega (arith, amount-short 3 ((19 + w) * u) (omega (arith, pen-thin u w h))))
+
+pub line-short : (u w : ℕ) (x : ℤ) (y : ℕ) (a : ℤ) (b : ℕ) → Pen u w → Near x y → Near a b → length (lineOf u w (line x y a b)) ≤ 102
 unfolding lineOf
-line-short x y a b h k =
+line-short u w x y a b g h k =
     let p = across-near x (omega (arith, h .0)) in let q = down-short 5 y (omega (arith, h .1)) in
     let r = across-near a (omega (arith, k .0)) in let s = down-short 5 b (omega (arith, k .1)) in
+    let t = pen-short u w g in
     simp length-append (omega arith)
 
 pub bend-short : (u n : ℕ) (x : ℤ) (y : ℕ) → NearVertex u n x y → length (bendOf u n (bend x y)) ≤ 68

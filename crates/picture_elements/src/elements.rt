@@ -12,18 +12,40 @@ use text_write::number::put_word;
 ghost use Prim.Native.Nat.{_≤_};
 ghost use Rattle.marks.specs.Marks.{box, bend, line};
 ghost use Rattle.text_write.specs.inner.Written.{Room, Wrote};
-ghost use Rattle.picture_elements.specs.Elements.{lineOf, bendOf, rectOf, boxOf};
-ghost use Rattle.picture_elements.specs.inner.Near.{Near, NearVertex, NearBox};
+ghost use Rattle.picture_elements.specs.Elements.{penOf, lineOf, bendOf, rectOf, boxOf};
+ghost use Rattle.picture_elements.specs.inner.Near.{Near, Pen, NearVertex, NearBox};
 
-// The line from the upper end, at x and y, to the lower, at a and b.
-pub fn put_line(out: &mut [u8], at: usize, x: i64, y: u64, a: i64, b: u64) -> usize
-    requires { ⌜ Near x y × Near a b × Room (lineOf (line x y a b)) (now out) at ⌝ }
-    ensures { λ r. ⌜ Wrote (lineOf (line x y a b)) (now (out .entry)) at r (now (out .exit)) ⌝ }
+// The pen of a line with this rating.
+fn put_pen(out: &mut [u8], at: usize, measure: u32, rating: u32) -> usize
+    requires { ⌜ Pen measure rating × Room (penOf measure rating) (now out) at ⌝ }
+    ensures { λ r. ⌜ Wrote (penOf measure rating) (now (out .entry)) at r (now (out .exit)) ⌝ }
+{
+    if rating == 1 {
+        return at;
+    }
+    let pen = (19 + rating as u64) * measure as u64;
+    put_measured(out, at, b"\" stroke-width=\"", pen)
+}
+
+// The line with this rating from the upper end, at x and y, to the lower, at a and b.
+pub fn put_line(
+    out: &mut [u8],
+    at: usize,
+    measure: u32,
+    rating: u32,
+    x: i64,
+    y: u64,
+    a: i64,
+    b: u64,
+) -> usize
+    requires { ⌜ Pen measure rating × Near x y × Near a b × Room (lineOf measure rating (line x y a b)) (now out) at ⌝ }
+    ensures { λ r. ⌜ Wrote (lineOf measure rating (line x y a b)) (now (out .entry)) at r (now (out .exit)) ⌝ }
 {
     let y1 = put_across(out, at, b"<line x1=\"", x);
     let x2 = put_down(out, y1, b"\" y1=\"", y);
     let y2 = put_across(out, x2, b"\" x2=\"", a);
-    let end = put_down(out, y2, b"\" y2=\"", b);
+    let pen = put_down(out, y2, b"\" y2=\"", b);
+    let end = put_pen(out, pen, measure, rating);
     put_word(out, end, b"\"/>\n")
 }
 

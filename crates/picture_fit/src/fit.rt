@@ -12,7 +12,7 @@ ghost use Rattle.picture_marks.specs.inner.Asked.{namesIn, PictureAsked};
 ghost use Rattle.picture_fit.specs.Fitted.{fitted, Leaves};
 
 // No picture is longer.
-pub const MAX_PICTURE: usize = 1257182;
+pub const MAX_PICTURE: usize = 1306334;
 
 // A text at the front of a lent buffer.
 fn fit(text: &[u8], out: &mut [u8]) -> PictureAnswer
@@ -39,16 +39,18 @@ pub fn fit_picture(
     halves: &[u16],
     uppers: &[u32],
     lowers: &[u32],
+    ratings: &[u32],
     finals: &[i64],
     names: &[u8],
     starts: &[u32],
     ends: &[u32],
     out: &mut [u8],
 ) -> PictureAnswer
-    requires { ⌜ PictureAsked (heldPlan gap spacing (now sizes) (now vias) (now halves) (now uppers) (now lowers)) (now finals) (now names) (now starts) (now ends)
+    requires { ⌜ PictureAsked (heldPlan gap spacing (now sizes) (now vias) (now halves) (now uppers) (now lowers) (now ratings)) (now finals) (now names) (now starts) (now ends)
         × (sum (map length (namesIn (now names) (now starts) (now ends) (length (now vias)))) ≤ 65536) ⌝ }
-    ensures { λ r. ⌜ Leaves (fitted (pictureOf (heldPlan gap spacing (now (sizes .entry)) (now (vias .entry)) (now (halves .entry)) (now (uppers .entry)) (now (lowers .entry)))
-        (now (finals .entry)) (namesIn (now (names .entry)) (now (starts .entry)) (now (ends .entry)) (length (now (vias .entry))))) (now (out .entry))) r (now (out .exit)) ⌝ }
+    ensures { λ r. ⌜ Leaves (fitted (pictureOf (heldPlan gap spacing (now (sizes .entry)) (now (vias .entry)) (now (halves .entry)) (now (uppers .entry)) (now (lowers .entry))
+        (now (ratings .entry))) (now (finals .entry)) (namesIn (now (names .entry)) (now (starts .entry)) (now (ends .entry)) (length (now (vias .entry)))))
+        (now (out .entry))) r (now (out .exit)) ⌝ }
 {
     if out.len() < MAX_PICTURE {
         let mut room = blank();
@@ -60,6 +62,7 @@ pub fn fit_picture(
             halves,
             uppers,
             lowers,
+            ratings,
             finals,
             names,
             starts,
@@ -76,6 +79,7 @@ pub fn fit_picture(
         halves,
         uppers,
         lowers,
+        ratings,
         finals,
         names,
         starts,

@@ -10,6 +10,8 @@ use borrow.Author.Tests.{lt-ltb, le-ltb}
 use lib.ListN.{length, getD}
 use lib.IntN.{ℤ}
 use Rattle.ints.specs.Lists.{sum}
+use Rattle.ints.proofs.Lists.{getD-either}
+use Rattle.ints.proofs.Ratings.{rating-most, ratings-get}
 use Rattle.plan.specs.Plan.{PlanData, vertexCount, isVia, halfWidth, levelOf, heightOf, numbers}
 use Rattle.plan.specs.Acceptable.{acceptable}
 use Rattle.plan.proofs.LimitLaws.{Limits}
@@ -20,16 +22,17 @@ use Rattle.marks.specs.Marks.{box, bend, line, depthOf, upperEnd, lowerEnd, who
 use Rattle.picture_view.specs.Measure.{measure}
 use Rattle.picture_view.specs.View.{viewHeight}
 use Rattle.picture_elements.specs.Elements.{lineOf, bendOf, boxOf}
-use Rattle.picture_marks.specs.Picture.{elements, pictureOf}
+use Rattle.picture_elements.specs.inner.Near.{Pen}
+use Rattle.picture_marks.specs.Picture.{elements, ratingAt, pictureOf}
 use Rattle.picture_marks.specs.inner.Asked.{DrawnPlan}
-use Rattle.picture_marks.specs.inner.Listed.{Stands, segmentLine, linesIn, vertexBend, bendsIn, vertexBox, boxesIn, documentIn, DocumentStands}
+use Rattle.picture_marks.specs.inner.Listed.{Stands, segmentLine, linesIn, LinesAsked, vertexBend, bendsIn, vertexBox, boxesIn, documentIn, DocumentStands}
 use Rattle.picture_marks.proofs.Walk.{walked-first, walked-last, walk-same}
 
 -- ---- elements of other kinds are empty
-no-line : (via : Bool) (x : ℤ) (y w : ℕ) → lineOf (cond via (bend x y) (box x y w)) ≡ []
+no-line : (u w : ℕ) (via : Bool) (x : ℤ) (y h : ℕ) → lineOf u w (cond via (bend x y) (box x y h)) ≡ []
 unfolding lineOf
-no-line true x y w = refl
-no-line false x y w = refl
+no-line u w true x y h = refl
+no-line u w false x y h = refl
 
 bend-if : (u n : ℕ) (via : Bool) (x : ℤ) (y w : ℕ) → bendOf u n (cond via (bend x y) (box x y w)) ≡ cond via (bendOf u n (bend x y)) []
 unfolding bendOf
@@ -54,6 +57,11 @@ module _ (p : PlanData) (xs : List ℤ) where
       let e : vertexCount p + k - vertexCount p ≡ k = omega arith in
       rw (le-ltb (vertexCount p + k) (vertexCount p) (omega arith), e)
 
+  rating-is : (k : ℕ) → k < length (p .ratings) → ratingAt p (vertexCount p + k) ≡ getD (p .ratings) k 0
+  rating-is k h =
+      let e : vertexCount p + k - vertexCount p ≡ k = omega arith in
+      rw e (getD-either (p .ratings) k 1 0 h)
+
   later : (n : ℕ) → vertexCount p ≤ n → vertexCount p + (n - vertexCount p) ≡ n
   later n h = omega arith
 
@@ -67,16 +75,18 @@ module _ (p : PlanData) (xs : List ℤ) where
 
   module _ (heights : List ℕ) (stands : (v : ℕ) → v < vertexCount p → depthOf p v ≡ getD heights v 0) where
     lines-are : (upper : (k : ℕ) → k < length (p .uppers) → upperEnd p k < vertexCount p) (lower : (k : ℕ) → k < length (p .uppers) → lowerEnd p k < vertexCount p)
-        → elements p xs (λ n m. lineOf m) ≡ linesIn heights (p .uppers) (p .lowers) xs
-    lines-are upper lower =
-        let f : ℕ → List ℕ = λ n. lineOf (wholeMarkOf p xs n) in
-        walked-last f (vertexCount p) (length (p .uppers)) (λ i h. rw (vertex-mark i h) (no-line (isVia p i) (positionOf xs i) (depthOf p i) (halfWidth p i)))
-        ∙ walk-same f (segmentLine heights (p .uppers) (p .lowers) xs) (vertexCount p) 0 (length (p .uppers)) (λ i h. each i h)
+        → length (p .ratings) ≡ length (p .uppers)
+        → (u : ℕ) → elements p xs (λ n m. lineOf u (ratingAt p n) m) ≡ linesIn u heights (p .uppers) (p .lowers) (p .ratings) xs
+    lines-are upper lower long u =
+        let f : ℕ → List ℕ = λ n. lineOf u (ratingAt p n) (wholeMarkOf p xs n) in
+        walked-last f (vertexCount p) (length (p .uppers)) (λ i h. rw (vertex-mark i h) (no-line u (ratingAt p i) (isVia p i) (positionOf xs i) (depthOf p i) (halfWidth p i)))
+        ∙ walk-same f (segmentLine u heights (p .uppers) (p .lowers) (p .ratings) xs) (vertexCount p) 0 (length (p .uppers)) (λ i h. each i h)
       where
-        each : (i : ℕ) → i < length (p .uppers) → lineOf (wholeMarkOf p xs (vertexCount p + i)) ≡ segmentLine heights (p .uppers) (p .lowers) xs (0 + i)
+        each : (i : ℕ) → i < length (p .uppers)
+            → lineOf u (ratingAt p (vertexCount p + i)) (wholeMarkOf p xs (vertexCount p + i)) ≡ segmentLine u heights (p .uppers) (p .lowers) (p .ratings) xs (0 + i)
         each i h =
             let z : 0 + i ≡ i = omega arith in
-            rw (segment-mark i, stands (upperEnd p i) (upper i h), stands (lowerEnd p i) (lower i h), z)
+            rw (rating-is i (omega (arith, long)), segment-mark i, stands (upperEnd p i) (upper i h), stands (lowerEnd p i) (lower i h), z)
 
     bends-are : (u : ℕ) → elements p xs (λ n m. bendOf u n m) ≡ bendsIn u heights (p .vias) xs
     bends-are u =
@@ -103,17 +113,21 @@ module _ (p : PlanData) (xs : List ℤ) where
 
     -- ---- the whole document
     pub picture-is : acceptable p ≡ true → (names : List (List ℕ)) (name : ℕ → List ℕ) → ((v : ℕ) → v < vertexCount p → getD names v [] ≡ name v)
-        → pictureOf p xs names ≡ documentIn (measure p) (viewHeight p) heights (p .vias) (p .halves) (p .uppers) (p .lowers) xs name
+        → pictureOf p xs names ≡ documentIn (measure p) (viewHeight p) heights (p .vias) (p .halves) (p .uppers) (p .lowers) (p .ratings) xs name
     unfolding pictureOf
     picture-is ok names name same =
         let S = sound p ok in
         rw (
-          lines-are (S .ends .upper) (λ k h. S .ends .lower k (omega (arith, S .limits .ends-long))),
+          lines-are (S .ends .upper) (λ k h. S .ends .lower k (omega (arith, S .limits .ends-long))) (S .limits .ratings-long) (measure p),
           bends-are (measure p),
           boxes-are (measure p) names name same,
         )
 
 -- ---- what it asks for
+pub line-pen : {u : ℕ} {heights uppers lowers ratings : List ℕ} {xs : List ℤ} → LinesAsked u heights uppers lowers ratings xs → (k : ℕ) → k < length uppers
+    → Pen u (getD ratings k 0)
+line-pen {ratings = ratings} l k h = (l .measure, rating-most (getD ratings k 0) (ratings-get ratings k (l .in-range) (omega (arith, l .rated))))
+
 measure-high : (p : PlanData) → measure p ≤ p .spacing
 unfolding measure
 measure-high p = omega arith
@@ -146,7 +160,7 @@ module _ (p : PlanData) (xs : List ℤ) (a : DrawnPlan p xs) where
       omega (arith, measure-high p, limits .spacing-high)
 
   pub document-stands : (heights : List ℕ) → length heights ≡ vertexCount p → ((v : ℕ) → v < vertexCount p → depthOf p v ≡ getD heights v 0)
-      → DocumentStands (measure p) (viewHeight p) heights (p .vias) (p .halves) (p .uppers) (p .lowers) xs
+      → DocumentStands (measure p) (viewHeight p) heights (p .vias) (p .halves) (p .uppers) (p .lowers) (p .ratings) xs
   document-stands heights e stands =
       let S = sound p (a .plan) in
       let l = limits in
@@ -169,10 +183,13 @@ module _ (p : PlanData) (xs : List ℤ) (a : DrawnPlan p xs) where
           high = view-low;
         };
         lines = record {
+          measure = m;
           stands = s;
           ends = l .ends-long;
           upper = λ k h. omega (arith, S .ends .upper k h, a .positions);
           lower = λ k h. omega (arith, S .ends .lower k h, a .positions);
+          rated = l .ratings-long;
+          in-range = l .ratings;
         };
         boxes = record {
           bends = record { measure = m; stands = s; kinds = sym (a .positions) };

@@ -1,4 +1,4 @@
--- No picture is longer than 1,257,182 bytes: 2,048 lines of 78, 1,024 bends of 68, 1,024 boxes of 363, ten bytes for each of the names, and
+-- No picture is longer than 1,306,334 bytes: 2,048 lines of 102, 1,024 bends of 68, 1,024 boxes of 363, ten bytes for each of the names, and
 -- what stands around them. Assumes nothing.
 use mathlib.Core.Path.{_≡_, sym, _∙_}
 use mathlib.Core.Bool.{Bool, false}
@@ -28,7 +28,7 @@ use Rattle.picture_marks.specs.inner.Asked.{DrawnPlan, maxPicture}
 use Rattle.picture_marks.specs.inner.Listed.{Stands, segmentLine, linesIn, LinesAsked, vertexBend, bendsIn, BendsAsked}
 use Rattle.picture_marks.specs.inner.Listed.{vertexBox, boxesIn, BoxesStand, openingIn, OpeningAsked, documentIn, DocumentStands}
 use Rattle.picture_marks.proofs.Walk.{walk-short, walk-named}
-use Rattle.picture_marks.proofs.ByLists.{picture-is, document-stands, given-at}
+use Rattle.picture_marks.proofs.ByLists.{picture-is, line-pen, document-stands, given-at}
 
 near : {heights : List ℕ} {xs : List ℤ} → Stands heights xs → (v : ℕ) → v < length xs → Near (positionOf xs v) (getD heights v 0)
 near {heights} {xs} s v h = (within-at xs v (s .within), s .low v h)
@@ -38,15 +38,16 @@ near-vertex : {u : ℕ} {heights : List ℕ} {vias : List Bool} {xs : List ℤ} 
 near-vertex b v h =
     record { measure = b .measure; number = omega (arith, b .stands .few, b .kinds); point = near (b .stands) v (omega (arith, b .kinds)) }
 
-lines-short : (heights uppers lowers : List ℕ) (xs : List ℤ) → LinesAsked heights uppers lowers xs → length (linesIn heights uppers lowers xs) ≤ 78 * length uppers
-lines-short heights uppers lowers xs l = walk-short (segmentLine heights uppers lowers xs) 78 0 (length uppers) (λ i h. each i h)
+lines-short : (u : ℕ) (heights uppers lowers ratings : List ℕ) (xs : List ℤ) → LinesAsked u heights uppers lowers ratings xs
+    → length (linesIn u heights uppers lowers ratings xs) ≤ 102 * length uppers
+lines-short u heights uppers lowers ratings xs l = walk-short (segmentLine u heights uppers lowers ratings xs) 102 0 (length uppers) (λ i h. each i h)
   where
-    each : (i : ℕ) → i < length uppers → length (segmentLine heights uppers lowers xs (0 + i)) ≤ 78
+    each : (i : ℕ) → i < length uppers → length (segmentLine u heights uppers lowers ratings xs (0 + i)) ≤ 102
     each i h =
         let z : 0 + i ≡ i = omega arith in
         let a = getD uppers i 0 in
         let b = getD lowers i 0 in
-        rw z (line-short (positionOf xs a) (getD heights a 0) (positionOf xs b) (getD heights b 0)
+        rw z (line-short u (getD ratings i 0) (positionOf xs a) (getD heights a 0) (positionOf xs b) (getD heights b 0) (line-pen l i h)
         (near (l .stands) a (l .upper i h)) (near (l .stands) b (l .lower i (omega (arith, l .ends)))))
 
 bends-short : (u : ℕ) (heights : List ℕ) (vias : List Bool) (xs : List ℤ) → BendsAsked u heights vias xs → length (bendsIn u heights vias xs) ≤ 68 * length vias
@@ -87,12 +88,12 @@ opening-short u h halves xs o =
     let pen = amount-short 2 (20 * u) (omega (arith, o .measure)) in
     simp length-append (omega (arith, style-long))
 
-document-short : (u h : ℕ) (heights : List ℕ) (vias : List Bool) (halves uppers lowers : List ℕ) (xs : List ℤ) (names : List (List ℕ))
-    → DocumentStands u h heights vias halves uppers lowers xs → length names ≡ length vias → sum (map length names) ≤ 65536 → length vias ≤ 1024 → length uppers ≤ 2048
-    → length (documentIn u h heights vias halves uppers lowers xs (λ v. getD names v [])) ≤ maxPicture
-document-short u h heights vias halves uppers lowers xs names d long short vertices segments =
+document-short : (u h : ℕ) (heights : List ℕ) (vias : List Bool) (halves uppers lowers ratings : List ℕ) (xs : List ℤ) (names : List (List ℕ))
+    → DocumentStands u h heights vias halves uppers lowers ratings xs → length names ≡ length vias → sum (map length names) ≤ 65536 → length vias ≤ 1024 → length uppers ≤ 2048
+    → length (documentIn u h heights vias halves uppers lowers ratings xs (λ v. getD names v [])) ≤ maxPicture
+document-short u h heights vias halves uppers lowers ratings xs names d long short vertices segments =
     let a = opening-short u h halves xs (d .opening) in
-    let b = lines-short heights uppers lowers xs (d .lines) in
+    let b = lines-short u heights uppers lowers ratings xs (d .lines) in
     let c = bends-short u heights vias xs (d .boxes .bends) in
     let e = boxes-short u heights vias halves xs names (d .boxes) long in
     let pen = amount-short 2 (20 * u) (omega (arith, d .opening .measure)) in
@@ -105,7 +106,7 @@ module _ (p : PlanData) (xs : List ℤ) (names : List (List ℕ)) where
       let stands : (v : ℕ) → v < vertexCount p → depthOf p v ≡ getD heights v 0 = λ v h. sym (given-at (depthOf p) 0 (vertexCount p) v h) in
       let l = sound p (a .plan) .limits in
       rw (picture-is p xs heights stands (a .plan) names (λ v. getD names v []) (λ v h. refl′ v))
-      (document-short (measure p) (viewHeight p) heights (p .vias) (p .halves) (p .uppers) (p .lowers) xs names
+      (document-short (measure p) (viewHeight p) heights (p .vias) (p .halves) (p .uppers) (p .lowers) (p .ratings) xs names
       (document-stands p xs a heights (length-map (numbers 0 (vertexCount p)) (depthOf p) ∙ length-numbers 0 (vertexCount p)) stands) long short (l .vertices) (l .segments))
     where
       refl′ : (v : ℕ) → getD names v [] ≡ getD names v []

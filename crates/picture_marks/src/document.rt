@@ -40,18 +40,20 @@ pub fn put_document(
     halves: &[u16],
     uppers: &[u32],
     lowers: &[u32],
+    ratings: &[u32],
     finals: &[i64],
     names: &[u8],
     starts: &[u32],
     ends: &[u32],
 ) -> usize
-    requires { ⌜ DocumentAsked measure height (now heights) (now vias) (now halves) (now uppers) (now lowers) (now finals) (now names) (now starts) (now ends)
-        × Room (documentIn measure height (now heights) (now vias) (now halves) (now uppers) (now lowers) (now finals) (nameAt (now names) (now starts) (now ends))) (now out) 0 ⌝ }
+    requires { ⌜ DocumentAsked measure height (now heights) (now vias) (now halves) (now uppers) (now lowers) (now ratings) (now finals) (now names) (now starts) (now ends)
+        × Room (documentIn measure height (now heights) (now vias) (now halves) (now uppers) (now lowers) (now ratings) (now finals)
+        (nameAt (now names) (now starts) (now ends))) (now out) 0 ⌝ }
     ensures { λ r. ⌜ Wrote (documentIn measure height (now (heights .entry)) (now (vias .entry)) (now (halves .entry)) (now (uppers .entry)) (now (lowers .entry))
-        (now (finals .entry)) (nameAt (now (names .entry)) (now (starts .entry)) (now (ends .entry)))) (now (out .entry)) 0 r (now (out .exit)) ⌝ }
+        (now (ratings .entry)) (now (finals .entry)) (nameAt (now (names .entry)) (now (starts .entry)) (now (ends .entry)))) (now (out .entry)) 0 r (now (out .exit)) ⌝ }
 {
     let a = put_opening(out, measure, height, halves, finals);
-    let b = put_lines(out, a, heights, uppers, lowers, finals);
+    let b = put_lines(out, a, measure, heights, uppers, lowers, ratings, finals);
     let c = put_word(out, b, b"</g>\n<g class=\"bends\">\n");
     let d = put_bends(out, c, measure, heights, vias, finals);
     let e = put_measured(

@@ -19,17 +19,18 @@ pub fn put_picture(
     halves: &[u16],
     uppers: &[u32],
     lowers: &[u32],
+    ratings: &[u32],
     finals: &[i64],
     names: &[u8],
     starts: &[u32],
     ends: &[u32],
     out: &mut [u8],
 ) -> usize
-    requires { ⌜ PictureAsked (heldPlan gap spacing (now sizes) (now vias) (now halves) (now uppers) (now lowers)) (now finals) (now names) (now starts) (now ends)
-        × Room (pictureOf (heldPlan gap spacing (now sizes) (now vias) (now halves) (now uppers) (now lowers)) (now finals)
+    requires { ⌜ PictureAsked (heldPlan gap spacing (now sizes) (now vias) (now halves) (now uppers) (now lowers) (now ratings)) (now finals) (now names) (now starts) (now ends)
+        × Room (pictureOf (heldPlan gap spacing (now sizes) (now vias) (now halves) (now uppers) (now lowers) (now ratings)) (now finals)
         (namesIn (now names) (now starts) (now ends) (length (now vias)))) (now out) 0 ⌝ }
-    ensures { λ r. ⌜ Wrote (pictureOf (heldPlan gap spacing (now (sizes .entry)) (now (vias .entry)) (now (halves .entry)) (now (uppers .entry)) (now (lowers .entry)))
-        (now (finals .entry)) (namesIn (now (names .entry)) (now (starts .entry)) (now (ends .entry)) (length (now (vias .entry)))))
+    ensures { λ r. ⌜ Wrote (pictureOf (heldPlan gap spacing (now (sizes .entry)) (now (vias .entry)) (now (halves .entry)) (now (uppers .entry)) (now (lowers .entry))
+        (now (ratings .entry))) (now (finals .entry)) (namesIn (now (names .entry)) (now (starts .entry)) (now (ends .entry)) (length (now (vias .entry)))))
         (now (out .entry)) 0 r (now (out .exit)) ⌝ }
 {
     let mut height = [0u64; Plan::MAX_VERTICES];
@@ -46,6 +47,7 @@ pub fn put_picture(
         halves,
         uppers,
         lowers,
+        ratings,
         finals,
         names,
         starts,

@@ -7,40 +7,66 @@ use plan::numbers::wide;
 ghost use Prim.Native.Nat.{_<_};
 ghost use lib.ListN.{length};
 ghost use Rattle.text_write.specs.inner.Written.{Room, Wrote};
+ghost use Rattle.picture_elements.specs.inner.Near.{Pen};
 ghost use Rattle.picture_names.specs.inner.Indexed.{nameAt};
 ghost use Rattle.picture_marks.specs.inner.Listed.{Stands, lineBetween, linesIn, LinesAsked, vertexBend, bendsIn, BendsAsked, vertexBox, boxesIn, BoxesAsked};
 
-// The line from vertex a down to vertex b.
+// The line with this rating from vertex a down to vertex b.
 fn put_segment(
     out: &mut [u8],
     at: usize,
+    measure: u32,
+    rating: u32,
     heights: &[u64],
     finals: &[i64],
     a: usize,
     b: usize,
 ) -> usize
-    requires { ⌜ Stands (now heights) (now finals) × (a < length (now finals)) × (b < length (now finals)) × Room (lineBetween (now heights) (now finals) a b) (now out) at ⌝ }
-    ensures { λ r. ⌜ Wrote (lineBetween (now (heights .entry)) (now (finals .entry)) a b) (now (out .entry)) at r (now (out .exit)) ⌝ }
+    requires { ⌜ Pen measure rating × Stands (now heights) (now finals) × (a < length (now finals)) × (b < length (now finals))
+        × Room (lineBetween measure rating (now heights) (now finals) a b) (now out) at ⌝ }
+    ensures { λ r. ⌜ Wrote (lineBetween measure rating (now (heights .entry)) (now (finals .entry)) a b) (now (out .entry)) at r (now (out .exit)) ⌝ }
 {
-    put_line(out, at, finals[a], heights[a], finals[b], heights[b])
+    put_line(
+        out,
+        at,
+        measure,
+        rating,
+        finals[a],
+        heights[a],
+        finals[b],
+        heights[b],
+    )
 }
 
 // A line for each segment.
 pub fn put_lines(
     out: &mut [u8],
     at: usize,
+    measure: u32,
     heights: &[u64],
     uppers: &[u32],
     lowers: &[u32],
+    ratings: &[u32],
     finals: &[i64],
 ) -> usize
-    requires { ⌜ LinesAsked (now heights) (now uppers) (now lowers) (now finals) × Room (linesIn (now heights) (now uppers) (now lowers) (now finals)) (now out) at ⌝ }
-    ensures { λ r. ⌜ Wrote (linesIn (now (heights .entry)) (now (uppers .entry)) (now (lowers .entry)) (now (finals .entry))) (now (out .entry)) at r (now (out .exit)) ⌝ }
+    requires { ⌜ LinesAsked measure (now heights) (now uppers) (now lowers) (now ratings) (now finals)
+        × Room (linesIn measure (now heights) (now uppers) (now lowers) (now ratings) (now finals)) (now out) at ⌝ }
+    ensures { λ r. ⌜ Wrote (linesIn measure (now (heights .entry)) (now (uppers .entry)) (now (lowers .entry)) (now (ratings .entry)) (now (finals .entry)))
+        (now (out .entry)) at r (now (out .exit)) ⌝ }
 {
     let mut next = at;
     let mut k: usize = 0;
     while k < uppers.len() {
-        next = put_segment(out, next, heights, finals, wide(uppers[k]), wide(lowers[k]));
+        next = put_segment(
+            out,
+            next,
+            measure,
+            ratings[k],
+            heights,
+            finals,
+            wide(uppers[k]),
+            wide(lowers[k]),
+        );
         k += 1;
     }
     next

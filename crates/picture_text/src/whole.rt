@@ -25,14 +25,15 @@ fn picture_named(
     halves: &[u16],
     uppers: &[u32],
     lowers: &[u32],
+    ratings: &[u32],
     names: &[u8],
     starts: &[u32],
     ends: &[u32],
     out: &mut [u8],
 ) -> PictureAnswer
-    requires { ⌜ NamedPlan (heldPlan gap spacing (now sizes) (now vias) (now halves) (now uppers) (now lowers)) (now names) (now starts) (now ends) ⌝ }
+    requires { ⌜ NamedPlan (heldPlan gap spacing (now sizes) (now vias) (now halves) (now uppers) (now lowers) (now ratings)) (now names) (now starts) (now ends) ⌝ }
     ensures { λ r. ⌜ Leaves (pictureIn (accepted (heldPlan gap spacing (now (sizes .entry)) (now (vias .entry)) (now (halves .entry)) (now (uppers .entry))
-        (now (lowers .entry)))) (now (names .entry)) (now (out .entry))) r (now (out .exit)) ⌝ }
+        (now (lowers .entry)) (now (ratings .entry)))) (now (names .entry)) (now (out .entry))) r (now (out .exit)) ⌝ }
 {
     let v = vias.len();
     let mut preliminary = [0i64; Plan::MAX_VERTICES];
@@ -44,6 +45,7 @@ fn picture_named(
         halves,
         uppers,
         lowers,
+        ratings,
         &mut preliminary[..v],
         &mut finals[..v],
     );
@@ -55,6 +57,7 @@ fn picture_named(
         halves,
         uppers,
         lowers,
+        ratings,
         &finals[..v],
         names,
         starts,
@@ -72,12 +75,13 @@ fn picture_plan(
     halves: &[u16],
     uppers: &[u32],
     lowers: &[u32],
+    ratings: &[u32],
     names: &[u8],
     out: &mut [u8],
 ) -> PictureAnswer
-    requires { ⌜ acceptable (heldPlan gap spacing (now sizes) (now vias) (now halves) (now uppers) (now lowers)) ≡ true ⌝ }
+    requires { ⌜ acceptable (heldPlan gap spacing (now sizes) (now vias) (now halves) (now uppers) (now lowers) (now ratings)) ≡ true ⌝ }
     ensures { λ r. ⌜ Leaves (pictureIn (accepted (heldPlan gap spacing (now (sizes .entry)) (now (vias .entry)) (now (halves .entry)) (now (uppers .entry))
-        (now (lowers .entry)))) (now (names .entry)) (now (out .entry))) r (now (out .exit)) ⌝ }
+        (now (lowers .entry)) (now (ratings .entry)))) (now (names .entry)) (now (out .entry))) r (now (out .exit)) ⌝ }
 {
     let mut starts = [0u32; Plan::MAX_VERTICES];
     let mut ends = [0u32; Plan::MAX_VERTICES];
@@ -91,6 +95,7 @@ fn picture_plan(
             halves,
             uppers,
             lowers,
+            ratings,
             names,
             &starts,
             &ends,
@@ -110,6 +115,7 @@ pub fn picture_text(text: &[u8], names: &[u8], out: &mut [u8]) -> PictureAnswer
     let mut halves = [0u16; Plan::MAX_VERTICES];
     let mut uppers = [0u32; Plan::MAX_SEGMENTS];
     let mut lowers = [0u32; Plan::MAX_SEGMENTS];
+    let mut ratings = [0u32; Plan::MAX_SEGMENTS];
     let r = read_into(
         text,
         &mut sizes,
@@ -117,6 +123,7 @@ pub fn picture_text(text: &[u8], names: &[u8], out: &mut [u8]) -> PictureAnswer
         &mut halves,
         &mut uppers,
         &mut lowers,
+        &mut ratings,
     );
     if r.failed != 0 {
         return PictureAnswer::Refused(r.failed);
@@ -133,6 +140,7 @@ pub fn picture_text(text: &[u8], names: &[u8], out: &mut [u8]) -> PictureAnswer
         &halves[..v],
         &uppers[..e],
         &lowers[..e],
+        &ratings[..e],
         names,
         out,
     )

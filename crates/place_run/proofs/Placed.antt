@@ -13,7 +13,7 @@ use Rattle.ints.specs.Reach.{reach}
 use Rattle.ints.specs.Lists.{sum}
 use Rattle.ints.proofs.Laws.{apart, cases}
 use Rattle.ints.proofs.Tests.{and-left, conj-at}
-use Rattle.run.specs.Run.{Bound as Limit, free, at, Box, span}
+use Rattle.run.specs.Run.{Bound as Limit, free, at, leadPositions, leadsOf, Box, span}
 use Rattle.run.specs.declared.types.Bound.{Bound}
 use Rattle.run.specs.declared.types.Bound.the-variants.{Free, At}
 use Rattle.run.specs.Call.{Request, limitOf, memberOf, positionsOf, leftDistance, otherDistances, boxesFrom, maxBoxes, maxNeighbours, isSmall, isFitting, isInReach, isSound, isTaken, placedOf, out, callOf}
@@ -51,11 +51,17 @@ every-drop zero h = h
 every-drop (suc n) every-nil = every-nil
 every-drop (suc n) (every-cons q r) = every-drop n r
 
-boxes-between : {old : List ℤ} (ds cs : List ℕ) {ns : List ℤ} → Every (Between low high) old → Every (Between low high) ns → BoxesBetween low high (boxesFrom old ds cs ns)
+every-lead : {Q : ℤ → Type 0} {xs : List ℤ} (ws : List ℕ) → Every Q xs → Every Q (leadPositions (leadsOf xs ws))
+unfolding leadsOf
+every-lead ws every-nil = every-nil
+every-lead [] (every-cons q r) = every-nil
+every-lead (w ∷ ws) (every-cons q r) = every-cons q (every-lead ws r)
+
+boxes-between : {old : List ℤ} (ds cs : List ℕ) {ns : List ℤ} (ws : List ℕ) → Every (Between low high) old → Every (Between low high) ns → BoxesBetween low high (boxesFrom old ds cs ns ws)
 unfolding boxesFrom
-boxes-between ds cs every-nil n = boxes-nil
-boxes-between ds [] (every-cons q r) n = boxes-nil
-boxes-between ds (c ∷ cs) (every-cons q r) n = boxes-cons q (every-take c n) (boxes-between (drop 1 ds) cs r (every-drop c n))
+boxes-between ds cs ws every-nil n = boxes-nil
+boxes-between ds [] ws (every-cons q r) n = boxes-nil
+boxes-between ds (c ∷ cs) ws (every-cons q r) n = boxes-cons q (every-lead (take c ws) (every-take c n)) (boxes-between (drop 1 ds) cs (drop c ws) r (every-drop c n))
 
 -- ---- and so much further
 left-reach : (b : Limit) (d : ℕ) → within.leftReach b d ≤ d
@@ -71,27 +77,27 @@ sized t h [] r i = omega arith
 sized t h (x ∷ xs) (every-cons q r) zero = omega (arith, q .low, q .high, apart x)
 sized t h (x ∷ xs) (every-cons q r) (suc i) = sized t h xs r i
 
-module _ (l r : Bound) (old : List ℤ) (ds cs : List ℕ) (ns zs : List ℤ) (t : Taken l r old ds cs ns zs) where
+module _ (l r : Bound) (old : List ℤ) (ds cs : List ℕ) (ns : List ℤ) (ws : List ℕ) (zs : List ℤ) (t : Taken l r old ds cs ns ws zs) where
   abbrev boxes : List Box
-  boxes = boxesFrom old (otherDistances l ds) cs ns
+  boxes = boxesFrom old (otherDistances l ds) cs ns ws
 
-  reached : Every (Reached low high (within.reach (limitOf l) (leftDistance l ds) boxes (limitOf r))) (placedOf (requestOf l r old ds cs ns))
+  reached : Every (Reached low high (within.reach (limitOf l) (leftDistance l ds) boxes (limitOf r))) (placedOf (requestOf l r old ds cs ns ws))
   unfolding placedOf
   reached =
       place-run-reach low high (limitOf l) (leftDistance l ds) boxes (limitOf r) (t .order) (t .possible)
-      (bound-between l (t .left)) (boxes-between (otherDistances l ds) cs (all-between old (t .olds)) (all-between ns (t .nears))) (bound-between r (t .right))
+      (bound-between l (t .left)) (boxes-between (otherDistances l ds) cs ws (all-between old (t .olds)) (all-between ns (t .nears))) (bound-between r (t .right))
 
-  some : 0 < length old → SizedTo (2 ^ 50) (placedOf (requestOf l r old ds cs ns))
+  some : 0 < length old → SizedTo (2 ^ 50) (placedOf (requestOf l r old ds cs ns ws))
   some h =
       let far : within.reach (limitOf l) (leftDistance l ds) boxes (limitOf r) ≤ 2 * maxOffset =
-      omega (arith, left-reach (limitOf l) (leftDistance l ds), right-reach boxes (limitOf r), left-small l r old ds cs ns zs t, span-all l r old ds cs ns zs t h, steps-small l r old ds cs ns zs t) in
-      record { each = sized (within.reach (limitOf l) (leftDistance l ds) boxes (limitOf r)) far (placedOf (requestOf l r old ds cs ns)) reached }
+      omega (arith, left-reach (limitOf l) (leftDistance l ds), right-reach boxes (limitOf r), left-small l r old ds cs ns ws zs t, span-all l r old ds cs ns ws zs t h, steps-small l r old ds cs ns ws zs t) in
+      record { each = sized (within.reach (limitOf l) (leftDistance l ds) boxes (limitOf r)) far (placedOf (requestOf l r old ds cs ns ws)) reached }
 
   none : length old ≡ 0 → SizedTo (2 ^ 50) zs
   none e = record { each = λ i. let d = List·getD-eq-default zs (pos 0) {n = i} (omega (arith, t .answer)) in rw d (omega arith) }
 
-  pub placed-sized : SizedTo (2 ^ 50) (placedOf (requestOf l r old ds cs ns))
-  placed-sized = cases 1 (length old) some (λ h. let e : length old ≡ 0 = omega arith in rw (none-is l r old ds cs ns zs t e) at (none e))
+  pub placed-sized : SizedTo (2 ^ 50) (placedOf (requestOf l r old ds cs ns ws))
+  placed-sized = cases 1 (length old) some (λ h. let e : length old ≡ 0 = omega arith in rw (none-is l r old ds cs ns ws zs t e) at (none e))
 
 -- ---- what the call gives
 taken-of : (q : Request) (answer : List ℤ) → callOf q answer .number ≡ 0 → isTaken q answer ≡ true
@@ -108,6 +114,7 @@ module _ (q : Request) (answer : List ℤ) (e : callOf q answer .number ≡ 0) w
       let all = conj-at (isSmall q) (isFitting q answer ∷ isInReach q ∷ isSound q ∷ []) (sym (taken-row q answer) ∙ taken-of q answer e) in
       let small = and-left (leb (q .boxes) maxBoxes) (leb (sum (q .counts)) maxNeighbours) (all 0) in
       let fits = conj-at (eqb (length answer) (q .boxes)) (eqb (length (q .old)) (q .boxes) ∷ eqb (length (q .counts)) (q .boxes) ∷ eqb (length (q .neighbours)) (sum (q .counts))
+      ∷ eqb (length (q .ratings)) (sum (q .counts))
       ∷ eqb (length (q .distances)) (memberOf (q .left) + q .boxes + memberOf (q .right) - 1) ∷ []) (all 1) 0 in
       omega (arith, leb-true (q .boxes) maxBoxes small, eqb-true (length answer) (q .boxes) fits)
 
@@ -116,5 +123,6 @@ module _ (q : Request) (answer : List ℤ) (e : callOf q answer .number ≡ 0) w
   answer-sized =
       let t = taken-of q answer e in
       rw t
-      (placed-sized (q .left) (q .right) (q .old) (q .distances) (q .counts) (q .neighbours) answer
-      (taken (q .left) (q .right) (q .old) (q .distances) (q .counts) (q .neighbours) answer (taken-places (q .left) (q .right) (q .old) (q .distances) (q .counts) (q .neighbours) (q .boxes) answer t)))
+      (placed-sized (q .left) (q .right) (q .old) (q .distances) (q .counts) (q .neighbours) (q .ratings) answer
+      (taken (q .left) (q .right) (q .old) (q .distances) (q .counts) (q .neighbours) (q .ratings) answer
+      (taken-places (q .left) (q .right) (q .old) (q .distances) (q .counts) (q .neighbours) (q .ratings) (q .boxes) answer t)))

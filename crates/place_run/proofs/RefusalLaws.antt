@@ -7,7 +7,7 @@ use native.Mathlib.Omega.{arith}
 use native.Mathlib.Numerals.{add-one}
 use borrow.Author.Tests.{leb-true, le-leb, lt-leb}
 use lib.Dec.{leb}
-use lib.ListN.{length, take, drop, getD, drop-of-length-le}
+use lib.ListN.{length, take, drop, getD, drop-of-length-le, length-take, length-drop}
 use lib.Seq.{drop-cons, drop-drop}
 use lib.IntN.{ℤ, pos, negsuc}
 use lib.Signed.{ltZ, leZ}
@@ -16,6 +16,7 @@ use Rattle.ints.proofs.Laws.{cases, ints}
 use Rattle.ints.proofs.Tests.{and-left, and-right, _and_}
 use Rattle.ints.proofs.Reach.{within-size, within-get, within-cut}
 use Rattle.run.specs.Run.{free, at, nondecreasing, neighboursInOrder, span}
+use Rattle.run.proofs.Leads.{lead-positions}
 use Rattle.run.proofs.Sorted.{Sorted, sorted-cons, sorted, sorted-get}
 use Rattle.run.specs.declared.types.Bound.{Bound}
 use Rattle.run.specs.declared.types.Bound.the-variants.{Free, At}
@@ -100,12 +101,15 @@ ends-within xs e =
         within-from x x xs (omega arith) r f (rw k at g)
 
 -- ---- the neighbours of every box
-pub in-order-same : (os : List ℤ) (ds cs : List ℕ) (ns : List ℤ) → length os ≡ length cs → neighboursInOrder (boxesFrom os ds cs ns) ≡ partsInOrder cs ns
+pub in-order-same : (os : List ℤ) (ds cs : List ℕ) (ns : List ℤ) (ws : List ℕ) → length os ≡ length cs → length ws ≡ length ns → neighboursInOrder (boxesFrom os ds cs ns ws) ≡ partsInOrder cs ns
 unfolding neighboursInOrder boxesFrom partsInOrder
-in-order-same [] ds [] ns h = refl
-in-order-same [] ds (c ∷ cs) ns h = absurd (omega arith)
-in-order-same (o ∷ os) ds [] ns h = absurd (omega arith)
-in-order-same (o ∷ os) ds (c ∷ cs) ns h = ap (λ t. nondecreasing (take c ns) && t) (in-order-same os (drop 1 ds) cs (drop c ns) (omega arith))
+in-order-same [] ds [] ns ws h k = refl
+in-order-same [] ds (c ∷ cs) ns ws h k = absurd (omega arith)
+in-order-same (o ∷ os) ds [] ns ws h k = absurd (omega arith)
+in-order-same (o ∷ os) ds (c ∷ cs) ns ws h k = rw (
+  lead-positions (take c ns) (take c ws) (omega (arith, length-take c ns, length-take c ws)),
+  in-order-same os (drop 1 ds) cs (drop c ns) (drop c ws) (omega arith) (omega (arith, length-drop c ns, length-drop c ws)),
+)
 
 -- within reach, and each box's in order
 abbrev pub takenParts : List ℕ → List ℤ → Bool
@@ -138,10 +142,10 @@ sum-distances (d ∷ ds) e =
     omega (arith, sum-distances ds (and-right (isDistance d) (allDistances ds) e))
 
 -- the bounds at both sides, so that there is one distance more than boxes
-pub bounds-sum : (os : List ℤ) (ds cs : List ℕ) (ns : List ℤ) → length os ≡ length cs → length ds ≡ length os + 1 → getD ds 0 0 + span (boxesFrom os (drop 1 ds) cs ns) ≡ sum ds
+pub bounds-sum : (os : List ℤ) (ds cs : List ℕ) (ns : List ℤ) (ws : List ℕ) → length os ≡ length cs → length ds ≡ length os + 1 → getD ds 0 0 + span (boxesFrom os (drop 1 ds) cs ns ws) ≡ sum ds
 unfolding sum
-bounds-sum os [] cs ns h k = absurd (omega arith)
-bounds-sum os (d ∷ ds) cs ns h k = ap (λ n. d + n) (span-is os ds cs ns h (omega arith))
+bounds-sum os [] cs ns ws h k = absurd (omega arith)
+bounds-sum os (d ∷ ds) cs ns ws h k = ap (λ n. d + n) (span-is os ds cs ns ws h (omega arith))
 
 -- not below is at most
 pub not-lt : (a b : ℤ) → not (ltZ a b) ≡ leZ b a

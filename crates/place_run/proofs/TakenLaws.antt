@@ -11,6 +11,7 @@ use lib.IntN.{ℤ}
 use Rattle.run.specs.Run.{neighboursInOrder}
 use Rattle.run.specs.Words.{isPossible}
 use Rattle.ints.specs.Lists.{sum}
+use Rattle.ints.specs.Ratings.{allRatings}
 use Rattle.ints.specs.Reach.{allWithin}
 use Rattle.run.specs.Call.{Request, boxesOf, maxBoxes, maxNeighbours, isSmall, isTaken, limitOf, memberOf, positionsOf, leftDistance, allDistances}
 use Rattle.ints.proofs.Tests.{and-left, and-right, and-assoc}
@@ -22,13 +23,19 @@ pub record Fitting (q : Request) : Type 0 where
   pub old : length (q .old) ≡ q .boxes
   pub counts : length (q .counts) ≡ q .boxes
   pub neighbours : length (q .neighbours) ≡ sum (q .counts)
+  pub ratings : length (q .ratings) ≡ sum (q .counts)
   pub distances : length (q .distances) ≡ memberOf (q .left) + q .boxes + memberOf (q .right) - 1
 
-later : (a n d o : Bool) → (a && n && d && o) ≡ ((a && d) && (n && o))
-later true true d o = refl
-later true false true o = refl
-later true false false o = refl
-later false n d o = refl
+later : (a n w d o : Bool) → (a && n && w && d && o) ≡ (((a && d) && w) && (n && o))
+later true true true true o = refl
+later true true true false o = refl
+later true true false true o = refl
+later true true false false o = refl
+later true false true true o = refl
+later true false true false o = refl
+later true false false true o = refl
+later true false false false o = refl
+later false n w d o = refl
 
 module _ (q : Request) (answer : List ℤ) where
   -- the tests up to the one that the name says
@@ -44,8 +51,11 @@ module _ (q : Request) (answer : List ℤ) where
   abbrev pub toNeighbours : Bool
   toNeighbours = toCounts && eqb (length (q .neighbours)) (sum (q .counts))
 
+  abbrev pub toRatings : Bool
+  toRatings = toNeighbours && eqb (length (q .ratings)) (sum (q .counts))
+
   abbrev pub toDistances : Bool
-  toDistances = toNeighbours && eqb (length (q .distances)) (memberOf (q .left) + q .boxes + memberOf (q .right) - 1)
+  toDistances = toRatings && eqb (length (q .distances)) (memberOf (q .left) + q .boxes + memberOf (q .right) - 1)
 
   abbrev pub toLeftWithin : Bool
   toLeftWithin = toDistances && allWithin (positionsOf (q .left))
@@ -59,16 +69,19 @@ module _ (q : Request) (answer : List ℤ) where
   abbrev pub toAllDistances : Bool
   toAllDistances = toOldWithin && allDistances (q .distances)
 
-  abbrev pub toNeighboursTaken : Bool
-  toNeighboursTaken = toAllDistances && (allWithin (q .neighbours) && neighboursInOrder (boxesOf q))
+  abbrev pub toAllRatings : Bool
+  toAllRatings = toAllDistances && allRatings (q .ratings)
 
-  -- the tests of the neighbours come last but one here, both at once
+  abbrev pub toNeighboursTaken : Bool
+  toNeighboursTaken = toAllRatings && (allWithin (q .neighbours) && neighboursInOrder (boxesOf q))
+
+  -- the tests of the neighbours come last but one here, both at once, and that of the ratings after that of the distances
   pub taken-list : isTaken q answer ≡ (toNeighboursTaken && isPossible (limitOf (q .left)) (leftDistance (q .left) (q .distances)) (boxesOf q) (limitOf (q .right)))
   taken-list =
-      let n = allWithin (q .neighbours) in let d = allDistances (q .distances) in let o = neighboursInOrder (boxesOf q) in
+      let n = allWithin (q .neighbours) in let w = allRatings (q .ratings) in let d = allDistances (q .distances) in let o = neighboursInOrder (boxesOf q) in
       let p = isPossible (limitOf (q .left)) (leftDistance (q .left) (q .distances)) (boxesOf q) (limitOf (q .right)) in
-      let row : isTaken q answer ≡ (toOldWithin && n && d && o && p) = taken-row q answer ∙ simp and-assoc in
-      row ∙ ap (λ t. t && p) (later toOldWithin n d o)
+      let row : isTaken q answer ≡ (toOldWithin && n && w && d && o && p) = taken-row q answer ∙ simp and-assoc in
+      row ∙ ap (λ t. t && p) (later toOldWithin n w d o)
 
   -- and what those that hold say
   small-of : toCounts ≡ true → isSmall q ≡ true
@@ -81,22 +94,24 @@ module _ (q : Request) (answer : List ℤ) where
       let h = leb-true (sum (q .counts)) maxNeighbours (and-right (leb (q .boxes) maxBoxes) (leb (sum (q .counts)) maxNeighbours) (small-of e)) in
       omega arith
 
-  pub few-of : toNeighbours ≡ true → q .boxes ≤ maxBoxes
+  pub few-of : toRatings ≡ true → q .boxes ≤ maxBoxes
   few-of e =
       leb-true (q .boxes) maxBoxes
-      (and-left (leb (q .boxes) maxBoxes) (leb (sum (q .counts)) maxNeighbours) (small-of (and-left toCounts (eqb (length (q .neighbours)) (sum (q .counts))) e)))
+      (and-left (leb (q .boxes) maxBoxes) (leb (sum (q .counts)) maxNeighbours) (small-of (and-left toCounts (eqb (length (q .neighbours)) (sum (q .counts))) (and-left toNeighbours (eqb (length (q .ratings)) (sum (q .counts))) e))))
 
   pub fitting : toDistances ≡ true → Fitting q
   fitting e =
       let ds = memberOf (q .left) + q .boxes + memberOf (q .right) - 1 in
-      let e6 = and-left toNeighbours (eqb (length (q .distances)) ds) e in
+      let e7 = and-left toRatings (eqb (length (q .distances)) ds) e in
+      let e6 = and-left toNeighbours (eqb (length (q .ratings)) (sum (q .counts))) e7 in
       let e5 = and-left toCounts (eqb (length (q .neighbours)) (sum (q .counts))) e6 in
       let e4 = and-left toOld (eqb (length (q .counts)) (q .boxes)) e5 in record {
-        few = few-of e6;
+        few = few-of e7;
         old = eqb-true (length (q .old)) (q .boxes) (and-right toAnswer (eqb (length (q .old)) (q .boxes)) e4);
         counts = eqb-true (length (q .counts)) (q .boxes) (and-right toOld (eqb (length (q .counts)) (q .boxes)) e5);
         neighbours = eqb-true (length (q .neighbours)) (sum (q .counts)) (and-right toCounts (eqb (length (q .neighbours)) (sum (q .counts))) e6);
-        distances = eqb-true (length (q .distances)) ds (and-right toNeighbours (eqb (length (q .distances)) ds) e);
+        ratings = eqb-true (length (q .ratings)) (sum (q .counts)) (and-right toNeighbours (eqb (length (q .ratings)) (sum (q .counts))) e7);
+        distances = eqb-true (length (q .distances)) ds (and-right toRatings (eqb (length (q .distances)) ds) e);
       }
 
   pub record Reached : Type 0 where
@@ -116,5 +131,8 @@ module _ (q : Request) (answer : List ℤ) where
         distances = and-right toOldWithin (allDistances (q .distances)) e;
       }
 
+  pub rated : toAllRatings ≡ true → toAllDistances ≡ true
+  rated e = and-left toAllDistances (allRatings (q .ratings)) e
+
   pub ordered : toNeighboursTaken ≡ true → toAllDistances ≡ true
-  ordered e = and-left toAllDistances (allWithin (q .neighbours) && neighboursInOrder (boxesOf q)) e
+  ordered e = rated (and-left toAllRatings (allWithin (q .neighbours) && neighboursInOrder (boxesOf q)) e)

@@ -1,4 +1,5 @@
-// Placing one run between its bounds: the limits of its boxes in run coordinates, by halves, and back.
+// Placing one run between its bounds: the limits of its boxes in run coordinates, by halves, and back. Ratings are handed in as sums so
+// far, one more than there are neighbours.
 use crate::refusal::members;
 use ints::minus;
 use ints::plus;
@@ -8,13 +9,14 @@ use run_halves::halves::place_between;
 use run_halves::halves::total;
 ghost use mathlib.Core.Path.{_≡_};
 ghost use mathlib.Core.Bool.{true};
-ghost use Prim.Native.Nat.{_≤_};
-ghost use lib.ListN.{getD};
+ghost use Prim.Native.Nat.{_+_, _≤_};
+ghost use lib.ListN.{length, getD};
 ghost use Rattle.run.specs.inner.Coordinates.{leftLimit, rightLimit};
 ghost use Rattle.ints.specs.Lists.{sum};
 ghost use Rattle.run.specs.Call.{limitOf, leftDistance, isTaken, placedOf};
 ghost use Rattle.run_halves.specs.inner.Halves.{SmallLimit};
 ghost use Rattle.run_columns.specs.inner.Offsets.{maxOffset};
+ghost use Rattle.run_columns.specs.inner.Sums.{ratingsBetween};
 ghost use Rattle.place_run.specs.inner.Requests.{requestOf};
 
 // The largest run: "64 boxes", "2,048 neighbours in all".
@@ -58,10 +60,13 @@ pub fn place(
     distances: &[u64],
     counts: &[u64],
     neighbours: &[i64],
+    sums: &[u64],
     answer: &mut [i64],
 )
-    requires { ⌜ isTaken (requestOf left right (now old) (now distances) (now counts) (now neighbours)) (now answer) ≡ true ⌝ }
-    ensures { λ _. ⌜ now (answer .exit) ≡ placedOf (requestOf left right (now (old .entry)) (now (distances .entry)) (now (counts .entry)) (now (neighbours .entry))) ⌝ }
+    requires { ⌜ isTaken (requestOf left right (now old) (now distances) (now counts) (now neighbours) (ratingsBetween (now sums))) (now answer) ≡ true ⌝ }
+    requires { ⌜ length (now sums) ≡ length (now neighbours) + 1 ⌝ }
+    ensures { λ _. ⌜ now (answer .exit) ≡ placedOf (requestOf left right (now (old .entry)) (now (distances .entry)) (now (counts .entry))
+        (now (neighbours .entry)) (ratingsBetween (now (sums .entry)))) ⌝ }
 {
     let r = old.len();
     if r == 0 {
@@ -79,6 +84,7 @@ pub fn place(
         old,
         counts,
         neighbours,
+        sums,
         &mut offsets[..r],
         answer,
     );

@@ -1,4 +1,4 @@
-// Refusal 8 of document 01: whether a run that is handed to place-run is taken. Positions are half steps.
+// Refusal 8 of documents 01 and 02: whether a run that is handed to place-run is taken. Positions are half steps.
 use ints::too_near;
 use ints::within::all_within;
 use ints::within::is_within;
@@ -13,6 +13,7 @@ ghost use lib.IntN.{ℤ, pos};
 ghost use Rattle.run.specs.Run.{nondecreasing};
 ghost use Rattle.run.specs.Words.{isPossible};
 ghost use Rattle.ints.specs.Lists.{sum};
+ghost use Rattle.ints.specs.Ratings.{isRating, allRatings};
 ghost use Rattle.ints.specs.Reach.{isWithin, allWithin};
 ghost use Rattle.run.specs.Call.{limitOf, memberOf, positionsOf, leftDistance, otherDistances, boxesFrom, maxBoxes, maxNeighbours, isDistance, allDistances, isTaken};
 ghost use Rattle.run_columns.specs.inner.Columns.{partsInOrder};
@@ -24,6 +25,9 @@ const MAX_NEIGHBOURS: u64 = 2048;
 
 // "a distance outside 1 to 2^41"
 const MAX_DISTANCE: u64 = 1 << 41;
+
+// "outside 1 to 100"
+const MAX_RATING: u64 = 100;
 
 // The neighbours in all, or one more than the limit if there are more.
 fn neighbours_in_all(counts: &[u64]) -> u64
@@ -90,6 +94,26 @@ fn all_distances(distances: &[u64]) -> bool
     true
 }
 
+// Whether a rating is from 1 to 100.
+fn is_rating(w: u64) -> bool
+    ensures { λ r. ⌜ r ≡ isRating w ⌝ }
+{
+    1 <= w && w <= MAX_RATING
+}
+
+fn all_ratings(ratings: &[u64]) -> bool
+    ensures { λ r. ⌜ r ≡ allRatings (now (ratings .entry)) ⌝ }
+{
+    let mut i = 0;
+    while i < ratings.len() {
+        if !is_rating(ratings[i]) {
+            return false;
+        }
+        i += 1;
+    }
+    true
+}
+
 fn is_nondecreasing(positions: &[i64]) -> bool
     ensures { λ r. ⌜ r ≡ nondecreasing (now (positions .entry)) ⌝ }
 {
@@ -143,10 +167,10 @@ fn neighbours_are_taken(counts: &[u64], neighbours: &[i64]) -> bool
 fn is_possible(left: Bound, right: Bound, distances: &[u64]) -> bool
     requires { ⌜ (allWithin (positionsOf left) ≡ true) × (allWithin (positionsOf right) ≡ true) ⌝ }
     requires { ⌜ (length (now distances) ≤ maxBoxes + 1) × (allDistances (now distances) ≡ true) ⌝ }
-    ensures { λ r. ⌜ ((old : List ℤ) (counts : List ℕ) (neighbours : List ℤ) → length old ≡ length counts
+    ensures { λ r. ⌜ ((old : List ℤ) (counts : List ℕ) (neighbours : List ℤ) (ratings : List ℕ) → length old ≡ length counts
         → length (now (distances .entry)) ≡ memberOf left + length old + memberOf right - 1
         → r ≡ isPossible (limitOf left) (leftDistance left (now (distances .entry)))
-        (boxesFrom old (otherDistances left (now (distances .entry))) counts neighbours) (limitOf right)) ⌝ }
+        (boxesFrom old (otherDistances left (now (distances .entry))) counts neighbours ratings) (limitOf right)) ⌝ }
 {
     match left {
         Bound::Free => true,
@@ -166,6 +190,7 @@ pub fn is_taken(
     distances: &[u64],
     counts: &[u64],
     neighbours: &[i64],
+    ratings: &[u64],
     answer: &[i64],
 ) -> bool
     ensures { λ t. ⌜ t ≡ isTaken (record {
@@ -176,6 +201,7 @@ pub fn is_taken(
       distances = now (distances .entry);
       counts = now (counts .entry);
       neighbours = now (neighbours .entry);
+      ratings = now (ratings .entry);
     }) (now (answer .entry)) ⌝ }
 {
     let total = neighbours_in_all(counts);
@@ -185,11 +211,13 @@ pub fn is_taken(
         && old.len() as u64 == r
         && counts.len() as u64 == r
         && neighbours.len() as u64 == total
+        && ratings.len() as u64 == total
         && distances.len() as u64 == distances_due(left, r, right)
         && bound_within(left)
         && bound_within(right)
         && all_within(old)
         && all_distances(distances)
+        && all_ratings(ratings)
         && neighbours_are_taken(counts, neighbours)
         && is_possible(left, right, distances)
 }

@@ -13,12 +13,15 @@ use Rattle.plan.specs.inner.Held.{heldPlan, HoldsPlan}
 use Rattle.plan.proofs.Sound.{sound}
 
 -- ---- a plan by its lists
-module _ {p : PlanData} {gap : ℕ} {sizes : List ℕ} {vias : List Bool} {halves uppers lowers : List ℕ} where
-  pub held-is : (spacing : ℕ) → HoldsPlan p gap sizes vias halves uppers lowers → p .spacing ≡ spacing → p ≡ heldPlan gap spacing sizes vias halves uppers lowers
-  held-is spacing l s = λ i. dataOf (l .levelsAre i) (l .gapIs i) (s i) (l .sizesAre i) (l .viasAre i) (l .halvesAre i) (l .uppersAre i) (l .lowersAre i)
+module _ {p : PlanData} {gap : ℕ} {sizes : List ℕ} {vias : List Bool} {halves uppers lowers ratings : List ℕ} where
+  pub held-is : (spacing : ℕ) → HoldsPlan p gap sizes vias halves uppers lowers → p .spacing ≡ spacing → p .ratings ≡ ratings
+      → p ≡ heldPlan gap spacing sizes vias halves uppers lowers ratings
+  held-is spacing l s r =
+      λ i. dataOf (l .levelsAre i) (l .gapIs i) (s i) (l .sizesAre i) (l .viasAre i) (l .halvesAre i) (l .uppersAre i) (l .lowersAre i) (r i)
 
-pub holds-held : {gap spacing : ℕ} {sizes : List ℕ} {vias : List Bool} {halves uppers lowers : List ℕ} → acceptable (heldPlan gap spacing sizes vias halves uppers lowers) ≡ true
-    → HoldsPlan (heldPlan gap spacing sizes vias halves uppers lowers) gap sizes vias halves uppers lowers
+pub holds-held : {gap spacing : ℕ} {sizes : List ℕ} {vias : List Bool} {halves uppers lowers ratings : List ℕ}
+    → acceptable (heldPlan gap spacing sizes vias halves uppers lowers ratings) ≡ true
+    → HoldsPlan (heldPlan gap spacing sizes vias halves uppers lowers ratings) gap sizes vias halves uppers lowers
 holds-held ok = record { levelsAre = refl; gapIs = refl; sizesAre = refl; viasAre = refl; halvesAre = refl; uppersAre = refl; lowersAre = refl; ok = ok }
 
 -- ---- limits

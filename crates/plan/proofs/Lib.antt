@@ -2,6 +2,7 @@ pub mod Open
 pub mod LimitLaws
 pub mod LevelLaws
 pub mod CountLaws
+pub mod RatedLaws
 pub mod SegmentLaws
 pub mod Crossings
 pub mod Walks

@@ -9,6 +9,7 @@ use lib.Dec.{leb, eqb}
 use lib.ListN.{length, getD, List·getD-eq-default}
 use Rattle.ints.proofs.Laws.{cases}
 use Rattle.ints.specs.Lists.{sum}
+use Rattle.ints.specs.Ratings.{allRatings}
 use Rattle.plan.specs.Plan.{PlanData, vertexCount, isVia, halfWidth}
 use Rattle.plan.specs.Limits.{within, maxLevels, maxGap, maxSpacing, maxHalfWidth, maxOnLevel, maxVertices, maxSegments}
 use Rattle.plan.specs.Checks.{every}
@@ -28,6 +29,8 @@ pub record LimitTests (p : PlanData) : Type 0 where
   pub halves : halvesHold (p .vias) (p .halves) ≡ true
   pub ends : length (p .lowers) ≡ length (p .uppers)
   pub segments : length (p .uppers) ≤ maxSegments
+  pub rated : length (p .ratings) ≡ length (p .uppers)
+  pub ratings : allRatings (p .ratings) ≡ true
 
 -- the tests of `limitsHold` after the first
 abbrev furtherLimits : PlanData → List Bool
@@ -35,7 +38,8 @@ furtherLimits p =
     within 1 maxGap (p .gap) ∷ within 1 maxSpacing (p .spacing)
     ∷ eqb (length (p .sizes)) (p .levels) ∷ every (within 1 maxOnLevel) (p .sizes) ∷ eqb (sum (p .sizes)) (vertexCount p)
     ∷ leb (vertexCount p) maxVertices ∷ halvesHold (p .vias) (p .halves)
-    ∷ eqb (length (p .lowers)) (length (p .uppers)) ∷ leb (length (p .uppers)) maxSegments ∷ []
+    ∷ eqb (length (p .lowers)) (length (p .uppers)) ∷ leb (length (p .uppers)) maxSegments
+    ∷ eqb (length (p .ratings)) (length (p .uppers)) ∷ allRatings (p .ratings) ∷ []
 
 pub limit-tests : (p : PlanData) → limitsHold p ≡ true → LimitTests p
 unfolding limitsHold
@@ -52,6 +56,8 @@ limit-tests p h =
       halves = test 7;
       ends = eqb-true (length (p .lowers)) (length (p .uppers)) (test 8);
       segments = leb-true (length (p .uppers)) maxSegments (test 9);
+      rated = eqb-true (length (p .ratings)) (length (p .uppers)) (test 10);
+      ratings = test 11;
     }
 
 pub limits-hold : (p : PlanData) → LimitTests p → limitsHold p ≡ true
@@ -61,6 +67,7 @@ limits-hold p h =
     and eq-eqb (length (p .sizes)) (p .levels) (h .counted) and h .sizes and eq-eqb (sum (p .sizes)) (vertexCount p) (h .summed)
     and le-leb (vertexCount p) maxVertices (h .vertices) and h .halves
     and eq-eqb (length (p .lowers)) (length (p .uppers)) (h .ends) and le-leb (length (p .uppers)) maxSegments (h .segments)
+    and eq-eqb (length (p .ratings)) (length (p .uppers)) (h .rated) and h .ratings
 
 -- ---- as plain facts
 pub within-least : (lo hi n : ℕ) → within lo hi n ≡ true → lo ≤ n
@@ -119,6 +126,8 @@ pub record Limits (p : PlanData) : Type 0 where
   pub halves-box : (v : ℕ) → v < vertexCount p → isVia p v ≡ false → 1 ≤ halfWidth p v
   pub ends-long : length (p .lowers) ≡ length (p .uppers)
   pub segments : length (p .uppers) ≤ maxSegments
+  pub ratings-long : length (p .ratings) ≡ length (p .uppers)
+  pub ratings : allRatings (p .ratings) ≡ true
   -- as the checks of the graph ask it
   pub lists : InLimits (p .sizes) (p .vias) (p .uppers) (p .lowers)
 
@@ -147,5 +156,7 @@ limits p q =
       halves-box = λ v h e. half-box (isVia p v) (halfWidth p v) (half v h) e;
       ends-long = t .ends;
       segments = t .segments;
+      ratings-long = t .rated;
+      ratings = t .ratings;
       lists = record { levels = omega (arith, t .counted); vertices = t .vertices; segments = t .segments; ends = sym (t .ends) };
     }

@@ -5,6 +5,7 @@ use Prim.Native.Nat.{ℕ}
 use lib.Dec.{eqb, leb}
 use lib.ListN.{length}
 use Rattle.ints.specs.Lists.{sum}
+use Rattle.ints.specs.Ratings.{allRatings}
 use Rattle.ints.specs.Refusals.{noneRefuses}
 use Rattle.plan.specs.Plan.{PlanData, vertexCount}
 use Rattle.plan.specs.Limits.{within, maxLevels, maxGap, maxSpacing, maxHalfWidth, maxOnLevel, maxVertices, maxSegments}
@@ -32,6 +33,7 @@ limitsHold p =
     && eqb (length (p .sizes)) (p .levels) && sizes && eqb (sum (p .sizes)) (vertexCount p)
     && leb (vertexCount p) maxVertices && halves
     && eqb (length (p .lowers)) (length (p .uppers)) && leb (length (p .uppers)) maxSegments
+    && eqb (length (p .ratings)) (length (p .uppers)) && allRatings (p .ratings)
 
 unfoldable pub acceptable : PlanData → Bool
 acceptable p = limitsHold p && noneRefuses (checksOf p)

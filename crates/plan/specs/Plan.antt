@@ -23,10 +23,12 @@ pub record PlanData : Type 0 where
   -- of each segment, its upper end A and its lower end B
   pub uppers : List ℕ
   pub lowers : List ℕ
+  -- and its rating, 1 where none is written
+  pub ratings : List ℕ
 
 -- The data with these parts.
-abbrev pub dataOf : ℕ → ℕ → ℕ → List ℕ → List Bool → List ℕ → List ℕ → List ℕ → PlanData
-dataOf levels gap spacing sizes vias halves uppers lowers = record {
+abbrev pub dataOf : ℕ → ℕ → ℕ → List ℕ → List Bool → List ℕ → List ℕ → List ℕ → List ℕ → PlanData
+dataOf levels gap spacing sizes vias halves uppers lowers ratings = record {
   levels = levels;
   gap = gap;
   spacing = spacing;
@@ -35,6 +37,7 @@ dataOf levels gap spacing sizes vias halves uppers lowers = record {
   halves = halves;
   uppers = uppers;
   lowers = lowers;
+  ratings = ratings;
 }
 
 abbrev pub vertexCount : PlanData → ℕ

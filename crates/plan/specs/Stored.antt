@@ -13,10 +13,11 @@ abbrev pub planData : Plan → ℕ → ℕ → PlanData
 planData p v e =
     dataOf (p .levels) (p .gap) (p .spacing)
     (take (p .levels) (p .sizes)) (take v (p .vias)) (take v (p .halves)) (take e (p .uppers)) (take e (p .lowers))
+    (take e (p .ratings))
 
 -- The stored plan with these parts.
-abbrev pub storedPlan : ℕ → ℕ → ℕ → List ℕ → List Bool → List ℕ → List ℕ → List ℕ → Plan
-storedPlan levels gap spacing sizes vias halves uppers lowers = record {
+abbrev pub storedPlan : ℕ → ℕ → ℕ → List ℕ → List Bool → List ℕ → List ℕ → List ℕ → List ℕ → Plan
+storedPlan levels gap spacing sizes vias halves uppers lowers ratings = record {
   levels = levels;
   gap = gap;
   spacing = spacing;
@@ -25,10 +26,11 @@ storedPlan levels gap spacing sizes vias halves uppers lowers = record {
   halves = halves;
   uppers = uppers;
   lowers = lowers;
+  ratings = ratings;
 }
 
 -- The stored plan that is 0 throughout.
 unfoldable pub emptyPlan : Plan
 emptyPlan =
     storedPlan 0 0 0 (replicate maxLevels 0) (replicate maxVertices false) (replicate maxVertices 0) (replicate maxSegments 0)
-    (replicate maxSegments 0)
+    (replicate maxSegments 0) (replicate maxSegments 0)

@@ -3,7 +3,8 @@ ghost use mathlib.Core.Path.{_≡_};
 ghost use Rattle.plan.specs.Stored.{storedPlan, emptyPlan};
 
 // The vertices are numbered from 0 in reading order. Of each level `sizes` has how many vertices stand on it; of each vertex
-// `vias` has whether it is a via and `halves` its half-width; of each segment `uppers` and `lowers` have its ends A and B.
+// `vias` has whether it is a via and `halves` its half-width; of each segment `uppers` and `lowers` have its ends A and B,
+// `ratings` its rating.
 // How many vertices and segments there are is the stage's to say; what lies beyond is no part of the plan.
 pub struct Plan {
     pub levels: u32,
@@ -14,6 +15,7 @@ pub struct Plan {
     pub halves: [u16; Plan::MAX_VERTICES],
     pub uppers: [u32; Plan::MAX_SEGMENTS],
     pub lowers: [u32; Plan::MAX_SEGMENTS],
+    pub ratings: [u32; Plan::MAX_SEGMENTS],
 }
 
 impl Plan {
@@ -31,6 +33,8 @@ impl Plan {
 
     pub const MAX_SEGMENTS: usize = 2048;
 
+    pub const MAX_RATING: u32 = 100;
+
     // The plan with these parts.
     pub fn new(
         levels: u32,
@@ -41,8 +45,9 @@ impl Plan {
         halves: [u16; Plan::MAX_VERTICES],
         uppers: [u32; Plan::MAX_SEGMENTS],
         lowers: [u32; Plan::MAX_SEGMENTS],
+        ratings: [u32; Plan::MAX_SEGMENTS],
     ) -> Self
-        ensures { λ r. ⌜ r ≡ storedPlan levels gap spacing sizes vias halves uppers lowers ⌝ }
+        ensures { λ r. ⌜ r ≡ storedPlan levels gap spacing sizes vias halves uppers lowers ratings ⌝ }
     {
         Self {
             levels,
@@ -53,6 +58,7 @@ impl Plan {
             halves,
             uppers,
             lowers,
+            ratings,
         }
     }
 
@@ -67,6 +73,7 @@ impl Plan {
             [0; Plan::MAX_LEVELS],
             [false; Plan::MAX_VERTICES],
             [0; Plan::MAX_VERTICES],
+            [0; Plan::MAX_SEGMENTS],
             [0; Plan::MAX_SEGMENTS],
             [0; Plan::MAX_SEGMENTS],
         )

@@ -4,6 +4,7 @@ use crate::numbers::in_range;
 ghost use mathlib.Core.Path.{_≡_};
 ghost use mathlib.Core.Bool.{_&&_};
 ghost use lib.Dec.{leb};
+ghost use Rattle.ints.specs.Ratings.{maxRating};
 ghost use Rattle.plan.specs.Limits.{within, maxLevels, maxGap, maxSpacing, maxHalfWidth, maxOnLevel};
 
 // "K 1 to 64; G 1 to 100; S 1 to 10,000"
@@ -24,6 +25,13 @@ pub fn half_width_fits(half: u32) -> bool
     ensures { λ r. ⌜ r ≡ within 1 maxHalfWidth half ⌝ }
 {
     in_range(1, Plan::MAX_HALF_WIDTH, half)
+}
+
+// A rating of at most 100, and of at least what is asked for.
+pub fn rating_fits(least: u32, rating: u32) -> bool
+    ensures { λ r. ⌜ r ≡ within least maxRating rating ⌝ }
+{
+    in_range(least, Plan::MAX_RATING, rating)
 }
 
 // "at most 64 vertices on a level", and each of them fits.

@@ -37,18 +37,19 @@ pub fn renumber(
     halves: &mut [u16],
     uppers: &mut [u32],
     lowers: &mut [u32],
+    ratings: &mut [u32],
     spare: &mut [u16],
     flags: &mut [bool],
     places: &mut [u16],
     codes: &mut [u32],
 )
-    requires { ⌜ Renumberable (now m) (now vias) (now halves) (now uppers) (now lowers) (now spare) (now flags) (now places) (now codes) ⌝ }
-    ensures { λ _. ⌜ ((p : PlanData) → Lists p (now (vias .entry)) (now (halves .entry)) (now (uppers .entry)) (now (lowers .entry))
-        → Lists (renumbered p (now (m .entry))) (now (vias .exit)) (now (halves .exit)) (now (uppers .exit)) (now (lowers .exit))) ⌝ }
+    requires { ⌜ Renumberable (now m) (now vias) (now halves) (now uppers) (now lowers) (now ratings) (now spare) (now flags) (now places) (now codes) ⌝ }
+    ensures { λ _. ⌜ ((p : PlanData) → Lists p (now (vias .entry)) (now (halves .entry)) (now (uppers .entry)) (now (lowers .entry)) (now (ratings .entry))
+        → Lists (renumbered p (now (m .entry))) (now (vias .exit)) (now (halves .exit)) (now (uppers .exit)) (now (lowers .exit)) (now (ratings .exit))) ⌝ }
 {
     copy_flags(vias, flags);
     gather_flags(flags, m, vias);
     copy(halves, spare);
     gather(spare, m, halves);
-    move_segments(m, places, uppers, lowers, codes);
+    move_segments(m, places, uppers, lowers, ratings, codes);
 }

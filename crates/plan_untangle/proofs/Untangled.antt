@@ -73,7 +73,7 @@ module _ (p : PlanData) (l : Limits p) (d : AllDown p) (c : check5 p ≡ true) w
       let o = order-own p in
       let n = vertexCount p in
       let q = inner-in (renumbered p (order p)) (segmentsOf (renumbered p (order p))) s k in
-      let r = moved-from p (order p) s (rw (segments-are p (order p)) at (q .0)) in
+      let r = moved-from p (order p) s (rw (segments-are p (order p) l) at (q .0)) in
       let a = d (r .0) (r .1) in
       let via : (v : ℕ) → v < n → isVia (renumbered p (order p)) (placeIn (order p) v) ≡ isVia p v = λ v h.
       via-same p (order p) (placeIn (order p) v) (omega (arith, new-below n (order p) (o .once) v h, o .once .long)) ∙ ap (λ (u : ℕ). isVia p u) (old-new n (order p) (o .once) v h) in

@@ -14,6 +14,7 @@ fn untangle_by(
     halves: &mut [u16],
     uppers: &mut [u32],
     lowers: &mut [u32],
+    ratings: &mut [u32],
     numbers: &mut [u16],
     turn: &mut [u16],
     upper: &mut [u16],
@@ -23,9 +24,10 @@ fn untangle_by(
     flags: &mut [bool],
 )
     requires { ⌜ SomeTangled (now sizes) (now vias) (now uppers) (now lowers)
-        × Rooms (now vias) (now halves) (now uppers) (now numbers) (now turn) (now upper) (now places) (now codes) (now keys) (now flags) ⌝ }
+        × Rooms (now vias) (now halves) (now uppers) (now ratings) (now numbers) (now turn) (now upper) (now places) (now codes) (now keys) (now flags) ⌝ }
     ensures { λ _. ⌜ ((p : PlanData) → Tangled p (now (sizes .entry)) (now (vias .entry)) (now (uppers .entry)) (now (lowers .entry)) → p .halves ≡ now (halves .entry)
-        → Untangles p (now (numbers .exit)) (now (vias .exit)) (now (halves .exit)) (now (uppers .exit)) (now (lowers .exit))) ⌝ }
+        → p .ratings ≡ now (ratings .entry)
+        → Untangles p (now (numbers .exit)) (now (vias .exit)) (now (halves .exit)) (now (uppers .exit)) (now (lowers .exit)) (now (ratings .exit))) ⌝ }
 {
     order(
         sizes,
@@ -44,6 +46,7 @@ fn untangle_by(
         halves,
         uppers,
         lowers,
+        ratings,
         turn,
         flags,
         places,
@@ -51,19 +54,21 @@ fn untangle_by(
     );
 }
 
-// Untangles a plan that passes all checks but 6: its vertices are renumbered, its segments sorted anew, and `numbers` is left with the
-// number in the text of each vertex.
+// Untangles a plan that passes all checks but 6: its vertices are renumbered, its segments sorted anew, each with its rating, and
+// `numbers` is left with the number in the text of each vertex.
 pub fn untangle(
     sizes: &[u16],
     vias: &mut [bool],
     halves: &mut [u16],
     uppers: &mut [u32],
     lowers: &mut [u32],
+    ratings: &mut [u32],
     numbers: &mut [u16],
 )
-    requires { ⌜ SomeTangled (now sizes) (now vias) (now uppers) (now lowers) × Widths (now vias) (now halves) (now numbers) ⌝ }
+    requires { ⌜ SomeTangled (now sizes) (now vias) (now uppers) (now lowers) × Widths (now vias) (now halves) (now uppers) (now ratings) (now numbers) ⌝ }
     ensures { λ _. ⌜ ((p : PlanData) → Tangled p (now (sizes .entry)) (now (vias .entry)) (now (uppers .entry)) (now (lowers .entry)) → p .halves ≡ now (halves .entry)
-        → Untangles p (now (numbers .exit)) (now (vias .exit)) (now (halves .exit)) (now (uppers .exit)) (now (lowers .exit))) ⌝ }
+        → p .ratings ≡ now (ratings .entry)
+        → Untangles p (now (numbers .exit)) (now (vias .exit)) (now (halves .exit)) (now (uppers .exit)) (now (lowers .exit)) (now (ratings .exit))) ⌝ }
 {
     let mut turn = [0u16; Plan::MAX_VERTICES];
     let mut upper = [0u16; Plan::MAX_VERTICES];
@@ -79,6 +84,7 @@ pub fn untangle(
         halves,
         uppers,
         lowers,
+        ratings,
         numbers,
         &mut turn[..n],
         &mut upper[..n],

@@ -19,7 +19,7 @@ pub case1-positions : preliminary case1 ≡ negsuc 7 ∷ pos 8 ∷ negsuc 4 ∷ 
 unfolding preliminaryOpen
 case1-positions = refl
 
--- The ⌈s/2⌉-th smallest in a shift.
+-- The ⌈s/2⌉-th smallest in a shift, whatever the ratings: by them the first neighbour would be the middle one.
 abbrev pub shifted : PlanData
 shifted =
     dataOf 2 1 10000
@@ -27,6 +27,7 @@ shifted =
     (false ∷ false ∷ false ∷ false ∷ [])
     (199 ∷ 1 ∷ 200 ∷ 199 ∷ [])
     (0 ∷ 1 ∷ 2 ∷ []) (3 ∷ 3 ∷ 3 ∷ [])
+    (100 ∷ 1 ∷ 1 ∷ [])
 
 pub shifted-positions : preliminary shifted ≡ negsuc 402 ∷ negsuc 0 ∷ pos 403 ∷ negsuc 0 ∷ []
 unfolding preliminaryOpen
@@ -41,6 +42,7 @@ lower-only =
     (false ∷ false ∷ true ∷ false ∷ true ∷ true ∷ false ∷ false ∷ [])
     (1 ∷ 1 ∷ 0 ∷ 1 ∷ 0 ∷ 0 ∷ 1 ∷ 1 ∷ [])
     (1 ∷ 2 ∷ 3 ∷ 4 ∷ 5 ∷ []) (2 ∷ 4 ∷ 6 ∷ 5 ∷ 7 ∷ [])
+    (1 ∷ 1 ∷ 1 ∷ 1 ∷ 1 ∷ [])
 
 pub lower-only-acceptable : acceptable lower-only ≡ true
 unfolding preliminaryOpen

@@ -19,6 +19,12 @@ cases = record {
   gap101 = refl;
   boxes64 = refl;
   boxes65 = refl;
+  rating2 = refl;
+  rating100 = refl;
+  rating101 = refl;
+  rating1 = refl;
+  rating0 = refl;
+  heavy-lead = refl;
   outer-crossing = refl;
   inner-crossing = refl;
 }

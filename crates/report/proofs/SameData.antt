@@ -45,7 +45,7 @@ abbrev furtherSame : PlanData → PlanData → List Bool
 furtherSame p q =
     eqb (p .gap) (q .gap) ∷ eqb (p .spacing) (q .spacing)
     ∷ sameNumbers (p .sizes) (q .sizes) ∷ sameKinds (p .vias) (q .vias) ∷ sameNumbers (p .halves) (q .halves)
-    ∷ sameNumbers (p .uppers) (q .uppers) ∷ sameNumbers (p .lowers) (q .lowers) ∷ []
+    ∷ sameNumbers (p .uppers) (q .uppers) ∷ sameNumbers (p .lowers) (q .lowers) ∷ sameNumbers (p .ratings) (q .ratings) ∷ []
 
 pub data-equal : (p q : PlanData) → sameData p q ≡ true → p ≡ q
 unfolding sameData
@@ -60,6 +60,7 @@ data-equal p q e =
       halves = numbers-equal (p .halves) (q .halves) (test 5) i;
       uppers = numbers-equal (p .uppers) (q .uppers) (test 6) i;
       lowers = numbers-equal (p .lowers) (q .lowers) (test 7) i;
+      ratings = numbers-equal (p .ratings) (q .ratings) (test 8) i;
     }
 
 pub data-same : (p : PlanData) → sameData p p ≡ true
@@ -67,4 +68,4 @@ unfolding sameData
 data-same p =
     eq-eqb (p .levels) (p .levels) refl and eq-eqb (p .gap) (p .gap) refl and eq-eqb (p .spacing) (p .spacing) refl
     and numbers-same (p .sizes) and kinds-same (p .vias) and numbers-same (p .halves)
-    and numbers-same (p .uppers) and numbers-same (p .lowers)
+    and numbers-same (p .uppers) and numbers-same (p .lowers) and numbers-same (p .ratings)

@@ -40,7 +40,7 @@ unfoldable pub sameData : PlanData → PlanData → Bool
 sameData p q =
     eqb (p .levels) (q .levels) && eqb (p .gap) (q .gap) && eqb (p .spacing) (q .spacing)
     && sameNumbers (p .sizes) (q .sizes) && sameKinds (p .vias) (q .vias) && sameNumbers (p .halves) (q .halves)
-    && sameNumbers (p .uppers) (q .uppers) && sameNumbers (p .lowers) (q .lowers)
+    && sameNumbers (p .uppers) (q .uppers) && sameNumbers (p .lowers) (q .lowers) && sameNumbers (p .ratings) (q .ratings)
 
 abbrev pub readsAs : Reading → PlanData → Bool
 readsAs (accepted q) p = sameData q p

@@ -8,6 +8,7 @@ use borrow.Author.Tests.{leb-true, leb-false, le-leb, lt-leb}
 use lib.Dec.{leb, eqb}
 use lib.ListN.{length}
 use Rattle.ints.specs.Lists.{sum}
+use Rattle.ints.specs.Ratings.{allRatings}
 use Rattle.ints.specs.Refusals.{firstRefusal}
 use Rattle.ints.proofs.Refusals.{none-0}
 use Rattle.plan.specs.Plan.{PlanData}
@@ -38,8 +39,8 @@ module _ (p : PlanData) where
   -- all but the last
   pub limits-last : numbersHold (p .levels) (p .gap) (p .spacing) ≡ true → length (p .sizes) ≡ p .levels → every (within 1 maxOnLevel) (p .sizes) ≡ true
       → sum (p .sizes) ≡ length (p .vias) → halvesHold (p .vias) (p .halves) ≡ true → length (p .lowers) ≡ length (p .uppers)
-      → length (p .vias) ≤ maxVertices → leb (length (p .uppers)) maxSegments ≡ limitsHold p
-  limits-last n k s t h e v = test (leb (length (p .uppers)) maxSegments)
+      → length (p .ratings) ≡ length (p .uppers) → allRatings (p .ratings) ≡ true → length (p .vias) ≤ maxVertices → leb (length (p .uppers)) maxSegments ≡ limitsHold p
+  limits-last n k s t h e r w v = test (leb (length (p .uppers)) maxSegments)
       (λ l.
       let number = conj-at (within 1 maxLevels (p .levels)) (within 1 maxGap (p .gap) ∷ within 1 maxSpacing (p .spacing) ∷ []) n in
       l ∙ sym (limits-hold p (record {
@@ -53,6 +54,8 @@ module _ (p : PlanData) where
         halves = h;
         ends = e;
         segments = leb-true (length (p .uppers)) maxSegments l;
+        rated = r;
+        ratings = w;
       })))
       (λ l. l ∙ sym (limits-not (λ m. let many = leb-false (length (p .uppers)) maxSegments l in omega (arith, m .segments))))
 

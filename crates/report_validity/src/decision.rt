@@ -4,10 +4,12 @@ use ints::total;
 use plan::data::Plan;
 use plan::limits::half_width_fits;
 use plan::limits::numbers_fit;
+use plan::limits::rating_fits;
 use plan::numbers::wide;
 use plan_checks::checks::check_plan;
 ghost use mathlib.Core.Path.{_≡_};
 ghost use mathlib.Core.Bool.{_&&_};
+ghost use Rattle.ints.specs.Ratings.{allRatings};
 ghost use Rattle.plan.specs.Limits.{within, maxOnLevel};
 ghost use Rattle.plan.specs.Checks.{every};
 ghost use Rattle.plan.specs.Acceptable.{halfHolds, halvesHold, limitsHold, acceptable};
@@ -62,6 +64,20 @@ fn halves_hold(vias: &[bool], halves: &[u16]) -> bool
     true
 }
 
+// Each rating is from 1 to 100.
+fn ratings_hold(ratings: &[u32]) -> bool
+    ensures { λ r. ⌜ r ≡ allRatings (now (ratings .entry)) ⌝ }
+{
+    let mut i: usize = 0;
+    while i < ratings.len() {
+        if !rating_fits(1, ratings[i]) {
+            return false;
+        }
+        i += 1;
+    }
+    true
+}
+
 // Every number and count is within its limit, and the counts agree.
 fn limits_hold(
     levels: u32,
@@ -72,8 +88,10 @@ fn limits_hold(
     halves: &[u16],
     uppers: &[u32],
     lowers: &[u32],
+    ratings: &[u32],
 ) -> bool
-    ensures { λ r. ⌜ r ≡ limitsHold (dataOf levels gap spacing (now (sizes .entry)) (now (vias .entry)) (now (halves .entry)) (now (uppers .entry)) (now (lowers .entry))) ⌝ }
+    ensures { λ r. ⌜ r ≡ limitsHold (dataOf levels gap spacing (now (sizes .entry)) (now (vias .entry)) (now (halves .entry))
+        (now (uppers .entry)) (now (lowers .entry)) (now (ratings .entry))) ⌝ }
 {
     if !numbers_fit(levels, gap, spacing) {
         return false;
@@ -93,6 +111,12 @@ fn limits_hold(
     if lowers.len() != uppers.len() {
         return false;
     }
+    if ratings.len() != uppers.len() {
+        return false;
+    }
+    if !ratings_hold(ratings) {
+        return false;
+    }
     vias.len() <= Plan::MAX_VERTICES && uppers.len() <= Plan::MAX_SEGMENTS
 }
 
@@ -106,10 +130,22 @@ pub fn is_acceptable(
     halves: &[u16],
     uppers: &[u32],
     lowers: &[u32],
+    ratings: &[u32],
 ) -> bool
-    ensures { λ r. ⌜ r ≡ acceptable (dataOf levels gap spacing (now (sizes .entry)) (now (vias .entry)) (now (halves .entry)) (now (uppers .entry)) (now (lowers .entry))) ⌝ }
+    ensures { λ r. ⌜ r ≡ acceptable (dataOf levels gap spacing (now (sizes .entry)) (now (vias .entry)) (now (halves .entry))
+        (now (uppers .entry)) (now (lowers .entry)) (now (ratings .entry))) ⌝ }
 {
-    if !limits_hold(levels, gap, spacing, sizes, vias, halves, uppers, lowers) {
+    if !limits_hold(
+        levels,
+        gap,
+        spacing,
+        sizes,
+        vias,
+        halves,
+        uppers,
+        lowers,
+        ratings,
+    ) {
         return false;
     }
     check_plan(sizes, vias, uppers, lowers) == 0
@@ -134,6 +170,7 @@ pub fn is_plan_of_text(plan: Plan, vertices: usize, segments: usize) -> bool
     let halves = plan.halves;
     let uppers = plan.uppers;
     let lowers = plan.lowers;
+    let ratings = plan.ratings;
     is_acceptable(
         plan.levels,
         plan.gap,
@@ -143,5 +180,6 @@ pub fn is_plan_of_text(plan: Plan, vertices: usize, segments: usize) -> bool
         &halves[..vertices],
         &uppers[..segments],
         &lowers[..segments],
+        &ratings[..segments],
     )
 }

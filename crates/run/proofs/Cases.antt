@@ -1,22 +1,30 @@
--- Document 01's cases 3 to 7, case 3 as document 02 has it, two boxes of equal resistance, and lone boxes with an even number of
--- neighbours, computed from the definition.
+-- Document 01's cases 3 to 7, case 3 as document 02 has it, all ratings 1; two boxes of equal resistance, lone boxes with an even number
+-- of neighbours, and neighbours with ratings: computed from the definition.
 use mathlib.Core.Path.{_≡_, refl}
-use mathlib.Core.List.{List, [], _∷_}
+use mathlib.Core.List.{List, [], _∷_, map}
 use Prim.Native.Nat.{ℕ}
 use lib.IntN.{ℤ, pos, negsuc}
 use Rattle.ints.specs.Ints.{gap}
-use Rattle.run.specs.Run.{free, at, Box, nondecreasing, neighboursInOrder, span, startOf, firstOf, lastOf, lastDist}
+use Rattle.run.specs.Run.{free, at, Lead, leadsOf, totalRating, Box, nondecreasing, neighboursInOrder, span, firstReaching, startOf, firstOf, lastOf, lastDist}
 use Rattle.run.specs.Join.{pushLeft, pushRight, longer, lengthening, join}
 use Rattle.run.specs.Place.{placeBoxes, placeRun}
 use Rattle.run.specs.Words.{isPlacement, sideways, sidewaysLength}
+use Rattle.run.proofs.Unrated.{unrated}
 
 -- Named on an `unfolding` line, it opens every definition of this floor.
 unfoldable pub runOpen : Unit {0}
-unfolding gap nondecreasing neighboursInOrder span startOf firstOf lastOf lastDist pushLeft pushRight longer lengthening join placeBoxes placeRun isPlacement sideways sidewaysLength
+unfolding gap leadsOf totalRating nondecreasing neighboursInOrder span firstReaching startOf firstOf lastOf lastDist pushLeft pushRight longer lengthening join placeBoxes placeRun isPlacement sideways sidewaysLength
 runOpen = tt
 
+-- A box whose neighbours all have rating 1, and one with neighbours of any rating.
 abbrev box : ℤ → List ℤ → ℕ → Box
-box o ns d = record { old = o; near = ns; dist = d }
+box o ns d = record { old = o; near = map unrated ns; dist = d }
+
+abbrev ratedBox : ℤ → List Lead → ℕ → Box
+ratedBox o ns d = record { old = o; near = ns; dist = d }
+
+abbrev lead : ℤ → ℕ → Lead
+lead x w = record { at = x; rating = w }
 
 pub case3 : placeRun free 0 (box (pos 0) (pos 4 ∷ pos 10 ∷ []) 0 ∷ []) free ≡ pos 7 ∷ []
 unfolding runOpen
@@ -73,3 +81,38 @@ then-bounds = refl
 pub each-half : placeRun free 0 (box (pos 0) (negsuc 4 ∷ pos 2 ∷ []) 8 ∷ box (pos 0) (pos 4 ∷ pos 9 ∷ []) 0 ∷ []) free ≡ negsuc 1 ∷ pos 6 ∷ []
 unfolding runOpen
 each-half = refl
+
+-- ---- ratings: "A heavy lead should be the straight one", where without ratings the middle one would be
+pub heavy : placeRun free 0 (ratedBox (pos 0) (lead (pos 0) 1 ∷ lead (pos 8) 1 ∷ lead (pos 20) 3 ∷ []) 0 ∷ []) free ≡ pos 20 ∷ []
+unfolding runOpen
+heavy = refl
+
+pub not-heavy : placeRun free 0 (box (pos 0) (pos 0 ∷ pos 8 ∷ pos 20 ∷ []) 0 ∷ []) free ≡ pos 8 ∷ []
+unfolding runOpen
+not-heavy = refl
+
+-- the optimum differs: of these sideways lengths 20 is the place of the least, without ratings 8 is
+pub heavy-at-20 : sidewaysLength (ratedBox (pos 0) (lead (pos 0) 1 ∷ lead (pos 8) 1 ∷ lead (pos 20) 3 ∷ []) 0 ∷ []) (pos 20 ∷ []) ≡ 32
+unfolding runOpen
+heavy-at-20 = refl
+
+pub heavy-at-8 : sidewaysLength (ratedBox (pos 0) (lead (pos 0) 1 ∷ lead (pos 8) 1 ∷ lead (pos 20) 3 ∷ []) 0 ∷ []) (pos 8 ∷ []) ≡ 44
+unfolding runOpen
+heavy-at-8 = refl
+
+-- twice the ratings 1, 1, 2 so far reach their total at the second neighbour, −6, and exceed it at the third, 1
+pub half-rated : placeRun free 0 (ratedBox (pos 0) (lead (negsuc 9) 1 ∷ lead (negsuc 5) 1 ∷ lead (pos 1) 2 ∷ []) 0 ∷ []) free ≡ negsuc 2 ∷ []
+unfolding runOpen
+half-rated = refl
+
+-- "Resistance counts each segment with its rating": the left box moves, whose lead is the lighter; with equal ratings it is `tie`
+pub lighter : placeRun free 0 (ratedBox (pos 0) (lead (negsuc 4) 1 ∷ []) 16 ∷ ratedBox (pos 0) (lead (pos 8) 2 ∷ []) 0 ∷ []) free ≡ negsuc 7 ∷ pos 8 ∷ []
+unfolding runOpen
+lighter = refl
+
+-- case 7 with one lead of rating 3 for three of rating 1
+pub one-for-three : placeRun free 0
+    (ratedBox (pos 0) (lead (pos 0) 3 ∷ []) 10 ∷ ratedBox (pos 0) (lead (pos 0) 1 ∷ []) 10 ∷ ratedBox (pos 0) (lead (pos 12) 3 ∷ []) 10 ∷ box (pos 100) [] 0 ∷ []) free
+    ≡ negsuc 7 ∷ pos 2 ∷ pos 12 ∷ pos 100 ∷ []
+unfolding runOpen
+one-for-three = refl

@@ -1,21 +1,23 @@
 -- Between positions and run coordinates: the sum o of the distances before a box is taken from its positions, and put back.
 -- A placement is a feasible list there, and the other way, at the same length. Assumes nothing.
-use mathlib.Core.Path.{_≡_, refl, _∙_, ap, subst}
-use mathlib.Core.Bool.{Bool, true, cond}
+use mathlib.Core.Path.{_≡_, refl, sym, _∙_, ap, subst}
+use mathlib.Core.Bool.{Bool, true, false, cond}
 use mathlib.Core.List.{List, [], _∷_, map}
-use Prim.Native.Nat.{ℕ, suc, _+_, _-_, _/_}
+use Prim.Native.Nat.{ℕ, suc, _+_, _*_}
 use native.Mathlib.Omega.{arith}
-use lib.ListN.{length, length-map, List·getD-map}
+use lib.ListN.{length}
+use lib.Dec.{leb}
 use lib.IntN.{ℤ, pos, _+ℤ_, _-ℤ_, natAbs}
 use Rattle.ints.specs.Ints.{P, N, gap}
 use Rattle.ints.proofs.Laws.{sum, dif, eq-make, le-true, make-le-true}
-use Rattle.run.specs.Run.{Bound, free, at, Box, nondecreasing, neighboursInOrder, span, lowerMiddle, upperMiddle, startOf}
+use Rattle.run.specs.Run.{Bound, free, at, Lead, leadPositions, totalRating, Box, nondecreasing, neighboursInOrder, span, firstReaching, lowerMiddle, upperMiddle, startOf}
 use Rattle.run.specs.Words.{apart, isPlacement, sideways, sidewaysLength}
 use Rattle.run.specs.inner.Limits.{Above, Below, HasPlace}
 use Rattle.run.proofs.Feasible.{below-down, Priced, AllConvex, all-nil, all-cons, totalCost, Feasible, nil, cons}
 use Rattle.ints.proofs.Tests.{and-left, and-right, _and_}
-use Rattle.run.proofs.Sorted.{sorted, sorted-less}
-use Rattle.run.specs.inner.Coordinates.{less, lessBox, inRun, addOffsets, leftLimit, rightLimit}
+use Rattle.run.proofs.Sorted.{Sorted, sorted, sorted-less}
+use Rattle.run.proofs.Rated.{positions-less, total-less}
+use Rattle.run.specs.inner.Coordinates.{less, lessLead, lessBox, inRun, addOffsets, leftLimit, rightLimit}
 use Rattle.run.proofs.HalfDown.{half-less}
 use Rattle.run.proofs.Median.{start-convex}
 
@@ -47,8 +49,9 @@ pub convex-priced : (o : ℕ) (bs : List Box) → neighboursInOrder bs ≡ true 
 unfolding neighboursInOrder priced
 convex-priced o [] e = all-nil
 convex-priced o (b ∷ bs) e = all-cons
-    (start-convex (less o (b .old)) (map (less o) (b .near)) (sorted-less o {lo′ = free} (λ n k. tt) (sorted (b .near) (and-left _ _ e))))
-    (convex-priced (o + b .dist) bs (and-right (nondecreasing (b .near)) _ e))
+    (start-convex (less o (b .old)) (map (lessLead o) (b .near))
+    (subst (λ xs. Sorted free xs) (sym (positions-less o (b .near))) (sorted-less o {lo′ = free} (λ n k. tt) (sorted (leadPositions (b .near)) (and-left _ _ e)))))
+    (convex-priced (o + b .dist) bs (and-right (nondecreasing (leadPositions (b .near))) _ e))
 
 -- ---- positions into run coordinates, and back
 unfoldable pub subOffsets : ℕ → List Box → List ℤ → List ℤ
@@ -63,15 +66,24 @@ gap-less : (z n : ℤ) (o : ℕ) → gap (z +ℤ pos o) n ≡ gap z (less o n)
 unfolding gap
 gap-less z n o = let e : (z +ℤ pos o) -ℤ n ≡ z -ℤ less o n = eq-make _ _ (omega (arith, sum z (pos o), dif (z +ℤ pos o) n, dif n (pos o), dif z (less o n))) in ap natAbs e
 
-sideways-less : (ns : List ℤ) (z : ℤ) (o : ℕ) → sideways ns (z +ℤ pos o) ≡ sideways (map (less o) ns) z
+sideways-less : (ns : List Lead) (z : ℤ) (o : ℕ) → sideways ns (z +ℤ pos o) ≡ sideways (map (lessLead o) ns) z
 unfolding sideways
 sideways-less [] z o = refl
-sideways-less (n ∷ ns) z o = omega (arith, gap-less z n o, sideways-less ns z o)
+sideways-less (n ∷ ns) z o = omega (arith, ap (λ (g : ℕ). n .rating * g) (gap-less z (n .at) o), sideways-less ns z o)
 
-pub start-less : (old : ℤ) (ns : List ℤ) (o : ℕ) → startOf (less o old) (map (less o) ns) ≡ less o (startOf old ns)
+cond-less : (c : Bool) (x y z : ℤ) (o : ℕ) → z ≡ less o y → cond c (less o x) z ≡ less o (cond c x y)
+cond-less true x y z o e = refl
+cond-less false x y z o e = e
+
+reaching-less : (t a : ℕ) (old : ℤ) (ns : List Lead) (o : ℕ) → firstReaching t a (less o old) (map (lessLead o) ns) ≡ less o (firstReaching t a old ns)
+unfolding firstReaching
+reaching-less t a old [] o = refl
+reaching-less t a old (n ∷ ns) o = let b = a + n .rating in
+    cond-less (leb t (2 * b)) (n .at) (firstReaching t b old ns) (firstReaching t b (less o old) (map (lessLead o) ns)) o (reaching-less t b old ns o)
+
+pub start-less : (old : ℤ) (ns : List Lead) (o : ℕ) → startOf (less o old) (map (lessLead o) ns) ≡ less o (startOf old ns)
 unfolding startOf
-start-less old ns o = rw (length-map ns (less o), List·getD-map (less o) ns ((length ns + 1) / 2 - 1) old, List·getD-map (less o) ns (length ns / 2) old)
-    (half-less (lowerMiddle old ns) (upperMiddle old ns) o)
+start-less old ns o = rw (total-less o ns, reaching-less (totalRating ns) 0 old ns o, reaching-less (totalRating ns + 1) 0 old ns o) (half-less (lowerMiddle old ns) (upperMiddle old ns) o)
 
 pub cost-add : (o : ℕ) (bs : List Box) (zs : List ℤ) → sidewaysLength bs (addOffsets o bs zs) ≡ totalCost (priced o bs) zs
 unfolding sidewaysLength addOffsets totalCost priced

@@ -1,14 +1,14 @@
--- Half of a whole number, rounded toward minus infinity; what that gives of where a lone box starts, and where document 01's start
--- stays. Assumes nothing.
-use mathlib.Core.Path.{_≡_, _∙_, ap}
-use mathlib.Core.List.{List, []}
-use Prim.Native.Nat.{ℕ, _+_, _-_, _≤_, _/_}
+-- Half of a whole number, rounded toward minus infinity, and what that gives of where a lone box starts. Assumes nothing.
+use mathlib.Core.Path.{_≡_}
+use mathlib.Core.List.{List, [], _∷_}
+use Prim.Native.Nat.{ℕ, suc, _+_, _*_, _≤_, _/_}
 use native.Mathlib.Omega.{arith}
-use lib.ListN.{length, getD}
+use lib.Dec.{leb}
+use lib.ListN.{getD}
 use lib.IntN.{ℤ, pos, negsuc, _+ℤ_, _-ℤ_}
 use Rattle.ints.specs.Ints.{P, N, _⊑_}
-use Rattle.ints.proofs.Laws.{sum, dif, eq-make}
-use Rattle.run.specs.Run.{halfDown, startOf}
+use Rattle.ints.proofs.Laws.{sum, dif, eq-make, if-ind}
+use Rattle.run.specs.Run.{Lead, leadPositions, firstReaching, halfDown, startOf}
 
 -- h is half of z: z is twice h, or one more
 pub record HalfOf (z h : ℤ) : Type 0 where
@@ -23,7 +23,7 @@ half-of (negsuc n) = record { low = omega arith; high = omega arith }
 half-unique : (z h : ℤ) → HalfOf z h → halfDown z ≡ h
 half-unique z h q = let p = half-of z in eq-make (halfDown z) h (omega arith)
 
-half-twice : (x : ℤ) → halfDown (x +ℤ x) ≡ x
+pub half-twice : (x : ℤ) → halfDown (x +ℤ x) ≡ x
 half-twice x = let s = sum x x in half-unique (x +ℤ x) x (record { low = omega arith; high = omega arith })
 
 -- half the sum of two lies where both lie,
@@ -40,17 +40,13 @@ half-less l u o = let a = l -ℤ pos o in let b = u -ℤ pos o in let h = halfDo
     half-unique (a +ℤ b) (h -ℤ pos o) (record { low = omega arith; high = omega arith })
 
 -- ---- where a lone box starts
+reaching-keeps : (Q : ℤ → Type 0) (t a : ℕ) (old : ℤ) (ns : List Lead) → ((k : ℕ) → Q (getD (leadPositions ns) k old)) → Q (firstReaching t a old ns)
+unfolding firstReaching
+reaching-keeps Q t a old [] q = q 0
+reaching-keeps Q t a old (n ∷ ns) q = let b = a + n .rating in
+    if-ind (leb t (2 * b)) (n .at) (firstReaching t b old ns) Q (λ e. q 0) (λ e. reaching-keeps Q t b old ns (λ k. q (suc k)))
+
 -- What holds of half the sum of any two of which it holds, and of the old position and each neighbour, holds of the start.
-pub start-keeps : (Q : ℤ → Type 0) → ((l u : ℤ) → Q l → Q u → Q (halfDown (l +ℤ u))) → (old : ℤ) (ns : List ℤ) → ((k : ℕ) → Q (getD ns k old)) → Q (startOf old ns)
+pub start-keeps : (Q : ℤ → Type 0) → ((l u : ℤ) → Q l → Q u → Q (halfDown (l +ℤ u))) → (old : ℤ) (ns : List Lead) → ((k : ℕ) → Q (getD (leadPositions ns) k old)) → Q (startOf old ns)
 unfolding startOf
-start-keeps Q h old ns q = h _ _ (q ((length ns + 1) / 2 - 1)) (q (length ns / 2))
-
--- document 01's start stays without neighbours, and with an odd number of them
-pub start-none : (old : ℤ) → startOf old [] ≡ old
-unfolding startOf
-start-none old = half-twice old
-
-pub start-odd : (old : ℤ) (ns : List ℤ) (k : ℕ) → length ns ≡ k + k + 1 → startOf old ns ≡ getD ns ((length ns + 1) / 2 - 1) old
-unfolding startOf
-start-odd old ns k e = let i = (length ns + 1) / 2 - 1 in let f : length ns / 2 ≡ i = omega arith in
-    ap (λ (j : ℕ). halfDown (getD ns i old +ℤ getD ns j old)) f ∙ half-twice (getD ns i old)
+start-keeps Q h old ns q = h _ _ (reaching-keeps Q _ 0 old ns q) (reaching-keeps Q _ 0 old ns q)

@@ -5,6 +5,9 @@ pub mod JoinBest
 pub mod PlaceBest
 pub mod Sorted
 pub mod HalfDown
+pub mod Leads
+pub mod Rated
+pub mod Unrated
 pub mod Median
 pub mod Coordinates
 pub mod Pushes

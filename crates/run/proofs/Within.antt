@@ -10,11 +10,11 @@ use lib.Signed.{ltZ}
 use lib.IntN.{ℤ, pos, _+ℤ_, _-ℤ_}
 use Rattle.ints.specs.Ints.{P, N, _⊑_}
 use Rattle.ints.proofs.Laws.{sum, dif, apart, if-ind, lt-true}
-use Rattle.run.specs.Run.{Bound, free, at, Box, neighboursInOrder, span, halfDown, startOf, firstOf, lastOf, lastDist}
+use Rattle.run.specs.Run.{Bound, free, at, leadPositions, Box, neighboursInOrder, span, halfDown, startOf, firstOf, lastOf, lastDist}
 use Rattle.run.specs.Place.{placeRun}
 use Rattle.run.specs.Words.{isPossible}
 use Rattle.run.specs.inner.Limits.{clampLow, clampHigh}
-use Rattle.run.specs.inner.Coordinates.{less, inRun, addOffsets, leftLimit, rightLimit}
+use Rattle.run.specs.inner.Coordinates.{less, lessLead, inRun, addOffsets, leftLimit, rightLimit}
 use Rattle.run.proofs.HalfDown.{half-above, half-below, start-keeps}
 use Rattle.run.proofs.Coordinates.{length-inRun, start-less}
 use Rattle.run.specs.inner.Bisection.{cutAt, raiseTo, bisect, moreUpTo, meetingPlace, joinFast, placeFast}
@@ -66,7 +66,7 @@ BoundBetween lo hi (at z) = Between lo hi z
 
 pub data BoxesBetween (lo hi : ℤ) : List Box → Type 0 where
   boxes-nil : BoxesBetween lo hi []
-  boxes-cons : {b : Box} {bs : List Box} → Between lo hi (b .old) → Every (Between lo hi) (b .near) → BoxesBetween lo hi bs → BoxesBetween lo hi (b ∷ bs)
+  boxes-cons : {b : Box} {bs : List Box} → Between lo hi (b .old) → Every (Between lo hi) (leadPositions (b .near)) → BoxesBetween lo hi bs → BoxesBetween lo hi (b ∷ bs)
 
 -- ---- in run coordinates nothing leaves A..B, if the starts and both bounds lie there
 pub data StartsBetween (A B : ℤ) : List Box → Type 0 where
@@ -183,15 +183,15 @@ offset-next : (o w : ℕ) (b c : Box) (bs : List Box) → o + span (b ∷ c ∷ 
 unfolding span lastDist
 offset-next o w b c bs h = omega arith
 
-start-between : (lo hi : ℤ) (b : Box) → Between lo hi (b .old) → Every (Between lo hi) (b .near) → Between lo hi (startOf (b .old) (b .near))
-start-between lo hi b p q = start-keeps (Between lo hi) halved (b .old) (b .near) (every-get (Between lo hi) (b .old) (b .near) p q)
+start-between : (lo hi : ℤ) (b : Box) → Between lo hi (b .old) → Every (Between lo hi) (leadPositions (b .near)) → Between lo hi (startOf (b .old) (b .near))
+start-between lo hi b p q = start-keeps (Between lo hi) halved (b .old) (b .near) (every-get (Between lo hi) (b .old) (leadPositions (b .near)) p q)
   where
     halved : (l u : ℤ) → Between lo hi l → Between lo hi u → Between lo hi (halfDown (l +ℤ u))
     halved l u x y = record { low = half-above lo l u (x .low) (y .low); high = half-below hi l u (x .high) (y .high) }
 
 -- a start less its offset
-start-less-between : (lo hi : ℤ) (l w o : ℕ) (b : Box) → o ≤ w → Between lo hi (b .old) → Every (Between lo hi) (b .near)
-    → Between (less w lo) (hi +ℤ pos l) (startOf (less o (b .old)) (map (less o) (b .near)))
+start-less-between : (lo hi : ℤ) (l w o : ℕ) (b : Box) → o ≤ w → Between lo hi (b .old) → Every (Between lo hi) (leadPositions (b .near))
+    → Between (less w lo) (hi +ℤ pos l) (startOf (less o (b .old)) (map (lessLead o) (b .near)))
 start-less-between lo hi l w o b h p q = let z = startOf (b .old) (b .near) in let s = start-between lo hi b p q in
     subst (λ x. Between (less w lo) (hi +ℤ pos l) x) (sym (start-less (b .old) (b .near) o))
     (record { low = omega (arith, dif lo (pos w), dif z (pos o)); high = omega (arith, sum hi (pos l), dif z (pos o)) })

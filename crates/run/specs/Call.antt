@@ -8,8 +8,9 @@ use lib.ListN.{length, take, drop, getD}
 use lib.IntN.{ℤ}
 use Rattle.ints.specs.Lists.{sum}
 use Rattle.ints.specs.Reach.{reach, allWithin}
+use Rattle.ints.specs.Ratings.{allRatings}
 use Rattle.ints.specs.Refusals.{Test, check, noneRefuses}
-use Rattle.run.specs.Run.{Bound as Limit, free, at, Box, neighboursInOrder}
+use Rattle.run.specs.Run.{Bound as Limit, free, at, leadsOf, Box, neighboursInOrder}
 use Rattle.run.specs.Place.{placeRun}
 use Rattle.run.specs.Words.{isPossible}
 use Rattle.run.specs.declared.types.Bound.{Bound}
@@ -22,7 +23,7 @@ abbrev pub numberOf : Answer → ℕ
 numberOf Accepted = 0
 numberOf Refused = 8
 
--- A run as the call takes it: r, the bounds, and the lent slices.
+-- A run as the call takes it: r, the bounds, and the lent slices. Document 02, E5: "Place-run takes ratings beside its neighbours".
 pub record Request : Type 0 where
   pub boxes : ℕ
   pub left : Bound
@@ -31,6 +32,7 @@ pub record Request : Type 0 where
   pub distances : List ℕ
   pub counts : List ℕ
   pub neighbours : List ℤ
+  pub ratings : List ℕ
 
 abbrev pub limitOf : Bound → Limit
 limitOf Free = free
@@ -54,14 +56,16 @@ abbrev pub otherDistances : Bound → List ℕ → List ℕ
 otherDistances Free ds = ds
 otherDistances (At x) ds = drop 1 ds
 
--- The boxes: each takes as many of the neighbours as its count says, and the next distance.
-unfoldable pub boxesFrom : List ℤ → List ℕ → List ℕ → List ℤ → List Box
-boxesFrom [] ds cs ns = []
-boxesFrom (o ∷ os) ds [] ns = []
-boxesFrom (o ∷ os) ds (c ∷ cs) ns = record { old = o; near = take c ns; dist = getD ds 0 0 } ∷ boxesFrom os (drop 1 ds) cs (drop c ns)
+-- The boxes: each takes as many of the neighbours as its count says, each with its rating, and the next distance.
+unfoldable pub boxesFrom : List ℤ → List ℕ → List ℕ → List ℤ → List ℕ → List Box
+boxesFrom [] ds cs ns ws = []
+boxesFrom (o ∷ os) ds [] ns ws = []
+boxesFrom (o ∷ os) ds (c ∷ cs) ns ws =
+    let near = leadsOf (take c ns) (take c ws) in
+    record { old = o; near = near; dist = getD ds 0 0 } ∷ boxesFrom os (drop 1 ds) cs (drop c ns) (drop c ws)
 
 abbrev pub boxesOf : Request → List Box
-boxesOf q = boxesFrom (q .old) (otherDistances (q .left) (q .distances)) (q .counts) (q .neighbours)
+boxesOf q = boxesFrom (q .old) (otherDistances (q .left) (q .distances)) (q .counts) (q .neighbours) (q .ratings)
 
 -- "over 64 boxes, over 2,048 neighbours in all"
 abbrev pub maxBoxes : ℕ
@@ -74,14 +78,15 @@ abbrev pub isSmall : Request → Bool
 isSmall q = leb (q .boxes) maxBoxes && leb (sum (q .counts)) maxNeighbours
 
 -- "a lent slice whose length is not exactly what it must hold (answer, old positions and neighbour counts r each; neighbours
--- the sum of those counts; distances one less than the members, bounds included, 0 if there are none)"
+-- the sum of those counts; distances one less than the members, bounds included, 0 if there are none)". Document 02, E5:
+-- ratings beside the neighbours, "exactly as many, and another length or one outside 1 to 100 is refused with 8".
 abbrev pub isFitting : Request → List ℤ → Bool
 isFitting q answer =
     eqb (length answer) (q .boxes) && eqb (length (q .old)) (q .boxes) && eqb (length (q .counts)) (q .boxes)
-    && eqb (length (q .neighbours)) (sum (q .counts))
+    && eqb (length (q .neighbours)) (sum (q .counts)) && eqb (length (q .ratings)) (sum (q .counts))
     && eqb (length (q .distances)) (memberOf (q .left) + q .boxes + memberOf (q .right) - 1)
 
--- "a position outside ±2^40, a distance outside 1 to 2^41"
+-- "a position outside ±2^40, a distance outside 1 to 2^41", and a rating "outside 1 to 100"
 abbrev pub isDistance : ℕ → Bool
 isDistance d = leb 1 d && leb d (2 * reach)
 
@@ -92,7 +97,7 @@ allDistances (d ∷ ds) = isDistance d && allDistances ds
 abbrev pub isInReach : Request → Bool
 isInReach q =
     allWithin (positionsOf (q .left)) && allWithin (positionsOf (q .right)) && allWithin (q .old) && allWithin (q .neighbours)
-    && allDistances (q .distances)
+    && allRatings (q .ratings) && allDistances (q .distances)
 
 -- "neighbours out of order, or bounds nearer than their distance"
 abbrev pub isSound : Request → Bool

@@ -1,9 +1,9 @@
 -- A run, as document 01 hands it to "Placing one run": boxes from left to right, with an optional bound on either side.
 -- All positions are whole half steps.
-use mathlib.Core.Bool.{Bool, true, _&&_}
-use mathlib.Core.List.{List, [], _∷_}
-use Prim.Native.Nat.{ℕ, _+_, _-_, _/_}
-use lib.ListN.{length, getD}
+use mathlib.Core.Bool.{Bool, true, cond, _&&_}
+use mathlib.Core.List.{List, [], _∷_, map}
+use Prim.Native.Nat.{ℕ, _+_, _*_, _/_}
+use lib.Dec.{leb}
 use lib.IntN.{ℤ, pos, negsuc, _+ℤ_, _-ℤ_}
 use lib.Signed.{leZ}
 use Rattle.ints.specs.Ints.{minZ, maxZ}
@@ -13,11 +13,30 @@ pub data Bound : Type 0 where
   free : Bound
   at : ℤ → Bound
 
--- A box of a run: its old position, the positions of its neighbours in nondecreasing order, and its distance to the next
+-- A neighbour: where it stands, and the rating of the segment to it (document 02, E5: "A segment may carry a rating").
+pub record Lead : Type 0 where
+  pub at : ℤ
+  pub rating : ℕ
+
+abbrev pub leadPositions : List Lead → List ℤ
+leadPositions ns = map (λ n. n .at) ns
+
+-- Positions and ratings side by side, as long as the shorter: "Place-run takes ratings beside its neighbours".
+unfoldable pub leadsOf : List ℤ → List ℕ → List Lead
+leadsOf [] ws = []
+leadsOf (x ∷ xs) [] = []
+leadsOf (x ∷ xs) (w ∷ ws) = record { at = x; rating = w } ∷ leadsOf xs ws
+
+-- "the total of all s"
+unfoldable pub totalRating : List Lead → ℕ
+totalRating [] = 0
+totalRating (n ∷ ns) = n .rating + totalRating ns
+
+-- A box of a run: its old position, its neighbours in nondecreasing order of their positions, and its distance to the next
 -- member on its right, a box or the right bound (of no account where nothing follows).
 pub record Box : Type 0 where
   pub old : ℤ
-  pub near : List ℤ
+  pub near : List Lead
   pub dist : ℕ
 
 -- "in nondecreasing order"
@@ -28,29 +47,37 @@ nondecreasing (x ∷ y ∷ xs) = leZ x y && nondecreasing (y ∷ xs)
 
 unfoldable pub neighboursInOrder : List Box → Bool
 neighboursInOrder [] = true
-neighboursInOrder (b ∷ bs) = nondecreasing (b .near) && neighboursInOrder bs
+neighboursInOrder (b ∷ bs) = nondecreasing (leadPositions (b .near)) && neighboursInOrder bs
 
 -- "The distance of two non-adjacent members is the sum between them": of the first of these boxes and the member after the last.
 unfoldable pub span : List Box → ℕ
 span [] = 0
 span (b ∷ bs) = b .dist + span bs
 
--- The two middle ones of s neighbours: the ⌈s/2⌉-th, and the one after the ⌊s/2⌋-th, which is the same one if s is odd. If s = 0, the
--- old position stands for both.
-abbrev pub lowerMiddle : ℤ → List ℤ → ℤ
-lowerMiddle old near = getD near ((length near + 1) / 2 - 1) old
+-- "the first at which twice the ratings so far reach" t: a are the ratings before these neighbours; the old position if there is none.
+unfoldable pub firstReaching : ℕ → ℕ → ℤ → List Lead → ℤ
+firstReaching t a old [] = old
+firstReaching t a old (n ∷ ns) =
+    let soFar = a + n .rating in
+    let later = firstReaching t soFar old ns in
+    cond (leb t (2 * soFar)) (n .at) later
 
-abbrev pub upperMiddle : ℤ → List ℤ → ℤ
-upperMiddle old near = getD near (length near / 2) old
+-- "The lower middle neighbour is the first at which twice the ratings so far reach the total of all s. The upper middle is the first
+-- at which twice the ratings so far exceed it", that is, reach one more. If s = 0, the old position stands for both.
+abbrev pub lowerMiddle : ℤ → List Lead → ℤ
+lowerMiddle old near = firstReaching (totalRating near) 0 old near
+
+abbrev pub upperMiddle : ℤ → List Lead → ℤ
+upperMiddle old near = firstReaching (totalRating near + 1) 0 old near
 
 -- "divided by 2, rounded toward minus infinity"
 abbrev pub halfDown : ℤ → ℤ
 halfDown (pos n) = pos (n / 2)
 halfDown (negsuc n) = negsuc (n / 2)
 
--- Where a lone box starts (document 02, E4): "at the two middle positions' sum divided by 2, rounded toward minus infinity, before its
--- bounds apply". So with s odd at "the ⌈s/2⌉-th neighbour's position, or the old position if s = 0", as document 01 has it.
-unfoldable pub startOf : ℤ → List ℤ → ℤ
+-- Where a lone box starts (document 02, E5): "A lone box with s above 0 starts at half their sum, rounded as E4 says, before its bounds
+-- apply", and at "the old position if s = 0", as document 01 has it.
+unfoldable pub startOf : ℤ → List Lead → ℤ
 startOf old near = halfDown (lowerMiddle old near +ℤ upperMiddle old near)
 
 -- "raise it to left bound plus distance"

@@ -2,3 +2,4 @@
 pub mod Columns
 pub mod Counts
 pub mod Offsets
+pub mod Sums

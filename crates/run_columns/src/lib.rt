@@ -1,4 +1,4 @@
-// A run by columns, in run coordinates: offsets, and counts of neighbours left and right of a place.
+// A run by columns, in run coordinates: offsets, and the ratings of neighbours left and right of a place.
 mod count;
 pub mod counts;
 pub mod offsets;

@@ -1,5 +1,6 @@
 pub mod Boxes
 pub mod SmallBox
+pub mod Middles
 pub mod ByHalves
 pub mod Given
 pub mod Bisect

@@ -27,8 +27,8 @@ small-between a b m p q h k = omega (arith, apart m)
 pub small-place : (a b : ℤ) (d : ℕ) → size a ≤ maxSize → size b ≤ maxSize → b ⊏ a → d ≤ P (a -ℤ b) → size (b +ℤ pos d) ≤ maxSize
 small-place a b d p q h k = small-between a b (b +ℤ pos d) p q (omega (arith, sum b (pos d))) (omega (arith, sum b (pos d), dif a b, apart (a -ℤ b)))
 
-pub small-joined : (k n : ℕ) (zs : List ℤ) (cs : List ℕ) (ns out : List ℤ) → Cut k n zs cs ns → Small zs → Joined k n zs cs ns out → Small out
-small-joined k n zs cs ns out c q j = let m = j .place in let a = lastBefore k zs in let b = firstAfter k zs in
+pub small-joined : (k n : ℕ) (zs : List ℤ) (cs : List ℕ) (ns : List ℤ) (ws : List ℕ) (out : List ℤ) → Cut k n zs cs ns → Small zs → Joined k n zs cs ns ws out → Small out
+small-joined k n zs cs ns ws out c q j = let m = j .place in let a = lastBefore k zs in let b = firstAfter k zs in
     rw (j .outcome) (if-ind (ltZ b a) (cutAt m (take k zs) ++ raiseTo m (drop k zs)) zs (λ l. Small l)
     (λ t. let h = lt-true b a t in let r = j .meets h in
     let p : size m ≤ maxSize = small-between a b m (q (k - 1) (omega (arith, c .some, c .others))) (q k (c .others)) (r .low) (omega (arith, r .high, dif a b, apart (a -ℤ b))) in

@@ -5,7 +5,7 @@ use native.Mathlib.Omega.{arith}
 use lib.ListN.{getD}
 use lib.IntN.{ℤ, _+ℤ_}
 use Rattle.ints.specs.Ints.{size}
-use Rattle.run.specs.Run.{Bound as Limit, free, at, halfDown, startOf}
+use Rattle.run.specs.Run.{Bound as Limit, free, at, Lead, leadPositions, halfDown, startOf}
 use Rattle.ints.proofs.Laws.{sum, apart}
 use Rattle.run.specs.inner.Limits.{clampLow, clampHigh, clamp}
 use Rattle.run_columns.specs.inner.Columns.{Sized, Small, maxSize}
@@ -28,11 +28,11 @@ small-get b [] k d q p = p
 small-get b (x ∷ xs) zero d q p = q zero (omega arith)
 small-get b (x ∷ xs) (suc k) d q p = small-get b xs k d (sized-tail b x xs q) p
 
-pub small-start : (b : ℕ) (old : ℤ) (ns : List ℤ) → size old ≤ b → Sized b ns → size (startOf old ns) ≤ b
-small-start b old ns p q = start-keeps (λ x. size x ≤ b) halved old ns (λ k. small-get b ns k old q p)
+pub small-start : (b : ℕ) (old : ℤ) (ns : List Lead) → size old ≤ b → Sized b (leadPositions ns) → size (startOf old ns) ≤ b
+small-start b old ns p q = start-keeps (λ x. size x ≤ b) halved old ns (λ k. small-get b (leadPositions ns) k old q p)
   where
     halved : (l u : ℤ) → size l ≤ b → size u ≤ b → size (halfDown (l +ℤ u)) ≤ b
     halved l u x y = let s = sum l u in let h = half-of (l +ℤ u) in let a = apart (halfDown (l +ℤ u)) in omega arith
 
-pub small-one : (L H : Limit) (old : ℤ) (ns : List ℤ) → SmallLimit L → SmallLimit H → size old ≤ maxSize → Small ns → size (clamp L H (startOf old ns)) ≤ maxSize
+pub small-one : (L H : Limit) (old : ℤ) (ns : List Lead) → SmallLimit L → SmallLimit H → size old ≤ maxSize → Small (leadPositions ns) → size (clamp L H (startOf old ns)) ≤ maxSize
 small-one L H old ns l h p q = small-high H _ h (small-low L _ l (small-start maxSize old ns p q))

@@ -1,6 +1,8 @@
 // Placing a run by halves, in run coordinates: the bounds are the same limits for every box, and no distance is left. Old
-// positions and neighbours are handed in as they are, with the offset of each box beside them.
+// positions and neighbours are handed in as they are, with the offset of each box beside them, and ratings as sums so far, one more than
+// there are neighbours.
 use crate::meet::join;
+use crate::middle::find_middles;
 use ints::greater;
 use ints::lesser;
 use ints::minus;
@@ -11,7 +13,7 @@ ghost use mathlib.Core.Path.{_≡_};
 ghost use mathlib.Core.List.{map};
 ghost use Prim.Native.Nat.{_<_, _≤_, _^_};
 ghost use Rattle.ints.specs.Ints.{size};
-ghost use Rattle.run.specs.Run.{halfDown, startOf};
+ghost use Rattle.run.specs.Run.{leadsOf, halfDown, startOf};
 ghost use Rattle.run.specs.inner.Coordinates.{less};
 ghost use Rattle.run.specs.inner.Limits.{clampLow, clampHigh, clamp};
 ghost use Rattle.ints.specs.Lists.{sum};
@@ -19,6 +21,7 @@ ghost use Rattle.ints.specs.Reach.{reach};
 ghost use Rattle.run.specs.Call.{limitOf, boxesFrom};
 ghost use Rattle.run_halves.specs.inner.Halves.{Placed, Given, Fits, placedBetween};
 ghost use Rattle.run_columns.specs.inner.Offsets.{lessOffsets, lessNear, Near, maxOffset};
+ghost use Rattle.run_columns.specs.inner.Sums.{ratingsBetween, SumsOf};
 ghost use lib.ListN.{length};
 
 // Half of z, rounded toward minus infinity: only numbers that are not negative are halved.
@@ -32,19 +35,20 @@ fn half_down(z: i64) -> i64
     }
 }
 
-// Where a lone box starts: halfway between the two middle ones of its neighbours, or at its old position if it has none. The
-// middle ones are one if there is an odd number.
-fn start(old: i64, near: &[i64]) -> i64
-    requires { ⌜ Near (now near) ⌝ }
-    ensures { λ r. ⌜ r ≡ startOf old (now (near .entry)) ⌝ }
+// Where a lone box starts: halfway between the two middle ones of its neighbours, or at its old position if it has none.
+fn start(old: i64, near: &[i64], sums: &[u64]) -> i64
+    requires { ⌜ Near (now near) × SumsOf (now sums) (now near) ⌝ }
+    ensures { λ r. ⌜ r ≡ startOf old (leadsOf (now (near .entry)) (ratingsBetween (now (sums .entry)))) ⌝ }
 {
     if near.len() == 0 {
-        old
-    } else {
-        let low = near[(near.len() - 1) / 2];
-        let high = near[near.len() / 2];
-        half_down(low + high)
+        return old;
     }
+    let middles = find_middles(sums);
+    let lower = middles.lower;
+    let upper = middles.upper;
+    let low = near[lower];
+    let high = near[upper];
+    half_down(low + high)
 }
 
 fn raised(left: Bound, x: i64) -> i64
@@ -66,11 +70,12 @@ fn lowered(right: Bound, x: i64) -> i64
 }
 
 // One box: from its start raised to the left limit, then lowered to the right one.
-fn place_one(left: Bound, right: Bound, old: i64, offset: u64, near: &[i64]) -> i64
-    requires { ⌜ (size old ≤ reach) × (offset ≤ maxOffset) × Near (now near) ⌝ }
-    ensures { λ r. ⌜ r ≡ clamp (limitOf left) (limitOf right) (startOf (less offset old) (map (less offset) (now (near .entry)))) ⌝ }
+fn place_one(left: Bound, right: Bound, old: i64, offset: u64, near: &[i64], sums: &[u64]) -> i64
+    requires { ⌜ (size old ≤ reach) × (offset ≤ maxOffset) × Near (now near) × SumsOf (now sums) (now near) ⌝ }
+    ensures { λ r. ⌜ r ≡ clamp (limitOf left) (limitOf right) (startOf (less offset old) (leadsOf (map (less offset) (now (near .entry)))
+        (ratingsBetween (now (sums .entry))))) ⌝ }
 {
-    lowered(right, raised(left, minus(start(old, near), offset)))
+    lowered(right, raised(left, minus(start(old, near, sums), offset)))
 }
 
 pub fn total(counts: &[u64]) -> usize
@@ -94,18 +99,19 @@ fn place_halves(
     offsets: &[u64],
     counts: &[u64],
     near: &[i64],
+    sums: &[u64],
     z: &mut [i64],
 )
-    requires { ⌜ Given (limitOf left) (limitOf right) (now old) (now offsets) (now counts) (now near) (now z) ⌝ }
+    requires { ⌜ Given (limitOf left) (limitOf right) (now old) (now offsets) (now counts) (now near) (now sums) (now z) ⌝ }
     ensures { λ _. ⌜ Placed (limitOf left) (limitOf right) (lessOffsets (now (offsets .entry)) (now (old .entry))) (now (counts .entry))
-        (lessNear (now (offsets .entry)) (now (counts .entry)) (now (near .entry))) (now (z .exit)) ⌝ }
+        (lessNear (now (offsets .entry)) (now (counts .entry)) (now (near .entry))) (ratingsBetween (now (sums .entry))) (now (z .exit)) ⌝ }
 {
     let r = old.len();
     if r == 0 {
         return;
     }
     if r == 1 {
-        let x = place_one(left, right, old[0], offsets[0], near);
+        let x = place_one(left, right, old[0], offsets[0], near, sums);
         z[0] = x;
         return;
     }
@@ -118,6 +124,7 @@ fn place_halves(
         &offsets[..k],
         &counts[..k],
         &near[..n],
+        &sums[..n + 1],
         &mut z[..k],
     );
     place_halves(
@@ -127,9 +134,10 @@ fn place_halves(
         &offsets[k..],
         &counts[k..],
         &near[n..],
+        &sums[n..],
         &mut z[k..],
     );
-    join(k, n, offsets, counts, near, z);
+    join(k, n, offsets, counts, near, sums, z);
 }
 
 // Places boxes between two limits, with working space for their offsets.
@@ -140,14 +148,16 @@ pub fn place_between(
     old: &[i64],
     counts: &[u64],
     neighbours: &[i64],
+    sums: &[u64],
     offsets: &mut [u64],
     answer: &mut [i64],
 )
-    requires { ⌜ Fits (limitOf left) (limitOf right) (now steps) (now old) (now counts) (now neighbours) (now answer) ⌝ }
+    requires { ⌜ Fits (limitOf left) (limitOf right) (now steps) (now old) (now counts) (now neighbours) (now sums) (now answer) ⌝ }
     requires { ⌜ length (now offsets) ≡ length (now old) ⌝ }
-    ensures { λ _. ⌜ now (answer .exit) ≡ placedBetween (limitOf left) (limitOf right) (boxesFrom (now (old .entry)) (now (steps .entry)) (now (counts .entry)) (now (neighbours .entry))) ⌝ }
+    ensures { λ _. ⌜ now (answer .exit) ≡ placedBetween (limitOf left) (limitOf right) (boxesFrom (now (old .entry)) (now (steps .entry)) (now (counts .entry))
+        (now (neighbours .entry)) (ratingsBetween (now (sums .entry)))) ⌝ }
 {
     fill_offsets(steps, offsets);
-    place_halves(left, right, old, offsets, counts, neighbours, answer);
+    place_halves(left, right, old, offsets, counts, neighbours, sums, answer);
     plus_offsets(offsets, answer);
 }

@@ -1,5 +1,6 @@
 // Joining two placed halves of a run: where they overlap, the place at which they meet. All positions are in run coordinates
-// but those of the neighbours, which are their box's offset further right.
+// but those of the neighbours, which are their box's offset further right. Ratings are handed in as sums so far, one more than there are
+// neighbours.
 use ints::apart;
 use ints::greater;
 use ints::lesser;
@@ -13,8 +14,9 @@ ghost use Rattle.run.specs.inner.Bisection.{cutAt, raiseTo};
 ghost use Rattle.run_columns.specs.inner.Columns.{Small, maxSize};
 ghost use Rattle.run_halves.specs.inner.Meet.{Cut, Tests, lastBefore, firstAfter, MeetAt, Joined};
 ghost use Rattle.run_columns.specs.inner.Offsets.{lessNear, OffsetsOf, Near};
+ghost use Rattle.run_columns.specs.inner.Sums.{ratingsBetween, SumsOf};
 
-// Whether more are at or left of a place than right of it, there and at those places beside it.
+// Whether the ratings of those at or left of a place are more than of those right of it, there and at those places beside it.
 struct Tested {
     more: bool,
     back: u64,
@@ -29,12 +31,14 @@ fn more_up_to(
     offsets: &[u64],
     counts: &[u64],
     near: &[i64],
+    sums: &[u64],
     m: i64,
     back: u64,
     far: u64,
 ) -> Tested
-    requires { ⌜ Cut k n (now z) (now counts) (now near) × OffsetsOf (now offsets) (now z) × Small (now z) × Near (now near) × (size m ≤ maxSize) × (0 < far) ⌝ }
-    ensures { λ r. ⌜ Tests k n (now (z .entry)) (now (counts .entry)) (lessNear (now (offsets .entry)) (now (counts .entry)) (now (near .entry))) m back far (r .more) (r .back) (r .far) ⌝ }
+    requires { ⌜ Cut k n (now z) (now counts) (now near) × OffsetsOf (now offsets) (now z) × Small (now z) × Near (now near) × (size m ≤ maxSize) × (0 < far) × SumsOf (now sums) (now near) ⌝ }
+    ensures { λ r. ⌜ Tests k n (now (z .entry)) (now (counts .entry)) (lessNear (now (offsets .entry)) (now (counts .entry)) (now (near .entry)))
+        (ratingsBetween (now (sums .entry))) m back far (r .more) (r .back) (r .far) ⌝ }
 {
     let l = count_half(
         true,
@@ -42,6 +46,7 @@ fn more_up_to(
         &offsets[..k],
         &counts[..k],
         &near[..n],
+        &sums[..n + 1],
         m,
         back,
         far,
@@ -52,6 +57,7 @@ fn more_up_to(
         &offsets[k..],
         &counts[k..],
         &near[n..],
+        &sums[n..],
         m,
         l.back,
         l.far,
@@ -65,7 +71,7 @@ fn more_up_to(
 
 // Where the halves meet: bisection between the first position b of the right half and the last one of the left half. The part
 // still searched begins lo to the right of b and is w wide. A test in its middle takes half of it away, and the places beside
-// the middle that have the same counts.
+// the middle that have the same ratings on both sides.
 fn meeting_place(
     k: usize,
     n: usize,
@@ -73,18 +79,31 @@ fn meeting_place(
     offsets: &[u64],
     counts: &[u64],
     near: &[i64],
+    sums: &[u64],
 ) -> i64
     requires { ⌜ Cut k n (now z) (now counts) (now near) × OffsetsOf (now offsets) (now z) ⌝ }
-    requires { ⌜ Small (now z) × Near (now near) ⌝ }
+    requires { ⌜ Small (now z) × Near (now near) × SumsOf (now sums) (now near) ⌝ }
     requires { ⌜ firstAfter k (now z) ⊏ lastBefore k (now z) ⌝ }
-    ensures { λ r. ⌜ MeetAt k n (now (z .entry)) (now (counts .entry)) (lessNear (now (offsets .entry)) (now (counts .entry)) (now (near .entry))) r ⌝ }
+    ensures { λ r. ⌜ MeetAt k n (now (z .entry)) (now (counts .entry)) (lessNear (now (offsets .entry)) (now (counts .entry)) (now (near .entry)))
+        (ratingsBetween (now (sums .entry))) r ⌝ }
 {
     let b = z[k];
     let mut lo: u64 = 0;
     let mut w = apart(z[k - 1], b);
     while 0 < w {
         let h = w / 2;
-        let t = more_up_to(k, n, z, offsets, counts, near, plus(b, lo + h), h, w - h);
+        let t = more_up_to(
+            k,
+            n,
+            z,
+            offsets,
+            counts,
+            near,
+            sums,
+            plus(b, lo + h),
+            h,
+            w - h,
+        );
         if t.more {
             w = h - t.back;
         } else {
@@ -118,13 +137,22 @@ fn raise(m: i64, z: &mut [i64])
 }
 
 // Joins the halves cut after k boxes, which have n neighbours. Halves that do not overlap stay.
-pub fn join(k: usize, n: usize, offsets: &[u64], counts: &[u64], near: &[i64], z: &mut [i64])
+pub fn join(
+    k: usize,
+    n: usize,
+    offsets: &[u64],
+    counts: &[u64],
+    near: &[i64],
+    sums: &[u64],
+    z: &mut [i64],
+)
     requires { ⌜ Cut k n (now z) (now counts) (now near) × OffsetsOf (now offsets) (now z) ⌝ }
-    requires { ⌜ Small (now z) × Near (now near) ⌝ }
-    ensures { λ _. ⌜ Joined k n (now (z .entry)) (now (counts .entry)) (lessNear (now (offsets .entry)) (now (counts .entry)) (now (near .entry))) (now (z .exit)) ⌝ }
+    requires { ⌜ Small (now z) × Near (now near) × SumsOf (now sums) (now near) ⌝ }
+    ensures { λ _. ⌜ Joined k n (now (z .entry)) (now (counts .entry)) (lessNear (now (offsets .entry)) (now (counts .entry)) (now (near .entry)))
+        (ratingsBetween (now (sums .entry))) (now (z .exit)) ⌝ }
 {
     if z[k] < z[k - 1] {
-        let m = meeting_place(k, n, z, offsets, counts, near);
+        let m = meeting_place(k, n, z, offsets, counts, near, sums);
         cut(m, &mut z[..k]);
         raise(m, &mut z[k..]);
     }

@@ -1,6 +1,6 @@
 // Reads requests for place-run, a line each, and prints for each 0 or 8 and the answer buffer afterwards. A request is r, then flag
-// and value of either bound, then old positions, distances, neighbour counts, neighbours and the answer buffer, each as its
-// length and its numbers. One blank or line end stands after each number. A number that its type does not hold becomes the
+// and value of either bound, then old positions, distances, neighbour counts, neighbours, ratings and the answer buffer, each
+// as its length and its numbers. One blank or line end stands after each number. A number that its type does not hold becomes the
 // nearest one that it holds.
 use libc::STDIN_FILENO;
 use libc::STDOUT_FILENO;
@@ -169,6 +169,7 @@ fn answered(
     distances: &mut [u64],
     counts: &mut [u64],
     neighbours: &mut [i64],
+    ratings: &mut [u64],
     answer: &mut [i64],
 ) -> usize {
     let r = size(text, from);
@@ -177,9 +178,20 @@ fn answered(
     let at_distances = positions(text, after(text, from, 6), old);
     let at_counts = sizes(text, next(text, at_distances), distances);
     let at_neighbours = sizes(text, next(text, at_counts), counts);
-    let at_answer = positions(text, next(text, at_neighbours), neighbours);
+    let at_ratings = positions(text, next(text, at_neighbours), neighbours);
+    let at_answer = sizes(text, next(text, at_ratings), ratings);
     let end = positions(text, next(text, at_answer), answer);
-    let outcome = place_run(r, left, right, old, distances, counts, neighbours, answer);
+    let outcome = place_run(
+        r,
+        left,
+        right,
+        old,
+        distances,
+        counts,
+        neighbours,
+        ratings,
+        answer,
+    );
     print_outcome(outcome, answer);
     end
 }
@@ -192,6 +204,7 @@ fn cut_and_answered(
     distances: &mut [u64],
     counts: &mut [u64],
     neighbours: &mut [i64],
+    ratings: &mut [u64],
     answer: &mut [i64],
 ) -> usize {
     let at_old = after(text, from, 5);
@@ -202,7 +215,9 @@ fn cut_and_answered(
     let c = length_at(text, at_counts, counts.len());
     let at_neighbours = after(text, next(text, at_counts), c);
     let n = length_at(text, at_neighbours, neighbours.len());
-    let at_answer = after(text, next(text, at_neighbours), n);
+    let at_ratings = after(text, next(text, at_neighbours), n);
+    let w = length_at(text, at_ratings, ratings.len());
+    let at_answer = after(text, next(text, at_ratings), w);
     let a = length_at(text, at_answer, answer.len());
     answered(
         text,
@@ -211,6 +226,7 @@ fn cut_and_answered(
         &mut distances[..d],
         &mut counts[..c],
         &mut neighbours[..n],
+        &mut ratings[..w],
         &mut answer[..a],
     )
 }
@@ -220,6 +236,7 @@ fn request(text: &[u8], from: usize) -> usize {
     let mut distances = [0u64; 128];
     let mut counts = [0u64; 128];
     let mut neighbours = [0i64; 4096];
+    let mut ratings = [0u64; 4096];
     let mut answer = [0i64; 128];
     cut_and_answered(
         text,
@@ -228,12 +245,13 @@ fn request(text: &[u8], from: usize) -> usize {
         &mut distances,
         &mut counts,
         &mut neighbours,
+        &mut ratings,
         &mut answer,
     )
 }
 
 fn main() {
-    let mut space = [0u8; 65536];
+    let mut space = [0u8; 131072];
     let n = io::read_full(STDIN_FILENO, &mut space);
     requests(&space[..n]);
 }

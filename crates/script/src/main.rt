@@ -46,11 +46,12 @@ fn print_answers(
     distances: &[u64],
     counts: &[u64],
     neighbours: &[i64],
+    ratings: &[u64],
     buffer: &mut [u8],
 ) -> Sheet
-    requires { ⌜ Inside (lent (now text) (buffers (now old) (now distances) (now counts) (now neighbours))) command × (maxAnswer ≤ length (now buffer)) ⌝ }
+    requires { ⌜ Inside (lent (now text) (buffers (now old) (now distances) (now counts) (now neighbours) (now ratings))) command × (maxAnswer ≤ length (now buffer)) ⌝ }
     ensures { λ r. ⌜ r ≡ turnOf (commandIn command (lent (now (text .entry))
-        (buffers (now (old .entry)) (now (distances .entry)) (now (counts .entry)) (now (neighbours .entry))))) sheet .sheet ⌝ }
+        (buffers (now (old .entry)) (now (distances .entry)) (now (counts .entry)) (now (neighbours .entry)) (now (ratings .entry))))) sheet .sheet ⌝ }
 {
     let mut kept = sheet;
     let mut n: usize = 0;
@@ -63,6 +64,7 @@ fn print_answers(
             distances,
             counts,
             neighbours,
+            ratings,
             n,
             buffer,
         );
@@ -85,6 +87,7 @@ fn answer_line(sheet: Sheet, line: &[u8]) -> Sheet
     let mut distances = [0u64; 66];
     let mut counts = [0u64; 65];
     let mut neighbours = [0i64; 2049];
+    let mut ratings = [0u64; 2049];
     let mut buffer = [0u8; ANSWER_ROOM];
     let said = command(
         line,
@@ -93,6 +96,7 @@ fn answer_line(sheet: Sheet, line: &[u8]) -> Sheet
         &mut distances,
         &mut counts,
         &mut neighbours,
+        &mut ratings,
     );
     print_answers(
         sheet,
@@ -102,6 +106,7 @@ fn answer_line(sheet: Sheet, line: &[u8]) -> Sheet
         &distances,
         &counts,
         &neighbours,
+        &ratings,
         &mut buffer,
     )
 }

@@ -19,6 +19,7 @@ pub fn answer_run(
     distances: &[u64],
     counts: &[u64],
     neighbours: &[i64],
+    ratings: &[u64],
     answer: &mut [i64],
     out: &mut [u8],
     at: usize,
@@ -32,9 +33,20 @@ pub fn answer_run(
       distances = now (distances .entry);
       counts = now (counts .entry);
       neighbours = now (neighbours .entry);
+      ratings = now (ratings .entry);
     }) (now (answer .entry))) (now (out .entry)) at next (now (out .exit)) (now (answer .exit)) ⌝ }
 {
-    let outcome = place_run(r, left, right, old, distances, counts, neighbours, answer);
+    let outcome = place_run(
+        r,
+        left,
+        right,
+        old,
+        distances,
+        counts,
+        neighbours,
+        ratings,
+        answer,
+    );
     match outcome {
         Answer::Accepted => say_positions(out, at, answer),
         Answer::Refused => say_refused(out, at, 8),

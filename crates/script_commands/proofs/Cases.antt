@@ -58,7 +58,18 @@ record Lines : Type 0 where
     distances = 1 ∷ 15 ∷ [];
     counts = 2 ∷ 0 ∷ [];
     neighbours = negsuc 8 ∷ negsuc 2 ∷ [];
+    ratings = 1 ∷ 1 ∷ [];
   }) 2
+  run-rated : commandOf (bytes "placerun ratings=100,-1 r=1 old=0 counts=2 nbrs=4,5 dist=") ≡ placeRun (record {
+    boxes = 1;
+    left = Free;
+    right = Free;
+    old = pos 0 ∷ [];
+    distances = [];
+    counts = 2 ∷ [];
+    neighbours = pos 4 ∷ pos 5 ∷ [];
+    ratings = 100 ∷ 0 ∷ [];
+  }) 1
   run-room : commandOf (bytes "placerun old= nbrs= dist=-5 counts= answer=3 r=0") ≡ placeRun (record {
     boxes = 0;
     left = Free;
@@ -67,8 +78,10 @@ record Lines : Type 0 where
     distances = 0 ∷ [];
     counts = [];
     neighbours = [];
+    ratings = [];
   }) 3
   run-twice : commandOf (bytes "placerun r=0 old= nbrs= dist= counts= r=0") ≡ unknown
+  run-rated-twice : commandOf (bytes "placerun r=0 old= nbrs= dist= counts= ratings= ratings=") ≡ unknown
   run-other : commandOf (bytes "placerun r=0 old= nbrs= dist= counts= room=0") ≡ unknown
   run-without : commandOf (bytes "placerun r=0 old= nbrs= counts=") ≡ unknown
 
@@ -107,8 +120,10 @@ lines = record {
   walk-without = refl;
   walk-below-zero = refl;
   run = refl;
+  run-rated = refl;
   run-room = refl;
   run-twice = refl;
+  run-rated-twice = refl;
   run-other = refl;
   run-without = refl;
 }

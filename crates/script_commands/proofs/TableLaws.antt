@@ -195,7 +195,7 @@ pub calls-forms : parts 10 (bytes "draw 1\nclear 1\nstage 1\nline 1 N\nline 1 N 
 unfolding parts calls
 calls-forms = refl
 
-pub plan-forms : parts 10 (bytes "poke 1 stage empty\npoke 1 stage loaded N N\npoke 1 stage drawn N N N\npoke 1 k N\npoke 1 g N\npoke 1 s N\npoke 1 size N N\npoke 1 vertex N box N\npoke 1 vertex N via N\npoke 1 seg N N N") ≡ formsOf planPokes
+pub plan-forms : parts 10 (bytes "poke 1 stage empty\npoke 1 stage loaded N N\npoke 1 stage drawn N N N\npoke 1 k N\npoke 1 g N\npoke 1 s N\npoke 1 size N N\npoke 1 vertex N box N\npoke 1 vertex N via N\npoke 1 seg N N N\npoke 1 seg N N N N") ≡ formsOf planPokes
 unfolding parts planPokes
 plan-forms = refl
 

@@ -56,7 +56,8 @@ planPokes =
     ∷ row "poke 1 size N N" (λ l. poke (Size (wholeAt l 3) (wholeAt l 4)))
     ∷ row "poke 1 vertex N box N" (λ l. poke (Vertex (wholeAt l 3) false (wholeAt l 5)))
     ∷ row "poke 1 vertex N via N" (λ l. poke (Vertex (wholeAt l 3) true (wholeAt l 5)))
-    ∷ row "poke 1 seg N N N" (λ l. poke (Segment (wholeAt l 3) (wholeAt l 4) (wholeAt l 5)))
+    ∷ row "poke 1 seg N N N" (λ l. poke (Segment (wholeAt l 3) (wholeAt l 4) (wholeAt l 5) 1))
+    ∷ row "poke 1 seg N N N N" (λ l. poke (Segment (wholeAt l 3) (wholeAt l 4) (wholeAt l 5) (wholeAt l 6)))
     ∷ []
 
 -- what is remembered of the loading,

@@ -74,7 +74,7 @@ fn said_by_pokes(line: &[u8]) -> Command
     ensures { λ r. ⌜ Bare (saidBy (planPokes ++ loadingPokes ++ drawingPokes) (now (line .entry))) r ⌝ }
 {
     let forms =
-        b"poke 1 stage empty\npoke 1 stage loaded N N\npoke 1 stage drawn N N N\npoke 1 k N\npoke 1 g N\npoke 1 s N\npoke 1 size N N\npoke 1 vertex N box N\npoke 1 vertex N via N\npoke 1 seg N N N";
+        b"poke 1 stage empty\npoke 1 stage loaded N N\npoke 1 stage drawn N N N\npoke 1 k N\npoke 1 g N\npoke 1 s N\npoke 1 size N N\npoke 1 vertex N box N\npoke 1 vertex N via N\npoke 1 seg N N N\npoke 1 seg N N N N";
     match first_form(forms, line) {
         0 => Command::Poke(Poke::Empty),
         1 => Command::Poke(Poke::Loaded(whole_at(line, 4), whole_at(line, 5))),
@@ -85,7 +85,18 @@ fn said_by_pokes(line: &[u8]) -> Command
         6 => Command::Poke(Poke::Size(whole_at(line, 3), whole_at(line, 4))),
         7 => Command::Poke(Poke::Vertex(whole_at(line, 3), false, whole_at(line, 5))),
         8 => Command::Poke(Poke::Vertex(whole_at(line, 3), true, whole_at(line, 5))),
-        9 => Command::Poke(Poke::Segment(whole_at(line, 3), whole_at(line, 4), whole_at(line, 5))),
+        9 => Command::Poke(Poke::Segment(
+            whole_at(line, 3),
+            whole_at(line, 4),
+            whole_at(line, 5),
+            1,
+        )),
+        10 => Command::Poke(Poke::Segment(
+            whole_at(line, 3),
+            whole_at(line, 4),
+            whole_at(line, 5),
+            whole_at(line, 6),
+        )),
         _ => said_by_loading_pokes(line),
     }
 }
@@ -160,15 +171,16 @@ fn place_run(
     distances: &mut [u64],
     counts: &mut [u64],
     neighbours: &mut [i64],
+    ratings: &mut [u64],
 ) -> Command
     ensures { λ r. ⌜ ((text : List ℕ) → Commands (placing (words (now (given .entry))))
-        (lent text (buffers (now (old .entry)) (now (distances .entry)) (now (counts .entry)) (now (neighbours .entry)))) r
-        (lent text (buffers (now (old .exit)) (now (distances .exit)) (now (counts .exit)) (now (neighbours .exit))))) ⌝ }
+        (lent text (buffers (now (old .entry)) (now (distances .entry)) (now (counts .entry)) (now (neighbours .entry)) (now (ratings .entry)))) r
+        (lent text (buffers (now (old .exit)) (now (distances .exit)) (now (counts .exit)) (now (neighbours .exit)) (now (ratings .exit))))) ⌝ }
 {
     if !is_request(given) {
         return Command::Unknown;
     }
-    Command::PlaceRun(request(given, old, distances, counts, neighbours))
+    Command::PlaceRun(request(given, old, distances, counts, neighbours, ratings))
 }
 
 // What a line says; the text of a load or a walk and the lists of a run in lent buffers, what they have no room for left out.
@@ -179,10 +191,11 @@ pub fn command(
     distances: &mut [u64],
     counts: &mut [u64],
     neighbours: &mut [i64],
+    ratings: &mut [u64],
 ) -> Command
     ensures { λ r. ⌜ Commands (commandOf (now (line .entry)))
-        (lent (now (text .entry)) (buffers (now (old .entry)) (now (distances .entry)) (now (counts .entry)) (now (neighbours .entry)))) r
-        (lent (now (text .exit)) (buffers (now (old .exit)) (now (distances .exit)) (now (counts .exit)) (now (neighbours .exit)))) ⌝ }
+        (lent (now (text .entry)) (buffers (now (old .entry)) (now (distances .entry)) (now (counts .entry)) (now (neighbours .entry)) (now (ratings .entry)))) r
+        (lent (now (text .exit)) (buffers (now (old .exit)) (now (distances .exit)) (now (counts .exit)) (now (neighbours .exit)) (now (ratings .exit)))) ⌝ }
 {
     if is_skipped(line) {
         return Command::Skip;
@@ -197,7 +210,7 @@ pub fn command(
         return walk(&line[5..], text);
     }
     if word_at(line, 0, b"placerun ") {
-        return place_run(&line[9..], old, distances, counts, neighbours);
+        return place_run(&line[9..], old, distances, counts, neighbours, ratings);
     }
     said(line)
 }

@@ -2,7 +2,7 @@
 use script_runs::types::RunRequest;
 
 // What a poke alters, with the numbers of its line: the stage; K, G, S; the size of a level; kind and half-width of a vertex; the
-// ends of a segment; the number that a vertex is remembered by; whether the plan was loaded as tangled; preliminary and final
+// ends and the rating of a segment; the number that a vertex is remembered by; whether the plan was loaded as tangled; preliminary and final
 // position of a vertex; pass and level of a placing; and of a placing's box its vertex and position. Levels, vertices, segments,
 // placings and boxes are counted from 0.
 pub enum Poke {
@@ -14,7 +14,7 @@ pub enum Poke {
     Spacing(usize),
     Size(usize, usize),
     Vertex(usize, bool, usize),
-    Segment(usize, usize, usize),
+    Segment(usize, usize, usize, usize),
     Remembered(usize, usize),
     Tangled(bool),
     Preliminary(usize, i64),

@@ -56,18 +56,19 @@ abbrev pub withRemembered : Sheet → List ℕ → Sheet
 withRemembered s m = record { header = s .header; plan = s .plan; drawing = s .drawing; remembered = m }
 
 abbrev pub withLimits : Plan → ℕ → ℕ → ℕ → Plan
-withLimits p k g s = storedPlan k g s (p .sizes) (p .vias) (p .halves) (p .uppers) (p .lowers)
+withLimits p k g s = storedPlan k g s (p .sizes) (p .vias) (p .halves) (p .uppers) (p .lowers) (p .ratings)
 
 abbrev pub withSize : Plan → ℕ → ℕ → Plan
-withSize p i n = storedPlan (p .levels) (p .gap) (p .spacing) (set (p .sizes) i n) (p .vias) (p .halves) (p .uppers) (p .lowers)
+withSize p i n =
+    storedPlan (p .levels) (p .gap) (p .spacing) (set (p .sizes) i n) (p .vias) (p .halves) (p .uppers) (p .lowers) (p .ratings)
 
 abbrev pub withVertex : Plan → ℕ → Bool → ℕ → Plan
 withVertex p i via half =
-    storedPlan (p .levels) (p .gap) (p .spacing) (p .sizes) (set (p .vias) i via) (set (p .halves) i half) (p .uppers) (p .lowers)
+    storedPlan (p .levels) (p .gap) (p .spacing) (p .sizes) (set (p .vias) i via) (set (p .halves) i half) (p .uppers) (p .lowers) (p .ratings)
 
-abbrev pub withSegment : Plan → ℕ → ℕ → ℕ → Plan
-withSegment p i a b =
-    storedPlan (p .levels) (p .gap) (p .spacing) (p .sizes) (p .vias) (p .halves) (set (p .uppers) i a) (set (p .lowers) i b)
+abbrev pub withSegment : Plan → ℕ → ℕ → ℕ → ℕ → Plan
+withSegment p i a b w =
+    storedPlan (p .levels) (p .gap) (p .spacing) (p .sizes) (p .vias) (p .halves) (set (p .uppers) i a) (set (p .lowers) i b) (set (p .ratings) i w)
 
 abbrev pub drawing : List ℤ → List ℤ → List ℕ → List ℕ → List ℕ → List ℕ → List ℤ → Drawing
 drawing pre fin passes levels counts vertices positions =
@@ -98,7 +99,7 @@ poke (Gap g) s = altered (withPlan s (withLimits (s .plan) (s .plan .levels) (in
 poke (Spacing n) s = altered (withPlan s (withLimits (s .plan) (s .plan .levels) (s .plan .gap) (in32 n)))
 poke (Size i n) s = alteredIf (ltb i maxLevels) (withPlan s (withSize (s .plan) i (in16 n))) s
 poke (Vertex i via half) s = alteredIf (ltb i maxVertices) (withPlan s (withVertex (s .plan) i via (in16 half))) s
-poke (Segment i a b) s = alteredIf (ltb i maxSegments) (withPlan s (withSegment (s .plan) i (in32 a) (in32 b))) s
+poke (Segment i a b w) s = alteredIf (ltb i maxSegments) (withPlan s (withSegment (s .plan) i (in32 a) (in32 b) (in32 w))) s
 poke (Remembered i n) s = alteredIf (ltb i maxVertices) (withRemembered s (set (s .remembered) i (in16 n))) s
 poke (Tangled t) s = altered (withTangled s t)
 poke (Preliminary i x) s = alteredIf (ltb i maxVertices) (withDrawing s (withPositions (s .drawing) (set (s .drawing .preliminary) i x) (s .drawing .finals))) s

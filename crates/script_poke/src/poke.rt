@@ -85,7 +85,7 @@ pub fn poke(sheet: Sheet, poke: Poke) -> Poked
         Poke::Spacing(n) => put_spacing(sheet, n),
         Poke::Size(i, n) => put_size(sheet, i, in_16(n)),
         Poke::Vertex(i, via, half) => put_vertex(sheet, i, via, in_16(half)),
-        Poke::Segment(i, a, b) => put_segment(sheet, i, in_32(a), in_32(b)),
+        Poke::Segment(i, a, b, w) => put_segment(sheet, i, in_32(a), in_32(b), in_32(w)),
         Poke::Remembered(i, n) => put_remembered(sheet, i, in_16(n)),
         Poke::Tangled(tangled) => put_tangled(sheet, tangled),
         Poke::Preliminary(i, x) => put_preliminary(sheet, i, x),

@@ -146,8 +146,8 @@ pub fn put_vertex(sheet: Sheet, i: usize, via: bool, half: u16) -> Poked
     }
 }
 
-pub fn put_segment(sheet: Sheet, i: usize, a: u32, b: u32) -> Poked
-    ensures { λ r. ⌜ r ≡ alteredIf (ltb i maxSegments) (withPlan sheet (withSegment (sheet .plan) i a b)) sheet ⌝ }
+pub fn put_segment(sheet: Sheet, i: usize, a: u32, b: u32, w: u32) -> Poked
+    ensures { λ r. ⌜ r ≡ alteredIf (ltb i maxSegments) (withPlan sheet (withSegment (sheet .plan) i a b w)) sheet ⌝ }
 {
     if Plan::MAX_SEGMENTS <= i {
         return Poked {
@@ -158,6 +158,7 @@ pub fn put_segment(sheet: Sheet, i: usize, a: u32, b: u32) -> Poked
     let mut plan = sheet.plan;
     plan.uppers[i] = a;
     plan.lowers[i] = b;
+    plan.ratings[i] = w;
     Poked {
         known: true,
         sheet: with_plan(sheet, plan),

@@ -51,6 +51,7 @@ pub record SameLong (b d : Lent) : Type 0 where
   pub distances : length (d .run .distances) ≡ length (b .run .distances)
   pub counts : length (d .run .counts) ≡ length (b .run .counts)
   pub neighbours : length (d .run .neighbours) ≡ length (b .run .neighbours)
+  pub ratings : length (d .run .ratings) ≡ length (b .run .ratings)
 
 pub inside-after : (b d : Lent) (c : Found) → SameLong b d → Inside b c → Inside d c
 inside-after b d Skip l i = tt
@@ -72,12 +73,13 @@ inside-after b d (PlaceRun q) l i = record {
   distances = omega (arith, l .distances, i .distances);
   counts = omega (arith, l .counts, i .counts);
   neighbours = omega (arith, l .neighbours, i .neighbours);
+  ratings = omega (arith, l .ratings, i .ratings);
 }
 inside-after b d (Poke p) l i = tt
 
 -- ---- the buffers of the program
 abbrev pub rooms : Lent
-rooms = lent (replicate 65537 0) (buffers (replicate 65 (pos 0)) (replicate 66 0) (replicate 65 0) (replicate 2049 (pos 0)))
+rooms = lent (replicate 65537 0) (buffers (replicate 65 (pos 0)) (replicate 66 0) (replicate 65 0) (replicate 2049 (pos 0)) (replicate 2049 0))
 
 text-long : maxBytes < length (rooms .text)
 text-long = omega (arith, length-replicate {A = ℕ} 65537 0)
@@ -88,6 +90,7 @@ rooms-roomy = record {
   distances = omega (arith, length-replicate {A = ℕ} 66 0);
   counts = omega (arith, length-replicate {A = ℕ} 65 0);
   neighbours = omega (arith, length-replicate {A = ℤ} 2049 (pos 0));
+  ratings = omega (arith, length-replicate {A = ℕ} 2049 0);
 }
 
 pub answer-long : maxAnswer ≤ length (replicate {A = ℕ} 1500 0)

@@ -48,15 +48,16 @@ fn each_answer(
     distances: &[u64],
     counts: &[u64],
     neighbours: &[i64],
+    ratings: &[u64],
     buffer: &mut [u8],
     out: &mut [u8],
     at: usize,
     room: usize,
     write: bool,
 ) -> Turned
-    requires { ⌜ Answering command (lent (now text) (buffers (now old) (now distances) (now counts) (now neighbours))) (now buffer) room at (now out) ⌝ }
-    ensures { λ r. ⌜ laid.Turned (turnOf (commandIn command (lent (now (text .entry)) (buffers (now (old .entry)) (now (distances .entry)) (now (counts .entry)) (now (neighbours .entry))))) sheet)
-        write room (now (out .entry)) at (r .sheet) (r .laid .fits) (r .laid .at) (now (out .exit)) ⌝ }
+    requires { ⌜ Answering command (lent (now text) (buffers (now old) (now distances) (now counts) (now neighbours) (now ratings))) (now buffer) room at (now out) ⌝ }
+    ensures { λ r. ⌜ laid.Turned (turnOf (commandIn command (lent (now (text .entry)) (buffers (now (old .entry)) (now (distances .entry))
+        (now (counts .entry)) (now (neighbours .entry)) (now (ratings .entry))))) sheet) write room (now (out .entry)) at (r .sheet) (r .laid .fits) (r .laid .at) (now (out .exit)) ⌝ }
 {
     let mut kept = sheet;
     let mut to = at;
@@ -70,6 +71,7 @@ fn each_answer(
             distances,
             counts,
             neighbours,
+            ratings,
             n,
             buffer,
         );
@@ -104,6 +106,7 @@ fn answer_line(
     let mut distances = [0u64; 66];
     let mut counts = [0u64; 65];
     let mut neighbours = [0i64; 2049];
+    let mut ratings = [0u64; 2049];
     let mut buffer = [0u8; ANSWER_ROOM];
     let said = command(
         line,
@@ -112,6 +115,7 @@ fn answer_line(
         &mut distances,
         &mut counts,
         &mut neighbours,
+        &mut ratings,
     );
     each_answer(
         sheet,
@@ -121,6 +125,7 @@ fn answer_line(
         &distances,
         &counts,
         &neighbours,
+        &ratings,
         &mut buffer,
         out,
         at,

@@ -4,15 +4,16 @@ use mathlib.Core.Bool.{Bool, true, false}
 use mathlib.Core.List.{List, [], _∷_, _++_, map, append-nil}
 use Prim.Native.Nat.{ℕ, _+_, _≤_, _<_}
 use native.Mathlib.Omega.{arith}
-use lib.ListN.{length, take, drop, length-take}
+use lib.ListN.{length, take, drop, replicate, length-take}
 use lib.Seq.{take-all}
+use lib.IntN.{ℤ}
 use Rattle.plan.specs.Checks.{every}
 use Rattle.script_words.specs.Parts.{parts}
 use Rattle.script_words.specs.inner.Ends.{between, PartEnds}
 use Rattle.script_words.specs.inner.Puts.{Puts}
 use Rattle.script_words.proofs.PartLaws.{parts-split}
 use Rattle.script_words.proofs.Filling.{fill-more}
-use Rattle.script_runs.specs.Lists.{itemsOf}
+use Rattle.script_runs.specs.Lists.{itemsOf, signedsIn}
 
 pub items-none : (w : List ℕ) → length w ≡ 0 → itemsOf w ≡ []
 items-none [] e = refl
@@ -21,6 +22,15 @@ items-none (b ∷ w) e = absurd (omega arith)
 pub items-some : (w : List ℕ) → (length w ≡ 0 → ⊥) → itemsOf w ≡ parts 44 w
 items-some [] n = absurd (n refl)
 items-some (b ∷ w) n = refl
+
+-- a 1 for each number
+ones : (f : List ℕ → ℤ) (ws : List (List ℕ)) → map {B = ℕ} (λ v. 1) ws ≡ replicate (length (map f ws)) 1
+ones f [] = refl
+ones f (w ∷ ws) = ap (λ (l : List ℕ). 1 ∷ l) (ones f ws)
+
+pub ones-items : (w : List ℕ) → map {B = ℕ} (λ v. 1) (itemsOf w) ≡ replicate (length (signedsIn w)) 1
+unfolding signedsIn
+ones-items w = ones _ (itemsOf w)
 
 module _ (w : List ℕ) (from to : ℕ) (e : PartEnds 44 w from to) where
   -- ---- a test

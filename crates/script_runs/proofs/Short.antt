@@ -1,6 +1,6 @@
 -- Lists longer than any lawful one are refused with 8, cut or not, and so is an answer buffer that is too long: what the call
 -- place-run answers to a request does not change when only so much of its lists is left as buffers of 65 (66 distances, 2,049
--- neighbours) and more have room for. A list of which less than the room is left was not cut at all. Assumes nothing.
+-- neighbours and ratings) and more have room for. A list of which less than the room is left was not cut at all. Assumes nothing.
 use mathlib.Core.Path.{_≡_, sym, _∙_, ap}
 use mathlib.Core.Bool.{true, false, _&&_}
 use mathlib.Core.List.{List}
@@ -28,6 +28,7 @@ record Sizes (q : Request) (answer : List ℤ) : Type 0 where
   olds : length (q .old) ≡ q .boxes
   counts : length (q .counts) ≡ q .boxes
   neighbours : length (q .neighbours) ≡ sum (q .counts)
+  ratings : length (q .ratings) ≡ sum (q .counts)
   distances : length (q .distances) ≡ memberOf (q .left) + q .boxes + memberOf (q .right) - 1
 
 sizes : (q : Request) (answer : List ℤ) → isTaken q answer ≡ true → Sizes q answer
@@ -36,11 +37,13 @@ sizes q answer e =
     let o = eqb (length (q .old)) (q .boxes) in
     let c = eqb (length (q .counts)) (q .boxes) in
     let n = eqb (length (q .neighbours)) (sum (q .counts)) in
+    let w = eqb (length (q .ratings)) (sum (q .counts)) in
     let d = eqb (length (q .distances)) (memberOf (q .left) + q .boxes + memberOf (q .right) - 1) in
     let both = and-left (isSmall q && isFitting q answer) (isInReach q) (and-left (isSmall q && isFitting q answer && isInReach q) (isSound q) (sym (taken-row q answer) ∙ e)) in
     let s = and-left (isSmall q) (isFitting q answer) both in
     let f = and-right (isSmall q) (isFitting q answer) both in
-    let f4 = and-left (a && o && c && n) d f in
+    let f5 = and-left (a && o && c && n && w) d f in
+    let f4 = and-left (a && o && c && n) w f5 in
     let f3 = and-left (a && o && c) n f4 in
     let f2 = and-left (a && o) c f3 in
     record {
@@ -50,7 +53,8 @@ sizes q answer e =
       olds = eqb-true (length (q .old)) (q .boxes) (and-right a o f2);
       counts = eqb-true (length (q .counts)) (q .boxes) (and-right (a && o) c f3);
       neighbours = eqb-true (length (q .neighbours)) (sum (q .counts)) (and-right (a && o && c) n f4);
-      distances = eqb-true (length (q .distances)) (memberOf (q .left) + q .boxes + memberOf (q .right) - 1) (and-right (a && o && c && n) d f);
+      ratings = eqb-true (length (q .ratings)) (sum (q .counts)) (and-right (a && o && c && n) w f5);
+      distances = eqb-true (length (q .distances)) (memberOf (q .left) + q .boxes + memberOf (q .right) - 1) (and-right (a && o && c && n && w) d f);
     }
 
 one-member : (b : Bound) → memberOf b ≤ 1
@@ -77,6 +81,7 @@ pub record Roomy (b : Buffers) : Type 0 where
   pub distances : 65 < length (b .distances)
   pub counts : 64 < length (b .counts)
   pub neighbours : 2048 < length (b .neighbours)
+  pub ratings : 2048 < length (b .ratings)
 
 module _ (b : Buffers) (h : Roomy b) (q : Request) (answer : List ℤ) where
   -- ---- a request that is taken is whole, before and after
@@ -88,7 +93,8 @@ module _ (b : Buffers) (h : Roomy b) (q : Request) (answer : List ℤ) where
       (arith, h .distances, s .few, s .distances, one-member (q .left), one-member (q .right))) in
       let c = uncut (length (b .counts)) (q .counts) (omega (arith, h .counts, s .few, s .counts)) in
       let n = uncut (length (b .neighbours)) (q .neighbours) (omega (arith, h .neighbours, s .near, s .neighbours)) in
-      rw (o, d, c, n)
+      let w = uncut (length (b .ratings)) (q .ratings) (omega (arith, h .ratings, s .near, s .ratings)) in
+      rw (o, d, c, n, w)
 
   whole-after : isTaken (shortened b q) answer ≡ true → shortened b q ≡ q
   whole-after t =
@@ -98,7 +104,8 @@ module _ (b : Buffers) (h : Roomy b) (q : Request) (answer : List ℤ) where
       (arith, h .distances, s .few, s .distances, one-member (q .left), one-member (q .right))) in
       let c = uncut′ (length (b .counts)) (q .counts) (omega (arith, h .counts, s .few, s .counts)) in
       let n = uncut′ (length (b .neighbours)) (q .neighbours) (omega (arith, h .neighbours, s .near, s .neighbours)) in
-      rw (o, d, c, n)
+      let w = uncut′ (length (b .ratings)) (q .ratings) (omega (arith, h .ratings, s .near, s .ratings)) in
+      rw (o, d, c, n, w)
 
   pub call-short : callOf (shortened b q) answer ≡ callOf q answer
   call-short =

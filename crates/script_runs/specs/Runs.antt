@@ -1,11 +1,11 @@
--- `placerun r=3 [left=..] [right=..] old=1,2,3 counts=1,0,2 nbrs=4,5,6 dist=9,9 [answer=LEN]`: what its words say. They stand in any
--- order, none twice.
+-- `placerun r=3 [left=..] [right=..] old=1,2,3 counts=1,0,2 nbrs=4,5,6 dist=9,9 [ratings=1,1,1] [answer=LEN]`: what its words say. They
+-- stand in any order, none twice.
 use mathlib.Core.Bool.{Bool, true, cond, _&&_}
 use mathlib.Core.List.{List}
 use Prim.Native.Nat.{ℕ, _+_}
 use Prim.Native.String.{String}
 use lib.Dec.{eqb, leb}
-use lib.ListN.{length}
+use lib.ListN.{length, replicate}
 use Rattle.text.specs.Bytes.{bytes}
 use Rattle.run.specs.Call.{Request}
 use Rattle.run.specs.declared.types.Bound.{Bound}
@@ -31,13 +31,13 @@ hasParts ws =
     isSaid (bytes "r=") ws && isSaid (bytes "old=") ws && isSaid (bytes "counts=") ws && isSaid (bytes "nbrs=") ws
     && isSaid (bytes "dist=") ws
 
--- the bounds and the answer's length at most once, and nothing else: no name begins with another, so no word counts twice.
+-- the bounds, the ratings and the answer's length at most once, and nothing else: no name begins with another, so no word counts twice.
 unfoldable pub hasOptions : List (List ℕ) → Bool
 hasOptions ws =
-    leb (times "left=" ws) 1 && leb (times "right=" ws) 1 && leb (times "answer=" ws) 1
-    && eqb (length ws) (5 + times "left=" ws + times "right=" ws + times "answer=" ws)
+    leb (times "left=" ws) 1 && leb (times "right=" ws) 1 && leb (times "ratings=" ws) 1 && leb (times "answer=" ws) 1
+    && eqb (length ws) (5 + times "left=" ws + times "right=" ws + times "ratings=" ws + times "answer=" ws)
 
--- Each is a number, or a list of numbers, that its place can hold. A distance may be any number.
+-- Each is a number, or a list of numbers, that its place can hold. A distance and a rating may be any number.
 abbrev pub mayBound : List ℕ → List (List ℕ) → Bool
 mayBound name ws = cond (isSaid name ws) (isSigned (numberIn (valueOf name ws))) true
 
@@ -50,7 +50,7 @@ hasNumbers ws = isWhole (numberIn (value "r=" ws)) && mayBound (bytes "left=") w
 unfoldable pub hasLists : List (List ℕ) → Bool
 hasLists ws =
     isList Signed (value "old=" ws) && isList Unsigned (value "counts=" ws) && isList Signed (value "nbrs=" ws)
-    && isList Any (value "dist=" ws)
+    && isList Any (value "dist=" ws) && isList Any (value "ratings=" ws)
 
 -- Whether the words are a request.
 unfoldable pub isRequest : List (List ℕ) → Bool
@@ -66,7 +66,11 @@ boxesIn ws = wholeOf (numberIn (value "r=" ws))
 abbrev pub roomIn : List (List ℕ) → ℕ
 roomIn ws = cond (isSaid (bytes "answer=") ws) (wholeOf (numberIn (value "answer=" ws))) (boxesIn ws)
 
--- A distance below 0 is as good as 0: 8 refuses both.
+-- Document 02, E5: "without one it has rating 1". Without `ratings` each neighbour has rating 1.
+abbrev pub ratingsIn : List (List ℕ) → List ℕ
+ratingsIn ws = cond (isSaid (bytes "ratings=") ws) (wholesIn (value "ratings=" ws)) (replicate (length (signedsIn (value "nbrs=" ws))) 1)
+
+-- A distance or a rating below 0 is as good as 0: 8 refuses both.
 unfoldable pub requestIn : List (List ℕ) → Request
 requestIn ws = record {
   boxes = boxesIn ws;
@@ -76,4 +80,5 @@ requestIn ws = record {
   distances = wholesIn (value "dist=" ws);
   counts = wholesIn (value "counts=" ws);
   neighbours = signedsIn (value "nbrs=" ws);
+  ratings = ratingsIn ws;
 }

@@ -9,7 +9,7 @@ use script_words::parts::end_of;
 use script_words::types::Number;
 ghost use mathlib.Core.Path.{_≡_};
 ghost use Prim.Native.Nat.{_≤_};
-ghost use lib.ListN.{length};
+ghost use lib.ListN.{length, replicate};
 ghost use Rattle.script_words.specs.inner.Puts.{Puts};
 ghost use Rattle.script_runs.specs.Lists.{isNumber, mayStand, isList, wholesIn, signedsIn};
 ghost use Rattle.script_runs.specs.inner.Filled.{Fills};
@@ -106,6 +106,25 @@ pub fn signeds_in(word: &[u8], out: &mut [i64]) -> usize
     loop {
         let to = end_of(word, b',', from);
         n = put_signed(out, n, signed(number(&word[from..to])));
+        if to >= word.len() {
+            return n;
+        }
+        from = to + 1;
+    }
+}
+
+// A 1 for each number of a list, likewise.
+pub fn ones_in(word: &[u8], out: &mut [u64]) -> usize
+    ensures { λ r. ⌜ Fills (replicate (length (signedsIn (now (word .entry)))) 1) (length (now (out .entry))) r (now (out .exit)) ⌝ }
+{
+    if word.len() == 0 {
+        return 0;
+    }
+    let mut from: usize = 0;
+    let mut n: usize = 0;
+    loop {
+        let to = end_of(word, b',', from);
+        n = put_whole(out, n, 1);
         if to >= word.len() {
             return n;
         }

@@ -1,5 +1,6 @@
 // A command placerun: whether its words are a request, and which.
 use crate::lists::is_list;
+use crate::lists::ones_in;
 use crate::lists::signeds_in;
 use crate::lists::wholes_in;
 use crate::names::times;
@@ -13,9 +14,10 @@ use script_words::numbers::number;
 use script_words::numbers::signed;
 use script_words::numbers::whole;
 ghost use mathlib.Core.Path.{_≡_};
+ghost use lib.ListN.{length};
 ghost use Rattle.script_words.specs.Parts.{words};
-ghost use Rattle.script_runs.specs.Runs.{isSaid, mayBound, mayRoom, boundIn, boxesIn, roomIn, requestIn, hasParts, hasOptions, hasNumbers, hasLists, isRequest};
-ghost use Rattle.script_runs.specs.inner.Filled.{buffers, Asks};
+ghost use Rattle.script_runs.specs.Runs.{isSaid, mayBound, mayRoom, boundIn, boxesIn, roomIn, ratingsIn, requestIn, hasParts, hasOptions, hasNumbers, hasLists, isRequest};
+ghost use Rattle.script_runs.specs.inner.Filled.{Fills, buffers, Asks};
 
 fn is_once(given: &[u8], name: &[u8]) -> bool
     ensures { λ r. ⌜ r ≡ isSaid (now (name .entry)) (words (now (given .entry))) ⌝ }
@@ -42,7 +44,7 @@ fn has_parts(given: &[u8]) -> bool
     is_once(given, b"dist=")
 }
 
-// the bounds and the answer's length at most once, and nothing else.
+// the bounds, the ratings and the answer's length at most once, and nothing else.
 fn has_options(given: &[u8]) -> bool
     ensures { λ r. ⌜ r ≡ hasOptions (words (now (given .entry))) ⌝ }
 {
@@ -54,11 +56,15 @@ fn has_options(given: &[u8]) -> bool
     if 1 < right {
         return false;
     }
+    let ratings = times(given, b"ratings=");
+    if 1 < ratings {
+        return false;
+    }
     let answer = times(given, b"answer=");
     if 1 < answer {
         return false;
     }
-    times(given, b"") == 5 + left + right + answer
+    times(given, b"") == 5 + left + right + ratings + answer
 }
 
 fn may_bound(given: &[u8], name: &[u8]) -> bool
@@ -106,7 +112,10 @@ fn has_lists(given: &[u8]) -> bool
     if !is_list(Kind::Signed, value(given, b"nbrs=")) {
         return false;
     }
-    is_list(Kind::Any, value(given, b"dist="))
+    if !is_list(Kind::Any, value(given, b"dist=")) {
+        return false;
+    }
+    is_list(Kind::Any, value(given, b"ratings="))
 }
 
 // Whether the words are a request.
@@ -149,6 +158,16 @@ fn room_in(given: &[u8]) -> u64
     boxes_in(given)
 }
 
+// The ratings that are said, or a 1 for each neighbour, at the front of a buffer, as many as it has room for: how many there are.
+fn ratings_in(given: &[u8], out: &mut [u64]) -> usize
+    ensures { λ r. ⌜ Fills (ratingsIn (words (now (given .entry)))) (length (now (out .entry))) r (now (out .exit)) ⌝ }
+{
+    if is_once(given, b"ratings=") {
+        return wholes_in(value(given, b"ratings="), out);
+    }
+    ones_in(value(given, b"nbrs="), out)
+}
+
 // The request that the words are, its lists in the lent buffers, as far as they have room.
 pub fn request(
     given: &[u8],
@@ -156,10 +175,11 @@ pub fn request(
     distances: &mut [u64],
     counts: &mut [u64],
     neighbours: &mut [i64],
+    ratings: &mut [u64],
 ) -> RunRequest
     ensures { λ r. ⌜ Asks (requestIn (words (now (given .entry)))) (roomIn (words (now (given .entry))))
-        (buffers (now (old .entry)) (now (distances .entry)) (now (counts .entry)) (now (neighbours .entry))) r
-        (buffers (now (old .exit)) (now (distances .exit)) (now (counts .exit)) (now (neighbours .exit))) ⌝ }
+        (buffers (now (old .entry)) (now (distances .entry)) (now (counts .entry)) (now (neighbours .entry)) (now (ratings .entry))) r
+        (buffers (now (old .exit)) (now (distances .exit)) (now (counts .exit)) (now (neighbours .exit)) (now (ratings .exit))) ⌝ }
 {
     let left = bound_in(given, b"left=");
     let right = bound_in(given, b"right=");
@@ -171,6 +191,7 @@ pub fn request(
         distances: wholes_in(value(given, b"dist="), distances),
         counts: wholes_in(value(given, b"counts="), counts),
         neighbours: signeds_in(value(given, b"nbrs="), neighbours),
+        ratings: ratings_in(given, ratings),
         room: room_in(given),
     }
 }

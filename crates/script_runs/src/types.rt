@@ -17,5 +17,6 @@ pub struct RunRequest {
     pub distances: usize,
     pub counts: usize,
     pub neighbours: usize,
+    pub ratings: usize,
     pub room: u64,
 }

@@ -108,11 +108,12 @@ pub fn place(
     distances: &[u64],
     counts: &[u64],
     neighbours: &[i64],
+    ratings: &[u64],
     out: &mut [u8],
 ) -> OneAnswer
-    requires { ⌜ Within (buffers (now old) (now distances) (now counts) (now neighbours)) run × (maxAnswer ≤ length (now out)) ⌝ }
-    ensures { λ r. ⌜ Single (runSaid (callOf (requestWith run (buffers (now (old .entry)) (now (distances .entry)) (now (counts .entry)) (now (neighbours .entry)))) (replicate (run .room) (pos 0))))
-        sheet (now (out .entry)) (r .sheet) (r .written) (r .more) (now (out .exit)) ⌝ }
+    requires { ⌜ Within (buffers (now old) (now distances) (now counts) (now neighbours) (now ratings)) run × (maxAnswer ≤ length (now out)) ⌝ }
+    ensures { λ r. ⌜ Single (runSaid (callOf (requestWith run (buffers (now (old .entry)) (now (distances .entry)) (now (counts .entry)) (now (neighbours .entry))
+        (now (ratings .entry)))) (replicate (run .room) (pos 0)))) sheet (now (out .entry)) (r .sheet) (r .written) (r .more) (now (out .exit)) ⌝ }
 {
     let left = run.left;
     let right = run.right;
@@ -120,6 +121,7 @@ pub fn place(
     let d = run.distances;
     let c = run.counts;
     let m = run.neighbours;
+    let w = run.ratings;
     let mut answer = [0i64; TOO_MANY];
     let room = at_most(run.room as usize, TOO_MANY);
     let written = answer_run(
@@ -130,6 +132,7 @@ pub fn place(
         &distances[..d],
         &counts[..c],
         &neighbours[..m],
+        &ratings[..w],
         &mut answer[..room],
         out,
         0,

@@ -26,12 +26,13 @@ pub fn turn(
     distances: &[u64],
     counts: &[u64],
     neighbours: &[i64],
+    ratings: &[u64],
     n: usize,
     out: &mut [u8],
 ) -> OneAnswer
-    requires { ⌜ Asked command (lent (now text) (buffers (now old) (now distances) (now counts) (now neighbours))) sheet n (now out) ⌝ }
-    ensures { λ r. ⌜ Answers (turnOf (commandIn command (lent (now (text .entry)) (buffers (now (old .entry)) (now (distances .entry)) (now (counts .entry)) (now (neighbours .entry))))) sheet)
-        n (now (out .entry)) (r .sheet) (r .written) (r .more) (now (out .exit)) ⌝ }
+    requires { ⌜ Asked command (lent (now text) (buffers (now old) (now distances) (now counts) (now neighbours) (now ratings))) sheet n (now out) ⌝ }
+    ensures { λ r. ⌜ Answers (turnOf (commandIn command (lent (now (text .entry)) (buffers (now (old .entry)) (now (distances .entry))
+        (now (counts .entry)) (now (neighbours .entry)) (now (ratings .entry))))) sheet) n (now (out .entry)) (r .sheet) (r .written) (r .more) (now (out .exit)) ⌝ }
 {
     match command {
         Command::Skip => OneAnswer {
@@ -64,7 +65,16 @@ pub fn turn(
         Command::Mark(k) => one_call(sheet, Call::Mark(k), b"", 0, out),
         Command::Marks => next_call(sheet, Call::Mark(n), n, 0, out),
         Command::Walk(l, size) => walk(sheet, l, &text[..size], out),
-        Command::PlaceRun(run) => place(sheet, run, old, distances, counts, neighbours, out),
+        Command::PlaceRun(run) => place(
+            sheet,
+            run,
+            old,
+            distances,
+            counts,
+            neighbours,
+            ratings,
+            out,
+        ),
         Command::Poke(what) => alter(sheet, what, out),
     }
 }

@@ -57,6 +57,7 @@ module _ (tangled : Bool) (m : List ℕ) (p : PlanData) (a : acceptable p ≡ tr
         halves = filled (p .halves) maxVertices 0 (omega (arith, l .vertices, l .halves-long));
         uppers = filled (p .uppers) maxSegments 0 (l .segments);
         lowers = filled (p .lowers) maxSegments 0 (omega (arith, l .segments, l .ends-long));
+        ratings = filled (p .ratings) maxSegments 0 (omega (arith, l .segments, l .ratings-long));
       }
 
   -- demand 3 is judged on the plan that was stored

@@ -19,6 +19,7 @@ pub record PlanArrays (p : Plan) : Type 0 where
   pub halves : length (p .halves) ≡ maxVertices
   pub uppers : length (p .uppers) ≡ maxSegments
   pub lowers : length (p .lowers) ≡ maxSegments
+  pub ratings : length (p .ratings) ≡ maxSegments
 
 pub record DrawingArrays (d : Arrays) : Type 0 where
   pub preliminary : length (d .preliminary) ≡ maxVertices
@@ -36,6 +37,7 @@ pub record PlanCut (p : Plan) (c : Counts) : Type 0 where
   pub halves : c .vertices ≤ length (p .halves)
   pub uppers : c .segments ≤ length (p .uppers)
   pub lowers : c .segments ≤ length (p .lowers)
+  pub ratings : c .segments ≤ length (p .ratings)
   pub few : c .vertices ≤ maxVertices
 
 pub record DrawingCut (d : Arrays) (c : Counts) : Type 0 where
@@ -54,6 +56,7 @@ plan-cut {p} a c h =
       halves = omega (arith, s .vertices, a .halves);
       uppers = omega (arith, s .segments, a .uppers);
       lowers = omega (arith, s .segments, a .lowers);
+      ratings = omega (arith, s .segments, a .ratings);
       few = s .vertices;
     }
 

@@ -14,9 +14,8 @@ use Rattle.plan.proofs.Sound.{sound}
 use Rattle.report_validity.proofs.Stored.{stored-of}
 use Rattle.passes.specs.Drawing.{drawingOf}
 use Rattle.passes.specs.Stored.{padded}
-use Rattle.plan.specs.inner.Held.{HoldsPlan as Lists}
 use Rattle.pass_list.proofs.Padded.{padded-write}
-use Rattle.pass_draw.specs.inner.Made.{Made}
+use Rattle.pass_draw.specs.inner.Made.{HoldsRated, Made}
 use Rattle.report.specs.declared.data.Counts.{Counts}
 use Rattle.report.specs.declared.data.NewDrawing.{NewDrawing}
 use Rattle.report.specs.Arrays.{arraysOf}
@@ -26,18 +25,22 @@ use Rattle.sheet_data.proofs.ReadBack.{demand3-of}
 
 -- ---- the plan's lists
 pub plan-lists : (p : Plan) (c : Counts) → isPlanWith p c ≡ true
-    → Lists (planWith p c) (p .gap) (take (p .levels) (p .sizes)) (take (c .vertices) (p .vias)) (take (c .vertices) (p .halves)) (take (c .segments) (p .uppers)) (take (c .segments) (p .lowers))
+    → HoldsRated (planWith p c) (p .gap) (take (p .levels) (p .sizes)) (take (c .vertices) (p .vias)) (take (c .vertices) (p .halves))
+    (take (c .segments) (p .uppers)) (take (c .segments) (p .lowers)) (take (c .segments) (p .ratings))
 plan-lists p c h =
     let s = stored-of p (c .vertices) (c .segments) h in
     record {
-      levelsAre = sym (sound (planWith p c) (s .plan) .limits .sizes-long);
-      gapIs = refl;
-      sizesAre = refl;
-      viasAre = refl;
-      halvesAre = refl;
-      uppersAre = refl;
-      lowersAre = refl;
-      ok = s .plan;
+      lists = record {
+        levelsAre = sym (sound (planWith p c) (s .plan) .limits .sizes-long);
+        gapIs = refl;
+        sizesAre = refl;
+        viasAre = refl;
+        halvesAre = refl;
+        uppersAre = refl;
+        lowersAre = refl;
+        ok = s .plan;
+      };
+      ratingsAre = refl;
     }
 
 -- ---- the arrays of a drawing just made

@@ -33,6 +33,7 @@ pub fn draw_into(
     let halves = plan.halves;
     let uppers = plan.uppers;
     let lowers = plan.lowers;
+    let ratings = plan.ratings;
     draw(
         plan.gap,
         &sizes[..k],
@@ -40,6 +41,7 @@ pub fn draw_into(
         &halves[..v],
         &uppers[..e],
         &lowers[..e],
+        &ratings[..e],
         preliminary,
         finals,
         passes,

@@ -7,6 +7,7 @@ use native.Mathlib.Omega.{arith}
 use lib.ListN.{length, take, drop, length-append}
 use lib.Seq.{length-take-le, take-at}
 use Rattle.plan.specs.Plan.{vertexCount}
+use Rattle.plan.specs.Segments.{segmentsOf}
 use Rattle.plan.specs.Acceptable.{limitsHold}
 use Rattle.plan.specs.Stored.{storedPlan}
 use Rattle.plan.specs.declared.data.Plan.{Plan}
@@ -40,12 +41,12 @@ pub by-front : {A : Type 0} (G : List A → Type 0) (rest : List A) {xs ys : Lis
 by-front G rest {xs} {ys} {n} e f g = rw (take-at xs rest n e, f) at g
 
 -- ---- what `renumber` asks, once the numbers are inverted
-pub inverse-many : {m : List ℕ} {vias : List Bool} {halves uppers lowers inv : List ℕ} → Numbered m vias halves uppers lowers → inv ≡ inverse m → length inv ≡ length m
+pub inverse-many : {m : List ℕ} {vias : List Bool} {halves uppers lowers ratings inv : List ℕ} → Numbered m vias halves uppers lowers ratings → inv ≡ inverse m → length inv ≡ length m
 inverse-many {m} n e = ap length e ∙ inverse-long (length m) m (n .once)
 
-pub renumberable : {m : List ℕ} {vias : List Bool} {halves uppers lowers : List ℕ} → Numbered m vias halves uppers lowers
+pub renumberable : {m : List ℕ} {vias : List Bool} {halves uppers lowers ratings : List ℕ} → Numbered m vias halves uppers lowers ratings
     → {spare places codes : List ℕ} {flags : List Bool} → length spare ≡ length m → length flags ≡ length m → length places ≡ length m → length codes ≡ length uppers
-    → (inv : List ℕ) → inv ≡ inverse m → Renumberable inv vias halves uppers lowers spare flags places codes
+    → (inv : List ℕ) → inv ≡ inverse m → Renumberable inv vias halves uppers lowers ratings spare flags places codes
 renumberable {m} n s f p c inv e =
     let long : length inv ≡ length m = inverse-many n e in
     let once : Once (length m) inv = rw e (inverse-once (length m) m (n .once)) in
@@ -53,6 +54,8 @@ renumberable {m} n s f p c inv e =
       movable = record {
         numbers = record { few = omega (arith, n .few); long = p ∙ sym long; once = rw long once };
         ends = n .ends;
+        rise = n .rise;
+        rated = n .rated;
         long = c;
         upper = λ i h. omega (arith, n .upper i h);
         lower = λ i h. omega (arith, n .lower i h);
@@ -77,7 +80,8 @@ module _ (p : Plan) (m : List ℕ) (c : Counts) (h : isPlanWith p c ≡ true) (t
   many : vertexCount (planWith p c) ≡ c .vertices
   many = length-take-le (c .vertices) (p .vias) (cut .vias)
 
-  pub numbered : Numbered (numbersIn m c) (take (c .vertices) (p .vias)) (take (c .vertices) (p .halves)) (take (c .segments) (p .uppers)) (take (c .segments) (p .lowers))
+  pub numbered : Numbered (numbersIn m c) (take (c .vertices) (p .vias)) (take (c .vertices) (p .halves)) (take (c .segments) (p .uppers)) (take (c .segments) (p .lowers)) (take (c .segments) (p .ratings))
+  unfolding segmentsOf
   numbered =
       let s = sound (planWith p c) (stored .plan) in
       let long = its-own .once .long in
@@ -88,6 +92,8 @@ module _ (p : Plan) (m : List ℕ) (c : Counts) (h : isPlanWith p c ≡ true) (t
         halves-long = s .limits .halves-long ∙ sym long;
         segments = s .limits .segments;
         ends = sym (s .limits .ends-long);
+        rise = s .sorted;
+        rated = record { long = s .limits .ratings-long; each = s .limits .ratings };
         upper = λ i k. omega (arith, s .ends .upper i k);
         lower = λ i k. omega (arith, s .ends .lower i k);
       }
@@ -96,12 +102,12 @@ module _ (p : Plan) (m : List ℕ) (c : Counts) (h : isPlanWith p c ≡ true) (t
   its-limits = read-limits (planWith p c) (numbersIn m c) (stored .plan) t
 
   -- ---- the arrays with their fronts written anew
-  module _ (vias : List Bool) (halves uppers lowers : List ℕ) (l : Lists (readWith p m c) vias halves uppers lowers)
-      (vl : length vias ≡ c .vertices) (hl : length halves ≡ c .vertices) (ul : length uppers ≡ c .segments) (ll : length lowers ≡ c .segments) where
+  module _ (vias : List Bool) (halves uppers lowers ratings : List ℕ) (l : Lists (readWith p m c) vias halves uppers lowers ratings)
+      (vl : length vias ≡ c .vertices) (hl : length halves ≡ c .vertices) (ul : length uppers ≡ c .segments) (ll : length lowers ≡ c .segments) (wl : length ratings ≡ c .segments) where
     abbrev pub readPlan : Plan
     readPlan =
         storedPlan (p .levels) (p .gap) (p .spacing) (p .sizes) (vias ++ drop (c .vertices) (p .vias)) (halves ++ drop (c .vertices) (p .halves))
-        (uppers ++ drop (c .segments) (p .uppers)) (lowers ++ drop (c .segments) (p .lowers))
+        (uppers ++ drop (c .segments) (p .uppers)) (lowers ++ drop (c .segments) (p .lowers)) (ratings ++ drop (c .segments) (p .ratings))
 
     read-is : planWith readPlan c ≡ readWith p m c
     read-is =
@@ -110,6 +116,7 @@ module _ (p : Plan) (m : List ℕ) (c : Counts) (h : isPlanWith p c ≡ true) (t
         let hs = take-at halves (drop (c .vertices) (p .halves)) (c .vertices) hl ∙ sym (l .halvesAre) in
         let us = take-at uppers (drop (c .segments) (p .uppers)) (c .segments) ul ∙ sym (l .uppersAre) in
         let ls = take-at lowers (drop (c .segments) (p .lowers)) (c .segments) ll ∙ sym (l .lowersAre) in
+        let ws = take-at ratings (drop (c .segments) (p .ratings)) (c .segments) wl ∙ sym (l .ratingsAre) in
         λ i. record {
           levels = sym (q .levels) i;
           gap = sym (q .gap) i;
@@ -119,12 +126,13 @@ module _ (p : Plan) (m : List ℕ) (c : Counts) (h : isPlanWith p c ≡ true) (t
           halves = hs i;
           uppers = us i;
           lowers = ls i;
+          ratings = ws i;
         }
 
     lines-same : length (linesOf (readWith p m c)) ≡ p .levels + c .segments + 2
     lines-same =
         let t = limits (readWith p m c) its-limits in
-        lines-count (readWith p m c) (t .ends-long)
+        lines-count (readWith p m c) (t .ends-long, t .ratings-long)
         ∙ omega (arith, t .sizes-long, header-same (planWith p c) (inverse (numbersIn m c)) .levels, ap length (l .uppersAre), ul)
 
     pub as-read : AsRead p m c readPlan

@@ -4,13 +4,15 @@ use mathlib.Core.Bool.{Bool, true, false, cond}
 use mathlib.Core.List.{List, [], _∷_, _++_, map}
 use Prim.Native.Nat.{ℕ, zero, suc, _+_, _-_, _*_, _<_, _≤_}
 use native.Mathlib.Omega.{arith}
+use lib.Dec.{eqb}
 use lib.ListN.{length, getD, take, length-append}
 use Rattle.ints.specs.Lists.{sum, concat}
 use Rattle.ints.proofs.Laws.{cases}
 use Rattle.ints.proofs.Members.{getD-mem}
+use Rattle.ints.proofs.Ratings.{rating-most, ratings-get}
 use Rattle.plan.specs.Limits.{maxHalfWidth}
 use Rattle.plan.specs.Plan.{PlanData, isVia, halfWidth}
-use Rattle.plan.specs.Segments.{Segment, segmentsFrom, segmentsOf}
+use Rattle.plan.specs.Segments.{Rated, segmentsFrom, segmentsOf}
 use Rattle.plan.specs.Checks.{check3}
 use Rattle.plan.specs.Acceptable.{limitsHold}
 use Rattle.plan.specs.inner.Graph.{segment}
@@ -21,9 +23,9 @@ use Rattle.plan.proofs.GraphLaws.{Down}
 use Rattle.plan.proofs.Sound.{goes}
 use Rattle.text.specs.Bytes.{bytes}
 use Rattle.text.specs.Decimal.{decimal}
-use Rattle.text.specs.Writing.{planLine, vertexWords, levelLineOf, segmentLineOf, linesOf}
+use Rattle.text.specs.Writing.{planLine, vertexWords, levelLineOf, ratingWords, segmentLineOf, linesOf}
 use Rattle.text.proofs.DecimalLaws.{decimal-length}
-use Rattle.text_write.specs.inner.Data.{lineOf, levelVertices}
+use Rattle.text_write.specs.inner.Data.{lineOf, levelVertices, ratedSegment}
 use Rattle.text_write.proofs.LineLaws.{line-plan, line-level, line-segment, line-last}
 
 abbrev pub maxTextLine : ℕ
@@ -55,24 +57,33 @@ module _ (p : PlanData) (l : Limits p) where
   unfolding levelLineOf
   level-short vs = simp length-append (omega (arith, vertices-short vs))
 
-segment-short : (s : Segment) → s .upper < 1024 → s .lower < 1024 → length (segmentLineOf s) ≤ 16
+rating-short : (w : ℕ) → w ≤ 100 → length (ratingWords w) ≤ 4
+unfolding ratingWords
+rating-short w h = go (eqb w 1)
+  where
+    go : (b : Bool) → length (cond b [] (bytes " " ++ decimal w)) ≤ 4
+    go true = omega arith
+    go false = let d = decimal-length 2 w (omega arith) in simp length-append (omega arith)
+
+segment-short : (r : Rated) → r .segment .upper < 1024 → r .segment .lower < 1024 → r .rating ≤ 100 → length (segmentLineOf r) ≤ 20
 unfolding segmentLineOf
-segment-short s a b =
-    let la = decimal-length 3 (s .upper) (omega arith) in
-    let lb = decimal-length 3 (s .lower) (omega arith) in
-    simp length-append (omega arith)
+segment-short r a b h =
+    let la = decimal-length 3 (r .segment .upper) (omega arith) in
+    let lb = decimal-length 3 (r .segment .lower) (omega arith) in
+    simp length-append (omega (arith, rating-short (r .rating) h))
 
 module _ (p : PlanData) (q : limitsHold p ≡ true) (three : check3 p ≡ true) where
   its : Limits p
   its = limits p q
 
-  segment-line : (i : ℕ) → i < length (p .uppers) → length (segmentLineOf (segment (getD (p .uppers) i 0) (getD (p .lowers) i 0))) ≤ 16
+  segment-line : (i : ℕ) → i < length (p .uppers) → length (segmentLineOf (ratedSegment (getD (p .uppers) i 0) (getD (p .lowers) i 0) (getD (p .ratings) i 0))) ≤ 20
   unfolding segmentsOf
   segment-line i h =
       let at = segment-at (p .uppers) (p .lowers) i (its .ends-long) h in
       let d = goes p three (getD (segmentsFrom (p .uppers) (p .lowers)) i (segment 0 0)) (getD-mem (segmentsFrom (p .uppers) (p .lowers)) i (segment 0 0) (omega (arith, segments-count (p .uppers) (p .lowers) (its .ends-long)))) in
       let e : Down p (segment (getD (p .uppers) i 0) (getD (p .lowers) i 0)) = rw at at d in
       segment-short _ (omega (arith, e .upper-in, its .vertices)) (omega (arith, e .lower-in, its .vertices))
+      (rating-most (getD (p .ratings) i 0) (ratings-get (p .ratings) i (its .ratings) (omega (arith, its .ratings-long))))
 
   level-line : (n : ℕ) → length (levelLineOf p (levelVertices (p .sizes) n)) ≤ maxTextLine
   level-line n = omega (arith, level-short p its (levelVertices (p .sizes) n), length-numbers (sum (take n (p .sizes))) (getD (p .sizes) n 0), its .sizes-high n)
@@ -84,5 +95,5 @@ module _ (p : PlanData) (q : limitsHold p ≡ true) (three : check3 p ≡ true) 
       cases (suc n) (length (p .sizes))
       (λ k. rw (line-level p (suc n) (omega arith) k) (level-line (suc n - 1)))
       (λ k. cases (length (p .uppers)) at
-      (λ j. rw (line-last p (suc n) k (its .ends-long) j h) (omega arith))
-      (λ j. rw (line-segment p (suc n) k (its .ends-long) j) (omega (arith, segment-line at j))))
+      (λ j. rw (line-last p (suc n) k (its .ends-long, its .ratings-long) j h) (omega arith))
+      (λ j. rw (line-segment p (suc n) k (its .ends-long, its .ratings-long) j) (omega (arith, segment-line at j))))

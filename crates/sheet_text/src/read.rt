@@ -18,10 +18,11 @@ fn number_back(
     halves: &mut [u16],
     uppers: &mut [u32],
     lowers: &mut [u32],
+    ratings: &mut [u32],
 )
-    requires { ⌜ Numbered (now remembered) (now vias) (now halves) (now uppers) (now lowers) ⌝ }
-    ensures { λ _. ⌜ ((p : PlanData) → Lists p (now (vias .entry)) (now (halves .entry)) (now (uppers .entry)) (now (lowers .entry))
-        → Lists (renumbered p (inverse (now (remembered .entry)))) (now (vias .exit)) (now (halves .exit)) (now (uppers .exit)) (now (lowers .exit))) ⌝ }
+    requires { ⌜ Numbered (now remembered) (now vias) (now halves) (now uppers) (now lowers) (now ratings) ⌝ }
+    ensures { λ _. ⌜ ((p : PlanData) → Lists p (now (vias .entry)) (now (halves .entry)) (now (uppers .entry)) (now (lowers .entry)) (now (ratings .entry))
+        → Lists (renumbered p (inverse (now (remembered .entry)))) (now (vias .exit)) (now (halves .exit)) (now (uppers .exit)) (now (lowers .exit)) (now (ratings .exit))) ⌝ }
 {
     let v = remembered.len();
     let e = uppers.len();
@@ -37,6 +38,7 @@ fn number_back(
         halves,
         uppers,
         lowers,
+        ratings,
         &mut spare[..v],
         &mut flags[..v],
         &mut places[..v],
@@ -56,12 +58,14 @@ pub fn as_read(plan: Plan, remembered: [u16; Plan::MAX_VERTICES], counts: Counts
     let mut halves = plan.halves;
     let mut uppers = plan.uppers;
     let mut lowers = plan.lowers;
+    let mut ratings = plan.ratings;
     number_back(
         &remembered[..v],
         &mut vias[..v],
         &mut halves[..v],
         &mut uppers[..e],
         &mut lowers[..e],
+        &mut ratings[..e],
     );
     Plan::new(
         plan.levels,
@@ -72,5 +76,6 @@ pub fn as_read(plan: Plan, remembered: [u16; Plan::MAX_VERTICES], counts: Counts
         halves,
         uppers,
         lowers,
+        ratings,
     )
 }

@@ -1,29 +1,32 @@
 -- The limits of a plan's data and the limits of the lines of a text, fact by fact, and that they say the same: lines that
 -- were read and pass check 2 store data within the limits, and the lines of such data can be read and pass check 2.
-use mathlib.Core.Path.{_≡_, sym, _∙_, ap}
+use mathlib.Core.Path.{_≡_, refl, sym, _∙_, ap}
 use mathlib.Core.Bool.{Bool, true, _&&_}
 use mathlib.Core.List.{List, [], _∷_, map}
+use mathlib.Core.Option.{Option, none, some}
 use Prim.Native.Nat.{ℕ, _+_, _≤_, _<_}
 use native.Mathlib.Omega.{arith}
 use borrow.Author.Tests.{leb-true, le-leb, eqb-true, eq-eqb, ltb-true, lt-ltb}
 use lib.Dec.{ltb, leb, eqb}
 use lib.ListN.{length, length-map}
 use Rattle.ints.specs.Lists.{sum, concat}
+use Rattle.ints.specs.Ratings.{maxRating}
 use Rattle.ints.proofs.Lists.{concat-length}
 use Rattle.plan.specs.Plan.{PlanData, vertexCount, levelOf}
-use Rattle.plan.specs.Segments.{Segment, segmentsFrom, segmentsOf}
+use Rattle.plan.specs.Segments.{Segment, segmentsFrom, segmentsOf, ratedFrom, ratedOf}
 use Rattle.plan.specs.Limits.{within, maxLevels, maxGap, maxSpacing, maxOnLevel, maxVertices, maxSegments}
 use Rattle.plan.specs.Checks.{every, goesOneDown, check3}
 use Rattle.ints.proofs.Tests.{and-left, and-right, conj-at, _and_}
 use Rattle.plan.proofs.LimitLaws.{LimitTests, within-most}
-use Rattle.plan.proofs.SegmentLaws.{uppers-again}
-use Rattle.text.specs.Form.{Vertex, Lines}
-use Rattle.text.specs.Reading.{halfInLimit, rowInLimit, check2, stored}
+use Rattle.plan.proofs.RatedLaws.{rated-count}
+use Rattle.plan.proofs.SegmentLaws.{segments-count}
+use Rattle.text.specs.Form.{Vertex, SegmentLine, Lines}
+use Rattle.text.specs.Reading.{halfInLimit, rowInLimit, ratingInLimit, ratingOf, check2, stored}
 use Rattle.text.proofs.TestLaws.{every-so, every-and}
 use Rattle.text.proofs.DecimalLaws.{fits}
-use Rattle.text.proofs.WrittenLines.{vertexOk, segmentOk}
+use Rattle.text.proofs.WrittenLines.{vertexOk, ratingOk, segmentOk}
 use Rattle.text.proofs.WrittenForm.{LinesOk}
-use Rattle.text.proofs.PlanLines.{verticesFrom, vertices-of, halves-hold, rowsFrom, rows-of, sizes-hold, order-holds, linesFrom, lines-stored}
+use Rattle.text.proofs.PlanLines.{verticesFrom, vertices-of, halves-hold, rowsFrom, rows-of, sizes-hold, order-holds, segmentLineFrom, ratings-hold, ratings-in-limit, linesFrom, lines-stored}
 
 -- ---- the limits of lines
 pub record LineLimits (l : Lines) : Type 0 where
@@ -34,13 +37,15 @@ pub record LineLimits (l : Lines) : Type 0 where
   pub rows : every rowInLimit (l .rows) ≡ true
   pub vertices : sum (map length (l .rows)) ≤ maxVertices
   pub segments : length (l .segments) ≤ maxSegments
+  pub ratings : every (λ s. ratingInLimit (s .rating)) (l .segments) ≡ true
 
 -- the tests of `check2` after the first
 abbrev furtherLineLimits : Lines → List Bool
 furtherLineLimits l =
     within 1 maxGap (l .gap) ∷ within 1 maxSpacing (l .spacing)
     ∷ eqb (length (l .rows)) (l .levels) ∷ every rowInLimit (l .rows)
-    ∷ leb (sum (map length (l .rows))) maxVertices ∷ leb (length (l .segments)) maxSegments ∷ []
+    ∷ leb (sum (map length (l .rows))) maxVertices ∷ leb (length (l .segments)) maxSegments
+    ∷ every (λ s. ratingInLimit (s .rating)) (l .segments) ∷ []
 
 pub check2-of : (l : Lines) → check2 l ≡ true → LineLimits l
 unfolding check2
@@ -54,6 +59,7 @@ check2-of l h =
       rows = test 4;
       vertices = leb-true (sum (map length (l .rows))) maxVertices (test 5);
       segments = leb-true (length (l .segments)) maxSegments (test 6);
+      ratings = test 7;
     }
 
 pub check2-holds : (l : Lines) → LineLimits l → check2 l ≡ true
@@ -62,6 +68,7 @@ check2-holds l h =
     h .levels and h .gap and h .spacing
     and eq-eqb (length (l .rows)) (l .levels) (h .counted) and h .rows
     and le-leb (sum (map length (l .rows))) maxVertices (h .vertices) and le-leb (length (l .segments)) maxSegments (h .segments)
+    and h .ratings
 
 -- ---- lines that were read, within the limits, store data within the limits
 pub stored-limits : (l : Lines) → LinesOk l → LineLimits l → LimitTests (stored l)
@@ -80,8 +87,10 @@ stored-limits l ok h =
       summed = sym (concat-length (l .rows)) ∙ sym count;
       vertices = omega (arith, h .vertices, concat-length (l .rows), count);
       halves = halves-hold all (order-holds (ltb 0) vertexOk (l .rows) (ok .rows)) (order-holds (λ n. leb n maxOnLevel) halfInLimit (l .rows) (h .rows));
-      ends = length-map (l .segments) (λ s. s .lower) ∙ sym (length-map (l .segments) (λ s. s .upper));
-      segments = omega (arith, h .segments, length-map (l .segments) (λ s. s .upper));
+      ends = length-map (l .segments) (λ s. s .segment .lower) ∙ sym (length-map (l .segments) (λ s. s .segment .upper));
+      segments = omega (arith, h .segments, length-map (l .segments) (λ s. s .segment .upper));
+      rated = length-map (l .segments) (λ s. ratingOf (s .rating)) ∙ sym (length-map (l .segments) (λ s. s .segment .upper));
+      ratings = ratings-hold (l .segments) (h .ratings);
     }
 
 -- ---- and the lines of data within the limits can be read, and are within the limits
@@ -90,9 +99,9 @@ within-fits lo hi n l h = lt-ltb n 100000 (omega (arith, within-most lo hi n h))
 
 module _ (p : PlanData) (h : LimitTests p) where
   pub lines-stored-again : stored (linesFrom p) ≡ p
-  lines-stored-again = lines-stored p (h .halves) (h .summed) (h .ends)
+  lines-stored-again = lines-stored p (h .halves) (h .summed) (h .ends) (h .rated)
 
-  pub lines-ok : every segmentOk (segmentsOf p) ≡ true → LinesOk (linesFrom p)
+  pub lines-ok : every segmentOk (map segmentLineFrom (ratedOf p)) ≡ true → LinesOk (linesFrom p)
   unfolding linesFrom
   lines-ok s =
       let v = vertices-of (p .vias) (p .halves) (h .halves) in
@@ -106,11 +115,13 @@ module _ (p : PlanData) (h : LimitTests p) where
       }
 
   pub lines-limits : LineLimits (linesFrom p)
-  unfolding linesFrom segmentsOf
+  unfolding linesFrom segmentsOf ratedOf
   lines-limits =
       let v = vertices-of (p .vias) (p .halves) (h .halves) in
       let r = rows-of (p .sizes) (verticesFrom (p .vias) (p .halves)) (h .summed ∙ sym (v .count)) in
       let few : ℕ → Bool = λ n. leb n maxOnLevel in
+      let ss = segmentsFrom (p .uppers) (p .lowers) in
+      let count = segments-count (p .uppers) (p .lowers) (h .ends) in
       record {
         levels = h .levels;
         gap = h .gap;
@@ -118,7 +129,8 @@ module _ (p : PlanData) (h : LimitTests p) where
         counted = sym (length-map (rowsFrom (p .sizes) (verticesFrom (p .vias) (p .halves))) length) ∙ ap length (r .sizes-again) ∙ h .counted;
         rows = r .hold few halfInLimit (every-so (within 1 maxOnLevel) few (λ n e. and-right (leb 1 n) (leb n maxOnLevel) e) (p .sizes) (h .sizes)) (v .in-limit);
         vertices = rw (r .sizes-again) (omega (arith, h .summed, h .vertices));
-        segments = omega (arith, h .segments, length-map (segmentsFrom (p .uppers) (p .lowers)) (λ s. s .upper), ap length (uppers-again (p .uppers) (p .lowers) (h .ends)));
+        segments = omega (arith, h .segments, count, length-map (ratedFrom ss (p .ratings)) segmentLineFrom, rated-count ss (p .ratings) (h .rated ∙ sym count));
+        ratings = ratings-in-limit ss (p .ratings) (h .ratings);
       }
 
 -- ---- the ends of segments are vertices, if check 3 passes
@@ -136,11 +148,22 @@ ends-below p l e = every-so (goesOneDown p) endsBelow below (segmentsOf p) e
         let b = ltb-true (s .lower) (vertexCount p) (test 1) in
         lt-ltb (s .upper) maxVertices (omega arith) and lt-ltb (s .lower) maxVertices (omega arith)
 
-pub ends-ok : (ss : List Segment) → every endsBelow ss ≡ true → every segmentOk ss ≡ true
-ends-ok ss e = every-so endsBelow segmentOk ok ss e
+rating-ok : (o : Option ℕ) → ratingInLimit o ≡ true → ratingOk o ≡ true
+rating-ok none e = refl
+rating-ok (some w) e = within-fits 2 maxRating w (omega arith) e
+
+-- a line whose numbers can be read
+abbrev pub shortLine : SegmentLine → Bool
+shortLine s = endsBelow (s .segment) && ratingInLimit (s .rating)
+
+pub ends-ok : (ss : List SegmentLine) → every shortLine ss ≡ true → every segmentOk ss ≡ true
+ends-ok ss e = every-so shortLine segmentOk ok ss e
   where
-    ok : (s : Segment) → endsBelow s ≡ true → segmentOk s ≡ true
+    ok : (s : SegmentLine) → shortLine s ≡ true → segmentOk s ≡ true
     ok s h =
-        let a = ltb-true (s .upper) maxVertices (and-left (ltb (s .upper) maxVertices) (ltb (s .lower) maxVertices) h) in
-        let b = ltb-true (s .lower) maxVertices (and-right (ltb (s .upper) maxVertices) (ltb (s .lower) maxVertices) h) in
-        lt-ltb (s .upper) 100000 (omega arith) and lt-ltb (s .lower) 100000 (omega arith)
+        let g = s .segment in
+        let ends = and-left (endsBelow g) (ratingInLimit (s .rating)) h in
+        let a = ltb-true (g .upper) maxVertices (and-left (ltb (g .upper) maxVertices) (ltb (g .lower) maxVertices) ends) in
+        let b = ltb-true (g .lower) maxVertices (and-right (ltb (g .upper) maxVertices) (ltb (g .lower) maxVertices) ends) in
+        lt-ltb (g .upper) 100000 (omega arith) and lt-ltb (g .lower) 100000 (omega arith)
+        and rating-ok (s .rating) (and-right (endsBelow g) (ratingInLimit (s .rating)) h)

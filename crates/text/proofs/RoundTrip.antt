@@ -2,7 +2,7 @@
 -- text is the text that was read, byte for byte. Assumes nothing.
 use mathlib.Core.Path.{_≡_, sym, _∙_, ap}
 use mathlib.Core.Bool.{true}
-use mathlib.Core.List.{List, [], _∷_}
+use mathlib.Core.List.{List, [], _∷_, map}
 use mathlib.Core.Option.{some}
 use Prim.Native.Nat.{ℕ, _≤_}
 use native.Mathlib.Omega.{arith}
@@ -10,7 +10,7 @@ use borrow.Author.Tests.{leb-true, le-leb, not-false}
 use lib.Dec.{leb}
 use lib.ListN.{length}
 use Rattle.plan.specs.Plan.{PlanData}
-use Rattle.plan.specs.Segments.{segmentsOf}
+use Rattle.plan.specs.Segments.{segmentsOf, ratedFrom, ratedOf}
 use Rattle.plan.specs.Checks.{every, check3, check4, check5, checksOf, tangledChecksOf}
 use Rattle.plan.specs.Acceptable.{limitsHold, acceptable}
 use Rattle.ints.specs.Refusals.{Test, check, noneRefuses}
@@ -19,12 +19,13 @@ use Rattle.ints.proofs.Tests.{and-left, and-right, _and_}
 use Rattle.plan.proofs.GraphLaws.{Checked, checked, checks-pass}
 use Rattle.plan.proofs.LimitLaws.{LimitTests, limit-tests, limits-hold}
 use Rattle.text.specs.Form.{Lines, formOf}
-use Rattle.text.specs.Reading.{maxBytes, check2, stored, testsBy, textTests, accepted, reading, tangledReading}
+use Rattle.text.specs.Reading.{maxBytes, ratingInLimit, check2, stored, testsBy, textTests, accepted, reading, tangledReading}
 use Rattle.text.specs.Writing.{textOf}
+use Rattle.text.proofs.TestLaws.{every-and}
 use Rattle.text.proofs.WrittenForm.{formText, form-reads, form-writes}
 use Rattle.text.proofs.StoredText.{stored-text}
-use Rattle.text.proofs.PlanLines.{linesFrom}
-use Rattle.text.proofs.PlanLimits.{check2-of, check2-holds, stored-limits, lines-stored-again, lines-ok, lines-limits, endsBelow, ends-below, ends-ok}
+use Rattle.text.proofs.PlanLines.{segmentLineFrom, ratings-in-limit, segments-hold, linesFrom}
+use Rattle.text.proofs.PlanLimits.{check2-of, check2-holds, stored-limits, lines-stored-again, lines-ok, lines-limits, endsBelow, ends-below, shortLine, ends-ok}
 use Rattle.text.proofs.WhenRefused.{Reads, read-passed, tangled-passed}
 use Rattle.text.proofs.TextLength.{form-short}
 
@@ -45,19 +46,24 @@ pub acceptable-holds : (p : PlanData) → Acceptable p → acceptable p ≡ true
 unfolding acceptable
 acceptable-holds p h = limits-hold p (h .limits) and checks-pass p (h .checks)
 
-ends : (p : PlanData) → LimitTests p → check3 p ≡ true → every endsBelow (segmentsOf p) ≡ true
-ends p l c = ends-below p (l .vertices) c
+ends : (p : PlanData) → LimitTests p → check3 p ≡ true → every shortLine (map segmentLineFrom (ratedOf p)) ≡ true
+unfolding ratedOf
+ends p l c =
+    let ss = segmentsOf p in
+    let ws = p .ratings in
+    every-and (λ s. endsBelow (s .segment)) (λ s. ratingInLimit (s .rating)) (map segmentLineFrom (ratedFrom ss ws))
+    (segments-hold endsBelow ss ws (ends-below p (l .vertices) c)) (ratings-in-limit ss ws (l .ratings))
 
 text-form : (p : PlanData) → LimitTests p → textOf p ≡ formText (linesFrom p)
-text-form p l = ap textOf (sym (lines-stored-again p l)) ∙ stored-text (linesFrom p)
+text-form p l = ap textOf (sym (lines-stored-again p l)) ∙ stored-text (linesFrom p) (lines-limits p l .ratings)
 
 -- How long the text is of a plan within its limits whose segments end at its vertices.
-pub limits-short : (p : PlanData) → limitsHold p ≡ true → check3 p ≡ true → length (textOf p) ≤ 43546
+pub limits-short : (p : PlanData) → limitsHold p ≡ true → check3 p ≡ true → length (textOf p) ≤ 51738
 unfolding linesFrom
 limits-short p h c = let l = limit-tests p h in rw (text-form p l) (form-short (linesFrom p) (lines-limits p l) (ends p l c))
 
--- "A text of an acceptable plan has at most 43,546 bytes"
-pub text-short : (p : PlanData) → acceptable p ≡ true → length (textOf p) ≤ 43546
+-- "A text of an acceptable plan has at most 51,738 bytes"
+pub text-short : (p : PlanData) → acceptable p ≡ true → length (textOf p) ≤ 51738
 text-short p h = let a = acceptable-of p h in limits-short p (limits-hold p (a .limits)) (a .checks .three)
 
 -- The text of an acceptable plan reads as the plan.
@@ -65,7 +71,7 @@ pub read-written : (p : PlanData) → acceptable p ≡ true → reading (textOf 
 unfolding testsBy noneRefuses
 read-written p h =
     let a = acceptable-of p h in
-    let ok = lines-ok p (a .limits) (ends-ok (segmentsOf p) (ends p (a .limits) (a .checks .three))) in
+    let ok = lines-ok p (a .limits) (ends-ok (map segmentLineFrom (ratedOf p)) (ends p (a .limits) (a .checks .three))) in
     let form : formOf (textOf p) ≡ some (linesFrom p) = ap formOf (text-form p (a .limits)) ∙ form-reads (linesFrom p) ok in
     let short = le-leb (length (textOf p)) maxBytes (omega (arith, text-short p h)) in
     let two = check2-holds (linesFrom p) (lines-limits p (a .limits)) in
@@ -101,7 +107,7 @@ formed-of checks s p r =
 
 -- its text is the text that was read, and its data are within the limits
 formed-text : {s : List ℕ} {p : PlanData} → Formed s p → textOf p ≡ s
-formed-text {s} {p} f = ap textOf (sym (f .stores)) ∙ stored-text (f .lines) ∙ sym (form-writes s (f .lines) (f .form) .0)
+formed-text {s} {p} f = ap textOf (sym (f .stores)) ∙ stored-text (f .lines) (check2-of (f .lines) (f .two) .ratings) ∙ sym (form-writes s (f .lines) (f .form) .0)
 
 formed-limits : {s : List ℕ} {p : PlanData} → Formed s p → LimitTests p
 formed-limits {s} {p} f =

@@ -1,21 +1,27 @@
 -- The text of the data stored of some lines is the text written of these lines: the vertices from a level's first number on
--- are that level's row, and the segments by their two ends are the segments.
+-- are that level's row, and the segments by their two ends and their ratings are the segments. A rating of 1 is never written, so that
+-- of lines within the limits each is written as it stood.
 use mathlib.Core.Path.{_≡_, refl, sym, _∙_, ap, fun-ext}
-use mathlib.Core.Bool.{false}
+use mathlib.Core.Bool.{true, false}
 use mathlib.Core.List.{List, [], _∷_, _++_, map, append-assoc, append-nil}
+use mathlib.Core.Option.{Option, none, some}
 use Prim.Native.Nat.{ℕ, _+_}
 use native.Mathlib.Omega.{arith}
+use borrow.Author.Tests.{ne-eqb}
 use lib.ListN.{length, getD, drop, List·getD-map}
 use lib.Seq.{getD-drop, drop-drop, drop-append-seam}
 use Rattle.ints.specs.Lists.{concat}
+use Rattle.ints.specs.Ratings.{maxRating}
 use Rattle.ints.proofs.Lists.{concat-append}
 use Rattle.plan.specs.Plan.{PlanData, numbers, levelsFrom, levelsOf}
-use Rattle.plan.specs.Segments.{segmentsOf}
-use Rattle.plan.proofs.SegmentLaws.{segments-again}
-use Rattle.text.specs.Form.{Vertex, Lines}
-use Rattle.text.specs.Reading.{stored}
-use Rattle.text.specs.Writing.{planLine, vertexWords, levelLineOf, segmentLineOf, lastLine, linesOf, textOf}
-use Rattle.text.proofs.WrittenLines.{vertexText, rowText}
+use Rattle.plan.specs.Checks.{every}
+use Rattle.plan.specs.Segments.{segmentsFrom, segmentsOf, ratedFrom, ratedOf}
+use Rattle.plan.proofs.LimitLaws.{within-least}
+use Rattle.text.specs.Form.{Vertex, SegmentLine, Lines}
+use Rattle.text.specs.Reading.{ratingInLimit, ratingOf, stored}
+use Rattle.text.specs.Writing.{planLine, vertexWords, levelLineOf, ratingWords, segmentLineOf, lastLine, linesOf, textOf}
+use Rattle.text.proofs.WrittenLines.{vertexText, rowText, ratingText, segmentText}
+use Rattle.text.proofs.TestLaws.{every-one}
 use Rattle.text.proofs.WrittenForm.{headText, formText}
 
 -- ---- lists of lines
@@ -23,9 +29,9 @@ concat-lines : (a b : List (List ℕ)) (z : List ℕ) → concat (a ++ b ++ z �
 unfolding concat
 concat-lines a b z = concat-append (a ++ b) (z ∷ []) ∙ rw (concat-append a b, append-nil z, append-assoc)
 
-text-lines : (p : PlanData) → textOf p ≡ planLine p ++ (concat (map (levelLineOf p) (levelsOf p)) ++ (concat (map segmentLineOf (segmentsOf p)) ++ lastLine))
+text-lines : (p : PlanData) → textOf p ≡ planLine p ++ (concat (map (levelLineOf p) (levelsOf p)) ++ (concat (map segmentLineOf (ratedOf p)) ++ lastLine))
 unfolding textOf linesOf concat
-text-lines p = ap (λ (t : List ℕ). planLine p ++ t) (concat-lines (map (levelLineOf p) (levelsOf p)) (map segmentLineOf (segmentsOf p)) lastLine)
+text-lines p = ap (λ (t : List ℕ). planLine p ++ t) (concat-lines (map (levelLineOf p) (levelsOf p)) (map segmentLineOf (ratedOf p)) lastLine)
 
 -- ---- the vertices of a row, by their numbers
 -- what is read past the last vertex
@@ -54,6 +60,20 @@ module _ (p : PlanData) (all : List Vertex) (words : (i : ℕ) → vertexWords p
       let next : drop (v + length row) all ≡ rest = sym (drop-drop (length row) v all) ∙ ap (drop (length row)) e ∙ drop-append-seam row rest in
       rw (row-words v row rest e, rows-text (v + length row) rows next)
 
+-- ---- the segments, with the ratings that are written
+words-text : (o : Option ℕ) → ratingInLimit o ≡ true → ratingWords (ratingOf o) ≡ ratingText o
+unfolding ratingWords
+words-text none e = refl
+words-text (some w) e = rw (ne-eqb w 1 (λ z. absurd (omega (arith, within-least 2 maxRating w e))))
+
+segments-text : (ss : List SegmentLine) → every (λ s. ratingInLimit (s .rating)) ss ≡ true
+    → map segmentLineOf (ratedFrom (segmentsFrom (map (λ s. s .segment .upper) ss) (map (λ s. s .segment .lower) ss)) (map (λ s. ratingOf (s .rating)) ss)) ≡ map segmentText ss
+unfolding segmentLineOf segmentText ratedFrom segmentsFrom
+segments-text [] e = refl
+segments-text (s ∷ ss) e =
+    let a = every-one (λ (s : SegmentLine). ratingInLimit (s .rating)) s ss e in
+    rw (words-text (s .rating) (a .0), segments-text ss (a .1))
+
 -- ---- the whole text
 module _ (l : Lines) where
   stored-words : (i : ℕ) → vertexWords (stored l) i ≡ vertexText (getD (concat (l .rows)) i noVertex)
@@ -68,10 +88,11 @@ module _ (l : Lines) where
   unfolding levelsOf stored
   stored-rows = rows-text (stored l) (concat (l .rows)) stored-words 0 (l .rows) refl
 
-  pub stored-segments : segmentsOf (stored l) ≡ l .segments
-  unfolding segmentsOf stored
-  stored-segments = segments-again (l .segments)
+  module _ (ok : every (λ s. ratingInLimit (s .rating)) (l .segments) ≡ true) where
+    stored-segments : map segmentLineOf (ratedOf (stored l)) ≡ map segmentText (l .segments)
+    unfolding segmentsOf ratedOf stored
+    stored-segments = segments-text (l .segments) ok
 
-  pub stored-text : textOf (stored l) ≡ formText l
-  unfolding formText headText planLine stored
-  stored-text = text-lines (stored l) ∙ rw (stored-rows, stored-segments)
+    pub stored-text : textOf (stored l) ≡ formText l
+    unfolding formText headText planLine stored
+    stored-text = text-lines (stored l) ∙ rw (stored-rows, stored-segments)

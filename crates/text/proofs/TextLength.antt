@@ -1,27 +1,27 @@
--- How long a text can be: 20 bytes for the plan line, 8 for a level line and 10 for each vertex, 16 for a segment line and 6
--- for the last. So the limit of 65,536 bytes never keeps out a plan within the limits.
+-- How long a text can be: 20 bytes for the plan line, 8 for a level line and 10 for each vertex, 20 for a segment line with its rating
+-- and 6 for the last. So the limit of 65,536 bytes never keeps out a plan within the limits.
 use mathlib.Core.Path.{_≡_}
 use mathlib.Core.Bool.{Bool, true, false}
 use mathlib.Core.List.{List, [], _∷_, map}
+use mathlib.Core.Option.{Option, none, some}
 use Prim.Native.Nat.{ℕ, _+_, _*_, _≤_}
 use native.Mathlib.Omega.{arith}
 use borrow.Author.Tests.{ltb-true}
 use lib.Dec.{ltb, leb}
 use lib.ListN.{length, length-append}
 use Rattle.ints.specs.Lists.{sum, concat}
-use Rattle.plan.specs.Segments.{Segment}
+use Rattle.ints.specs.Ratings.{maxRating}
 use Rattle.plan.specs.Limits.{maxLevels, maxGap, maxSpacing, maxHalfWidth, maxOnLevel, maxVertices}
 use Rattle.plan.specs.Checks.{every}
 use Rattle.ints.proofs.Tests.{and-left, and-right}
 use Rattle.plan.proofs.LimitLaws.{within-most}
-use Rattle.text.specs.Form.{Vertex, Lines}
-use Rattle.text.specs.Reading.{halfInLimit, rowInLimit}
-use Rattle.text.specs.Writing.{segmentLineOf}
+use Rattle.text.specs.Form.{Vertex, SegmentLine, Lines}
+use Rattle.text.specs.Reading.{halfInLimit, rowInLimit, ratingInLimit}
 use Rattle.text.proofs.TestLaws.{every-one}
 use Rattle.text.proofs.DecimalLaws.{decimal-length}
-use Rattle.text.proofs.WrittenLines.{vertexText, rowText}
+use Rattle.text.proofs.WrittenLines.{vertexText, rowText, ratingText, segmentText}
 use Rattle.text.proofs.WrittenForm.{headText, formText}
-use Rattle.text.proofs.PlanLimits.{LineLimits, endsBelow}
+use Rattle.text.proofs.PlanLimits.{LineLimits, endsBelow, shortLine}
 
 vertex-short : (v : Vertex) → halfInLimit v ≡ true → length (vertexText v) ≤ 10
 unfolding vertexText
@@ -46,15 +46,25 @@ rows-short (vs ∷ rows) e =
     let v = vertices-short vs (and-right (leb (length vs) maxOnLevel) (every halfInLimit vs) (k .0)) in
     simp length-append (omega (arith, rows-short rows (k .1)))
 
-segments-short : (ss : List Segment) → every endsBelow ss ≡ true → length (concat (map segmentLineOf ss)) ≤ 16 * length ss
-unfolding concat segmentLineOf
+rating-short : (o : Option ℕ) → ratingInLimit o ≡ true → length (ratingText o) ≤ 4
+rating-short none e = omega arith
+rating-short (some w) e =
+    let l = within-most 2 maxRating w e in
+    let d = decimal-length 2 w (omega arith) in
+    simp length-append (omega arith)
+
+segments-short : (ss : List SegmentLine) → every shortLine ss ≡ true → length (concat (map segmentText ss)) ≤ 20 * length ss
+unfolding concat segmentText
 segments-short [] e = omega arith
 segments-short (s ∷ ss) e =
-    let k = every-one endsBelow s ss e in
-    let a = ltb-true (s .upper) maxVertices (and-left (ltb (s .upper) maxVertices) (ltb (s .lower) maxVertices) (k .0)) in
-    let b = ltb-true (s .lower) maxVertices (and-right (ltb (s .upper) maxVertices) (ltb (s .lower) maxVertices) (k .0)) in
-    let la = decimal-length 3 (s .upper) (omega arith) in
-    let lb = decimal-length 3 (s .lower) (omega arith) in
+    let k = every-one shortLine s ss e in
+    let g = s .segment in
+    let ends = and-left (endsBelow g) (ratingInLimit (s .rating)) (k .0) in
+    let a = ltb-true (g .upper) maxVertices (and-left (ltb (g .upper) maxVertices) (ltb (g .lower) maxVertices) ends) in
+    let b = ltb-true (g .lower) maxVertices (and-right (ltb (g .upper) maxVertices) (ltb (g .lower) maxVertices) ends) in
+    let la = decimal-length 3 (g .upper) (omega arith) in
+    let lb = decimal-length 3 (g .lower) (omega arith) in
+    let lw = rating-short (s .rating) (and-right (endsBelow g) (ratingInLimit (s .rating)) (k .0)) in
     simp length-append (omega (arith, segments-short ss (k .1)))
 
 head-short : (k g s : ℕ) → k ≤ maxLevels → g ≤ maxGap → s ≤ maxSpacing → length (headText k g s) ≤ 20
@@ -65,7 +75,7 @@ head-short k g s a b c =
     let lc = decimal-length 4 s (omega arith) in
     simp length-append (omega arith)
 
-pub form-short : (l : Lines) → LineLimits l → every endsBelow (l .segments) ≡ true → length (formText l) ≤ 43546
+pub form-short : (l : Lines) → LineLimits l → every shortLine (l .segments) ≡ true → length (formText l) ≤ 51738
 unfolding formText
 form-short l h e =
     let k = within-most 1 maxLevels (l .levels) (h .levels) in

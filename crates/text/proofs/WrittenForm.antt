@@ -9,26 +9,25 @@ use native.Mathlib.Omega.{arith}
 use borrow.Author.Tests.{le-leb}
 use lib.ListN.{length, length-append}
 use Rattle.ints.specs.Lists.{concat}
-use Rattle.plan.specs.Segments.{Segment}
 use Rattle.plan.specs.Checks.{every}
 use Rattle.text.specs.Bytes.{bytes}
 use Rattle.text.specs.Decimal.{decimal}
 use Rattle.text.specs.Parser.{Got, got, nothing, word, many, number}
-use Rattle.text.specs.Form.{Vertex, Lines, via, levelLine, segmentLine, planText, whole, formOf}
-use Rattle.text.specs.Writing.{segmentLineOf, lastLine}
+use Rattle.text.specs.Form.{Vertex, SegmentLine, Lines, via, levelLine, segmentLine, planText, whole, formOf}
+use Rattle.text.specs.Writing.{lastLine}
 use Rattle.text.proofs.Words.{never, word-is}
 use Rattle.ints.proofs.Tests.{_and_}
 use Rattle.text.proofs.TestLaws.{every-one, every-cons}
 use Rattle.text.proofs.ParserLaws.{then-both, then-got, then-word, before, parts-7, many-reads, many-writes}
 use Rattle.text.proofs.DecimalLaws.{fits, then-number, number-written}
-use Rattle.text.proofs.WrittenLines.{vertexText, rowText, rowOk, rowFits, segmentOk, level-reads, level-writes, segment-reads, segment-writes}
+use Rattle.text.proofs.WrittenLines.{vertexText, rowText, rowOk, rowFits, segmentText, segmentOk, level-reads, level-writes, segment-reads, segment-writes}
 
 -- ---- what is written of lines
 unfoldable pub headText : ℕ → ℕ → ℕ → List ℕ
 headText k g s = bytes "(plan " ++ decimal k ++ bytes " " ++ decimal g ++ bytes " " ++ decimal s ++ bytes ")\n"
 
 unfoldable pub formText : Lines → List ℕ
-formText l = headText (l .levels) (l .gap) (l .spacing) ++ (concat (map rowText (l .rows)) ++ (concat (map segmentLineOf (l .segments)) ++ lastLine))
+formText l = headText (l .levels) (l .gap) (l .spacing) ++ (concat (map rowText (l .rows)) ++ (concat (map segmentText (l .segments)) ++ lastLine))
 
 -- Lines that can be read.
 pub record LinesOk (l : Lines) : Type 0 where
@@ -56,8 +55,8 @@ row-long : (vs : List Vertex) → length vs < length (rowText vs)
 unfolding rowText
 row-long vs = simp length-append (omega (arith, turns vertexText vertex-long vs))
 
-segment-long : (s : Segment) → 0 < length (segmentLineOf s)
-unfolding segmentLineOf
+segment-long : (s : SegmentLine) → 0 < length (segmentText s)
+unfolding segmentText
 segment-long s = omega arith
 
 rows-fit : (n : ℕ) (rows : List (List Vertex)) → length (concat (map rowText rows)) ≤ n → every rowOk rows ≡ true → every (rowFits n) rows ≡ true
@@ -70,8 +69,8 @@ rows-fit n (vs ∷ rows) l e =
     every-cons (rowFits n) vs rows (k .0 and few) (rows-fit n rows (omega arith) (k .1))
 
 -- ---- what is written is read
-level-stops : (n : ℕ) (ss : List Segment) → levelLine n (concat (map segmentLineOf ss) ++ lastLine) ≡ nothing
-unfolding levelLine segmentLineOf word concat
+level-stops : (n : ℕ) (ss : List SegmentLine) → levelLine n (concat (map segmentText ss) ++ lastLine) ≡ nothing
+unfolding levelLine segmentText word concat
 level-stops n [] = refl
 level-stops n (s ∷ ss) = refl
 
@@ -87,13 +86,13 @@ module _ (l : Lines) (ok : LinesOk l) where
       let g = decimal (l .gap) in
       let s = decimal (l .spacing) in
       let rows = concat (map rowText (l .rows)) in
-      let segments = concat (map segmentLineOf (l .segments)) in
+      let segments = concat (map segmentText (l .segments)) in
       let m = simp length-append at h in
       let few-rows : length (l .rows) ≤ n = omega (arith, turns rowText (λ vs. omega (arith, row-long vs)) (l .rows)) in
-      let few-segments : length (l .segments) ≤ n = omega (arith, turns segmentLineOf segment-long (l .segments)) in
+      let few-segments : length (l .segments) ≤ n = omega (arith, turns segmentText segment-long (l .segments)) in
       let rows-ok = rows-fit n (l .rows) (omega arith) (ok .rows) in
       let read-rows = many-reads (levelLine n) rowText (rowFits n) (level-reads n) n (l .rows) (segments ++ lastLine) few-rows rows-ok (level-stops n (l .segments)) in
-      let read-segments = many-reads segmentLine segmentLineOf segmentOk segment-reads n (l .segments) lastLine few-segments (ok .segments) segment-stops in
+      let read-segments = many-reads segmentLine segmentText segmentOk segment-reads n (l .segments) lastLine few-segments (ok .segments) segment-stops in
       let t₄ = bytes ")\n" ++ (rows ++ (segments ++ lastLine)) in
       let t₃ = bytes " " ++ (s ++ t₄) in
       let t₂ = bytes " " ++ (g ++ t₃) in
@@ -128,15 +127,15 @@ plan-writes n l s t e =
     let b = number-written g u₂ u₃ p₃ in
     let c = number-written d u₄ u₅ p₅ in
     let rs = many-writes (levelLine n) rowText rowOk (level-writes n) n ls u₆ u₇ p₇ in
-    let gs = many-writes segmentLine segmentLineOf segmentOk segment-writes n ss u₇ u₈ p₈ in
+    let gs = many-writes segmentLine segmentText segmentOk segment-writes n ss u₇ u₈ p₈ in
     let is : record { levels = k; gap = g; spacing = d; rows = ls; segments = ss } ≡ l = cc in
     let end : u₉ ≡ t = cc in
     rw (← is, ← end) (
       before (bytes "(plan ") (word-is (bytes "(plan ") s u p) (before (decimal k) (a .text) (before (bytes " ") (word-is (bytes " ") u₁ u₂ p₂)
           (before (decimal g) (b .text) (before (bytes " ") (word-is (bytes " ") u₃ u₄ p₄) (before (decimal d) (c .text)
-          (before (bytes ")\n") (word-is (bytes ")\n") u₅ u₆ p₆) (before (concat (map rowText ls)) (rs .0) (before (concat (map segmentLineOf ss)) (gs .0)
+          (before (bytes ")\n") (word-is (bytes ")\n") u₅ u₆ p₆) (before (concat (map rowText ls)) (rs .0) (before (concat (map segmentText ss)) (gs .0)
           (word-is lastLine u₈ u₉ p₉)))))))))
-          ∙ sym (plan-parts (bytes "(plan ") (decimal k) (bytes " ") (decimal g) (bytes " ") (decimal d) (bytes ")\n") (concat (map rowText ls)) (concat (map segmentLineOf ss)) lastLine u₉),
+          ∙ sym (plan-parts (bytes "(plan ") (decimal k) (bytes " ") (decimal g) (bytes " ") (decimal d) (bytes ")\n") (concat (map rowText ls)) (concat (map segmentText ss)) lastLine u₉),
       record { levels = a .below; gap = b .below; spacing = c .below; rows = rs .1; segments = gs .1 },
     )))))))))))
 

@@ -1,26 +1,25 @@
--- The rules of the form for a vertex, a level line and a segment line, in both directions. What is written of a vertex, a row
--- or a segment is read as it, and what one of these rules finds is written again as the bytes that it took.
+-- The rules of the form for a vertex, a level line, a rating and a segment line, in both directions. What is written of one of these
+-- is read as it, and what its rule finds is written again as the bytes that it took.
 use mathlib.Core.Path.{_≡_, refl, sym, _∙_, ap}
 use mathlib.Core.Bool.{Bool, true, false, cond, _&&_}
 use mathlib.Core.List.{List, [], _∷_, _++_, map, append-assoc}
+use mathlib.Core.Option.{Option, none, some}
 use Prim.Native.Nat.{ℕ}
 use native.Mathlib.Omega.{arith}
 use borrow.Author.Tests.{lt-ltb, leb-true, eqb-true}
 use lib.Dec.{ltb, leb, eqb}
 use lib.ListN.{length}
 use Rattle.ints.specs.Lists.{concat}
-use Rattle.plan.specs.Segments.{Segment}
 use Rattle.plan.specs.Checks.{every}
-use Rattle.ints.proofs.Tests.{and-left, and-right, _and_}
+use Rattle.ints.proofs.Tests.{and-left, and-right, conj-at, _and_}
 use Rattle.text.specs.Bytes.{bytes}
 use Rattle.text.specs.Decimal.{decimal}
-use Rattle.text.specs.Parser.{Got, got, nothing, Rule, orElse, either, word, many, number}
-use Rattle.text.specs.Form.{Vertex, box, via, levelLine, segmentLine}
-use Rattle.text.specs.Writing.{segmentLineOf}
+use Rattle.text.specs.Parser.{Got, got, nothing, Rule, give, orElse, either, word, many, number}
+use Rattle.text.specs.Form.{Vertex, SegmentLine, box, via, levelLine, rating, segmentLine}
 use Rattle.text.proofs.Words.{never, word-is}
 use Rattle.text.proofs.TestLaws.{every-one, every-cons}
-use Rattle.text.proofs.ParserLaws.{then-both, then-got, then-word, before, parts-3, parts-5, Reads, Writes, many-reads, many-writes}
-use Rattle.text.proofs.DecimalLaws.{fits, then-number, number-written}
+use Rattle.text.proofs.ParserLaws.{then-both, then-got, then-word, before, parts-3, parts-6, Reads, Writes, many-reads, many-writes}
+use Rattle.text.proofs.DecimalLaws.{fits, noDigit, then-number, number-written}
 
 -- ---- a vertex
 unfoldable pub vertexText : Vertex → List ℕ
@@ -128,34 +127,83 @@ module _ (n : ℕ) where
         lt-ltb 0 (length (v ∷ vs)) (omega arith) and every-cons vertexOk v vs (one .1) (more .1),
       )))))
 
+-- ---- a rating, where it is written
+abbrev pub ratingText : Option ℕ → List ℕ
+ratingText none = []
+ratingText (some w) = bytes " " ++ decimal w
+
+abbrev pub ratingOk : Option ℕ → Bool
+ratingOk none = true
+ratingOk (some w) = fits w
+
+rating-reads : (w : ℕ) (t : List ℕ) → fits w ≡ true → noDigit t ≡ true → rating (bytes " " ++ decimal w ++ t) ≡ got (some w) t
+unfolding rating
+rating-reads w t ok e = ap rating (append-assoc (bytes " ") (decimal w) t) ∙ then-word (bytes " ") (decimal w ++ t) _ ∙ then-number w t _ ok e
+
+-- before the end of its line
+ratings-read : (o : Option ℕ) (t : List ℕ) → ratingOk o ≡ true → either rating (give none) (ratingText o ++ (bytes ")\n" ++ t)) ≡ got o (bytes ")\n" ++ t)
+unfolding rating word
+ratings-read none t ok = refl
+ratings-read (some w) t ok = rw (rating-reads w (bytes ")\n" ++ t) ok refl)
+
+rating-writes : (o : Option ℕ) (s t : List ℕ) → rating s ≡ got o t → (s ≡ ratingText o ++ t) × (ratingOk o ≡ true)
+unfolding rating
+rating-writes o s t e =
+    then-both (word (bytes " ") s) _ e (λ _ u p q. then-both (number u) _ q (λ w x p₁ q₁.
+    let n = number-written w u x p₁ in
+    let is : some w ≡ o = cc in
+    let end : x ≡ t = cc in
+    rw (← is, ← end) (before (bytes " ") (word-is (bytes " ") s u p) (n .text) ∙ sym (append-assoc (bytes " ") (decimal w) x), n .below)))
+
+ratings-write : (o : Option ℕ) (s t : List ℕ) → either rating (give none) s ≡ got o t → (s ≡ ratingText o ++ t) × (ratingOk o ≡ true)
+ratings-write o s t e = either-found (rating s) (got none s) e (rating-writes o s t)
+    (λ f.
+    let is : none ≡ o = cc in
+    let end : s ≡ t = cc in
+    rw (← is, ← end) (refl, refl))
+
 -- ---- a segment line
-abbrev pub segmentOk : Segment → Bool
-segmentOk s = fits (s .upper) && fits (s .lower)
+unfoldable pub segmentText : SegmentLine → List ℕ
+segmentText s =
+    bytes "(seg " ++ decimal (s .segment .upper) ++ bytes " " ++ decimal (s .segment .lower) ++ ratingText (s .rating) ++ bytes ")\n"
 
-pub segment-reads : Reads segmentLine segmentLineOf segmentOk
-unfolding segmentLine segmentLineOf
+abbrev pub segmentOk : SegmentLine → Bool
+segmentOk s = fits (s .segment .upper) && fits (s .segment .lower) && ratingOk (s .rating)
+
+pub segment-reads : Reads segmentLine segmentText segmentOk
+unfolding segmentLine segmentText
 segment-reads s t ok =
-    let a = decimal (s .upper) in
-    let b = decimal (s .lower) in
-    ap segmentLine (parts-5 (bytes "(seg ") a (bytes " ") b (bytes ")\n") t)
-    ∙ then-word (bytes "(seg ") (a ++ (bytes " " ++ (b ++ (bytes ")\n" ++ t)))) _
-    ∙ then-number (s .upper) (bytes " " ++ (b ++ (bytes ")\n" ++ t))) _ (and-left (fits (s .upper)) (fits (s .lower)) ok) refl
-    ∙ then-word (bytes " ") (b ++ (bytes ")\n" ++ t)) _
-    ∙ then-number (s .lower) (bytes ")\n" ++ t) _ (and-right (fits (s .upper)) (fits (s .lower)) ok) refl
+    let a = decimal (s .segment .upper) in
+    let b = decimal (s .segment .lower) in
+    let w = ratingText (s .rating) in
+    let test = conj-at (fits (s .segment .upper)) (fits (s .segment .lower) ∷ ratingOk (s .rating) ∷ []) ok in
+    let t₂ = w ++ (bytes ")\n" ++ t) in
+    let t₁ = bytes " " ++ (b ++ t₂) in
+    ap segmentLine (parts-6 (bytes "(seg ") a (bytes " ") b w (bytes ")\n") t)
+    ∙ then-word (bytes "(seg ") (a ++ t₁) _
+    ∙ then-number (s .segment .upper) t₁ _ (test 0) refl
+    ∙ then-word (bytes " ") (b ++ t₂) _
+    ∙ then-number (s .segment .lower) t₂ _ (test 1) (no-digit (s .rating))
+    ∙ then-got _ (ratings-read (s .rating) t (test 2))
     ∙ then-word (bytes ")\n") t _
+  where
+    no-digit : (o : Option ℕ) → noDigit (ratingText o ++ (bytes ")\n" ++ t)) ≡ true
+    no-digit none = refl
+    no-digit (some w) = refl
 
-pub segment-writes : Writes segmentLine segmentLineOf segmentOk
-unfolding segmentLine segmentLineOf
+pub segment-writes : Writes segmentLine segmentText segmentOk
+unfolding segmentLine segmentText
 segment-writes g s t e =
     then-both (word (bytes "(seg ") s) _ e (λ _ u p q. then-both (number u) _ q (λ a u₁ p₁ q₁. then-both (word (bytes " ") u₁) _ q₁ (λ _ u₂ p₂ q₂.
-    then-both (number u₂) _ q₂ (λ b u₃ p₃ q₃. then-both (word (bytes ")\n") u₃) _ q₃ (λ _ u₄ p₄ q₄.
+    then-both (number u₂) _ q₂ (λ b u₃ p₃ q₃. then-both (either rating (give none) u₃) _ q₃ (λ w u₄ p₄ q₄. then-both (word (bytes ")\n") u₄) _ q₄ (λ _ u₅ p₅ q₅.
     let m = number-written a u u₁ p₁ in
     let n = number-written b u₂ u₃ p₃ in
-    let is : record { upper = a; lower = b } ≡ g = cc in
-    let end : u₄ ≡ t = cc in
+    let r = ratings-write w u₃ u₄ p₄ in
+    let is : record { segment = record { upper = a; lower = b }; rating = w } ≡ g = cc in
+    let end : u₅ ≡ t = cc in
     rw (← is, ← end) (
       before (bytes "(seg ") (word-is (bytes "(seg ") s u p) (before (decimal a) (m .text) (before (bytes " ") (word-is (bytes " ") u₁ u₂ p₂)
-          (before (decimal b) (n .text) (word-is (bytes ")\n") u₃ u₄ p₄))))
-          ∙ sym (parts-5 (bytes "(seg ") (decimal a) (bytes " ") (decimal b) (bytes ")\n") u₄),
-      m .below and n .below,
-    ))))))
+          (before (decimal b) (n .text) (before (ratingText w) (r .0) (word-is (bytes ")\n") u₄ u₅ p₅)))))
+          ∙ sym (parts-6 (bytes "(seg ") (decimal a) (bytes " ") (decimal b) (ratingText w) (bytes ")\n") u₅),
+      m .below and n .below and r .1,
+    )))))))

@@ -13,13 +13,18 @@ pub record Vertex : Type 0 where
   pub via : Bool
   pub half : ℕ
 
+-- A segment as it is written: "A segment may carry a rating" (document 02, E5); the rating where it is written.
+pub record SegmentLine : Type 0 where
+  pub segment : Segment
+  pub rating : Option ℕ
+
 -- What the lines of a text say.
 pub record Lines : Type 0 where
   pub levels : ℕ
   pub gap : ℕ
   pub spacing : ℕ
   pub rows : List (List Vertex)
-  pub segments : List Segment
+  pub segments : List SegmentLine
 
 -- " (box 3)" and " (via)"
 unfoldable pub box : Rule Vertex
@@ -43,15 +48,23 @@ levelLine n = do
   word (bytes ")\n")
   give (v ∷ vs)
 
--- "(seg A B)"
-unfoldable pub segmentLine : Rule Segment
+-- The rating of a segment, written after its ends.
+unfoldable pub rating : Rule (Option ℕ)
+rating = do
+  word (bytes " ")
+  w ← number
+  give (some w)
+
+-- "(seg A B)" and "(seg A B W)"
+unfoldable pub segmentLine : Rule SegmentLine
 segmentLine = do
   word (bytes "(seg ")
   a ← number
   word (bytes " ")
   b ← number
+  w ← either rating (give none)
   word (bytes ")\n")
-  give (record { upper = a; lower = b })
+  give (record { segment = record { upper = a; lower = b }; rating = w })
 
 -- "(plan K G S)", the level lines, the segments, "(end)". n is at least the length of the text.
 unfoldable pub planText : ℕ → Rule Lines

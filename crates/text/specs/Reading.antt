@@ -6,6 +6,7 @@ use Prim.Native.Nat.{ℕ}
 use lib.Dec.{leb, eqb}
 use lib.ListN.{length}
 use Rattle.ints.specs.Lists.{sum, concat}
+use Rattle.ints.specs.Ratings.{maxRating}
 use Rattle.ints.specs.Refusals.{Test, check, firstRefusal}
 use Rattle.plan.specs.Plan.{PlanData, dataOf}
 use Rattle.plan.specs.Limits.{within, maxLevels, maxGap, maxSpacing, maxHalfWidth, maxOnLevel, maxVertices, maxSegments}
@@ -23,19 +24,31 @@ halfInLimit v = cond (v .via) true (within 1 maxHalfWidth (v .half))
 abbrev pub rowInLimit : List Vertex → Bool
 rowInLimit vs = leb (length vs) maxOnLevel && every halfInLimit vs
 
+-- "with W from 2 to 100; without one it has rating 1, never written. Outside the range check 2 applies." (document 02, E5)
+abbrev pub ratingInLimit : Option ℕ → Bool
+ratingInLimit none = true
+ratingInLimit (some w) = within 2 maxRating w
+
+abbrev pub ratingOf : Option ℕ → ℕ
+ratingOf none = 1
+ratingOf (some w) = w
+
 unfoldable pub check2 : Lines → Bool
 check2 l =
     let rows = every rowInLimit (l .rows) in
+    let ratings = every (λ s. ratingInLimit (s .rating)) (l .segments) in
     within 1 maxLevels (l .levels) && within 1 maxGap (l .gap) && within 1 maxSpacing (l .spacing)
     && eqb (length (l .rows)) (l .levels) && rows
     && leb (sum (map length (l .rows))) maxVertices && leb (length (l .segments)) maxSegments
+    && ratings
 
 -- What is stored of a text within the limits, its vertices in reading order.
 unfoldable pub stored : Lines → PlanData
 stored l =
     dataOf (l .levels) (l .gap) (l .spacing)
     (map length (l .rows)) (map (λ v. v .via) (concat (l .rows))) (map (λ v. v .half) (concat (l .rows)))
-    (map (λ s. s .upper) (l .segments)) (map (λ s. s .lower) (l .segments))
+    (map (λ s. s .segment .upper) (l .segments)) (map (λ s. s .segment .lower) (l .segments))
+    (map (λ s. ratingOf (s .rating)) (l .segments))
 
 -- The checks of a text in their order; from 2 on they are asked of what its lines say, from 3 on by the checks of a plan.
 unfoldable pub testsBy : (PlanData → List Test) → List ℕ → Option Lines → List Test

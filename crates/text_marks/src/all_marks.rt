@@ -22,11 +22,12 @@ fn marks_plan(
     halves: &[u16],
     uppers: &[u32],
     lowers: &[u32],
+    ratings: &[u32],
     out: &mut [f64],
 ) -> LineAnswer
-    requires { ⌜ acceptable (heldPlan gap spacing (now sizes) (now vias) (now halves) (now uppers) (now lowers)) ≡ true ⌝ }
+    requires { ⌜ acceptable (heldPlan gap spacing (now sizes) (now vias) (now halves) (now uppers) (now lowers) (now ratings)) ≡ true ⌝ }
     ensures { λ r. ⌜ Writes (marksOf (accepted (heldPlan gap spacing (now (sizes .entry)) (now (vias .entry)) (now (halves .entry)) (now (uppers .entry))
-        (now (lowers .entry)))) (now (out .entry))) r (now (out .exit)) ⌝ }
+        (now (lowers .entry)) (now (ratings .entry)))) (now (out .entry))) r (now (out .exit)) ⌝ }
 {
     let v = vias.len();
     let mut preliminary = [0i64; Plan::MAX_VERTICES];
@@ -38,6 +39,7 @@ fn marks_plan(
         halves,
         uppers,
         lowers,
+        ratings,
         &mut preliminary[..v],
         &mut finals[..v],
     );
@@ -63,6 +65,7 @@ pub fn marks_text(text: &[u8], out: &mut [f64]) -> LineAnswer
     let mut halves = [0u16; Plan::MAX_VERTICES];
     let mut uppers = [0u32; Plan::MAX_SEGMENTS];
     let mut lowers = [0u32; Plan::MAX_SEGMENTS];
+    let mut ratings = [0u32; Plan::MAX_SEGMENTS];
     let r = read_into(
         text,
         &mut sizes,
@@ -70,6 +73,7 @@ pub fn marks_text(text: &[u8], out: &mut [f64]) -> LineAnswer
         &mut halves,
         &mut uppers,
         &mut lowers,
+        &mut ratings,
     );
     if r.failed != 0 {
         return LineAnswer::Refused(r.failed);
@@ -86,6 +90,7 @@ pub fn marks_text(text: &[u8], out: &mut [f64]) -> LineAnswer
         &halves[..v],
         &uppers[..e],
         &lowers[..e],
+        &ratings[..e],
         out,
     )
 }

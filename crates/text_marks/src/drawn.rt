@@ -1,7 +1,7 @@
 // The draw of a plan that was read, as far as its positions are asked for.
 use pass_draw::draw::make_drawing;
 ghost use Rattle.plan.specs.Plan.{PlanData};
-ghost use Rattle.plan.specs.inner.Held.{HoldsPlan};
+ghost use Rattle.pass_draw.specs.inner.Made.{HoldsRated};
 ghost use Rattle.text_marks.specs.inner.Drawn.{PositionsRoom, Placed};
 
 // Draws without the list of placings.
@@ -12,11 +12,12 @@ pub fn draw_positions(
     halves: &[u16],
     uppers: &[u32],
     lowers: &[u32],
+    ratings: &[u32],
     preliminary: &mut [i64],
     finals: &mut [i64],
 )
-    requires { ⌜ PositionsRoom gap (now sizes) (now vias) (now halves) (now uppers) (now lowers) (now preliminary) (now finals) ⌝ }
-    ensures { λ _. ⌜ ((p : PlanData) → HoldsPlan p gap (now (sizes .entry)) (now (vias .entry)) (now (halves .entry)) (now (uppers .entry)) (now (lowers .entry))
+    requires { ⌜ PositionsRoom gap (now sizes) (now vias) (now halves) (now uppers) (now lowers) (now ratings) (now preliminary) (now finals) ⌝ }
+    ensures { λ _. ⌜ ((p : PlanData) → HoldsRated p gap (now (sizes .entry)) (now (vias .entry)) (now (halves .entry)) (now (uppers .entry)) (now (lowers .entry)) (now (ratings .entry))
         → Placed p (now (preliminary .exit)) (now (finals .exit))) ⌝ }
 {
     let mut passes = [0u16; 0];
@@ -31,6 +32,7 @@ pub fn draw_positions(
         halves,
         uppers,
         lowers,
+        ratings,
         preliminary,
         finals,
         &mut passes,

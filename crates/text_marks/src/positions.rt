@@ -6,7 +6,7 @@ use plan::numbers::wide;
 use sheet::types::LineAnswer;
 use text_read::read_into;
 ghost use Rattle.plan.specs.Plan.{PlanData};
-ghost use Rattle.plan.specs.inner.Held.{HoldsPlan, SomePlan};
+ghost use Rattle.pass_draw.specs.inner.Made.{HoldsRated, SomeRated};
 ghost use Rattle.text.specs.Reading.{accepted, reading};
 ghost use Rattle.sheet.specs.Calls.{Writes};
 ghost use Rattle.text_marks.specs.Positions.{positionsOf};
@@ -19,10 +19,11 @@ fn positions_plan(
     halves: &[u16],
     uppers: &[u32],
     lowers: &[u32],
+    ratings: &[u32],
     out: &mut [i64],
 ) -> LineAnswer
-    requires { ⌜ SomePlan gap (now sizes) (now vias) (now halves) (now uppers) (now lowers) ⌝ }
-    ensures { λ r. ⌜ ((p : PlanData) → HoldsPlan p gap (now (sizes .entry)) (now (vias .entry)) (now (halves .entry)) (now (uppers .entry)) (now (lowers .entry))
+    requires { ⌜ SomeRated gap (now sizes) (now vias) (now halves) (now uppers) (now lowers) (now ratings) ⌝ }
+    ensures { λ r. ⌜ ((p : PlanData) → HoldsRated p gap (now (sizes .entry)) (now (vias .entry)) (now (halves .entry)) (now (uppers .entry)) (now (lowers .entry)) (now (ratings .entry))
         → Writes (positionsOf (accepted p) (now (out .entry))) r (now (out .exit))) ⌝ }
 {
     let v = vias.len();
@@ -37,6 +38,7 @@ fn positions_plan(
         halves,
         uppers,
         lowers,
+        ratings,
         &mut out[..v],
         &mut finals[..v],
     );
@@ -54,6 +56,7 @@ pub fn positions_text(text: &[u8], out: &mut [i64]) -> LineAnswer
     let mut halves = [0u16; Plan::MAX_VERTICES];
     let mut uppers = [0u32; Plan::MAX_SEGMENTS];
     let mut lowers = [0u32; Plan::MAX_SEGMENTS];
+    let mut ratings = [0u32; Plan::MAX_SEGMENTS];
     let r = read_into(
         text,
         &mut sizes,
@@ -61,6 +64,7 @@ pub fn positions_text(text: &[u8], out: &mut [i64]) -> LineAnswer
         &mut halves,
         &mut uppers,
         &mut lowers,
+        &mut ratings,
     );
     if r.failed != 0 {
         return LineAnswer::Refused(r.failed);
@@ -76,6 +80,7 @@ pub fn positions_text(text: &[u8], out: &mut [i64]) -> LineAnswer
         &halves[..v],
         &uppers[..e],
         &lowers[..e],
+        &ratings[..e],
         out,
     )
 }

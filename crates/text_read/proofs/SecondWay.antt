@@ -17,8 +17,8 @@ use Rattle.text_read.specs.declared.Found.{Found}
 not-eqb : (a b : ℕ) → not (eqb a b) ≡ true → a ≡ b → ⊥
 not-eqb a b e f = true≢false (sym e ∙ rw (eq-eqb a b f))
 
-module _ (s : List ℕ) (r : Found) (sizes : List ℕ) (vias : List Bool) (halves uppers lowers sizes′ : List ℕ) (vias′ : List Bool) (halves′ uppers′ lowers′ : List ℕ)
-    (F : Finds s r sizes vias halves uppers lowers sizes′ vias′ halves′ uppers′ lowers′) where
+module _ (s : List ℕ) (r : Found) (sizes : List ℕ) (vias : List Bool) (halves uppers lowers ratings sizes′ : List ℕ) (vias′ : List Bool) (halves′ uppers′ lowers′ ratings′ : List ℕ)
+    (F : Finds s r sizes vias halves uppers lowers ratings sizes′ vias′ halves′ uppers′ lowers′ ratings′) where
   pub refused-both : refusesBoth (r .failed) ≡ true → (r .failed ≡ 0 → ⊥) × (tangledReading s ≡ refused (r .failed))
   refused-both e =
       let a = not-eqb (r .failed) 0 (and-left (not (eqb (r .failed) 0)) (not (eqb (r .failed) 6)) e) in

@@ -11,13 +11,12 @@ use lib.ListN.{length, drop, length-map}
 use Rattle.ints.specs.Lists.{concat}
 use Rattle.ints.proofs.Lists.{concat-length}
 use Rattle.plan.specs.Limits.{maxLevels, maxVertices, maxSegments}
-use Rattle.plan.specs.Segments.{Segment}
 use Rattle.plan.specs.Checks.{every}
 use Rattle.ints.proofs.Tests.{and-right}
 use Rattle.text.specs.Bytes.{bytes}
 use Rattle.text.specs.Parser.{got, nothing, Rule, then, word, many, number}
-use Rattle.text.specs.Form.{Vertex, Lines, levelLine, segmentLine, planText, formOf}
-use Rattle.text.specs.Reading.{rowInLimit, check2, stored}
+use Rattle.text.specs.Form.{Vertex, SegmentLine, Lines, levelLine, segmentLine, planText, formOf}
+use Rattle.text.specs.Reading.{rowInLimit, ratingInLimit, ratingOf, check2, stored}
 use Rattle.text_scan.specs.inner.Scanned.{numberThen, Header, planLine, Ends}
 use Rattle.text_read.specs.inner.Filled.{FindsRows, FindsSegments, Kept, Scans, inLimits}
 use Rattle.text_scan.specs.declared.scanners.FoundHeader.{FoundHeader}
@@ -32,7 +31,7 @@ use Rattle.text.proofs.PlanLimits.{check2-of}
 
 -- ---- the form
 -- what the lines say
-abbrev pub linesOf : Header → List (List Vertex) → List Segment → Lines
+abbrev pub linesOf : Header → List (List Vertex) → List SegmentLine → Lines
 linesOf h rows segments = record { levels = h .levels; gap = h .gap; spacing = h .spacing; rows = rows; segments = segments }
 
 -- what follows the plan line
@@ -79,33 +78,34 @@ module _ (s : List ℕ) where
     unfolding formOf
     form-broken v e = rw (plan-text (length s) s, p, q, many-done segmentLine (length s) u (level-no-segment u v e), level-no-end u v e)
 
-    pub form-ends : (segments : List Segment) (at : ℕ) (b : Bool) → many (length s) segmentLine u ≡ got segments (drop at s) → Ends s at b → formOf s ≡ cond b (some (linesOf h rows segments)) none
+    pub form-ends : (segments : List SegmentLine) (at : ℕ) (b : Bool) → many (length s) segmentLine u ≡ got segments (drop at s) → Ends s at b → formOf s ≡ cond b (some (linesOf h rows segments)) none
     unfolding formOf
     form-ends segments at b e f = rw (plan-text (length s) s, p, q, e) (f .gives (linesOf h rows segments))
 
 -- ---- the limits
-limits-is : (h : FoundHeader) (r : Rows) (e : ℕ) (rows : List (List Vertex)) (segments : List Segment) → r .levels ≡ length rows → r .fit ≡ every rowInLimit rows
-    → r .vertices ≡ length (concat rows) → e ≡ length segments
+limits-is : (h : FoundHeader) (r : Rows) (e : Segments) (rows : List (List Vertex)) (segments : List SegmentLine) → r .levels ≡ length rows → r .fit ≡ every rowInLimit rows
+    → r .vertices ≡ length (concat rows) → e .count ≡ length segments → e .fit ≡ every (λ s. ratingInLimit (s .rating)) segments
     → inLimits h r e ≡ check2 (record { levels = h .levels; gap = h .gap; spacing = h .spacing; rows = rows; segments = segments })
 unfolding check2
-limits-is h r e rows segments a b c d = rw (a, b, c, d, concat-length rows)
+limits-is h r e rows segments a b c d f = rw (a, b, c, d, f, concat-length rows)
 
 -- ---- what the program has
-module _ (s : List ℕ) (sizes : List ℕ) (vias : List Bool) (halves uppers lowers sizes′ : List ℕ) (vias′ : List Bool) (halves′ uppers′ lowers′ : List ℕ) where
-  pub scans-none : (r : Scanned) → r .form ≡ false → formOf s ≡ none → Scans s r sizes vias halves uppers lowers sizes′ vias′ halves′ uppers′ lowers′
+module _ (s : List ℕ) (sizes : List ℕ) (vias : List Bool) (halves uppers lowers ratings sizes′ : List ℕ) (vias′ : List Bool) (halves′ uppers′ lowers′ ratings′ : List ℕ) where
+  pub scans-none : (r : Scanned) → r .form ≡ false → formOf s ≡ none → Scans s r sizes vias halves uppers lowers ratings sizes′ vias′ halves′ uppers′ lowers′ ratings′
   scans-none r f e = record { form = f ∙ rw e; limits = λ l q. no l q; kept = λ l q c. no l q }
     where
       no : {A : Type 0} (l : Lines) → formOf s ≡ some l → A
       no l q = let z : _≡_ {A = ℕ} 0 1 = cc in absurd (omega arith)
 
   module _ (h : FoundHeader) (at next : ℕ) (r : Rows) (e : Segments)
-      (R : FindsRows s at r sizes vias halves sizes′ vias′ halves′) (S : FindsSegments s next e uppers lowers uppers′ lowers′) (f : r .form ≡ true)
-      (n : maxLevels ≤ length sizes) (i : maxVertices ≤ length vias) (j : maxVertices ≤ length halves) (k : maxSegments ≤ length uppers) (m : maxSegments ≤ length lowers) where
+      (R : FindsRows s at r sizes vias halves sizes′ vias′ halves′) (S : FindsSegments s next e uppers lowers ratings uppers′ lowers′ ratings′) (f : r .form ≡ true)
+      (n : maxLevels ≤ length sizes) (i : maxVertices ≤ length vias) (j : maxVertices ≤ length halves) (k : maxSegments ≤ length uppers) (m : maxSegments ≤ length lowers)
+      (w : maxSegments ≤ length ratings) where
     abbrev found-lines : Lines
     found-lines = record { levels = h .levels; gap = h .gap; spacing = h .spacing; rows = R .rows; segments = S .segments }
 
     lines-kept : (o : Scanned) → o .levels ≡ h .levels → o .gap ≡ h .gap → o .spacing ≡ h .spacing → o .vertices ≡ r .vertices → o .segments ≡ e .count
-        → check2 found-lines ≡ true → Kept (stored found-lines) o sizes vias halves uppers lowers sizes′ vias′ halves′ uppers′ lowers′
+        → check2 found-lines ≡ true → Kept (stored found-lines) o sizes vias halves uppers lowers ratings sizes′ vias′ halves′ uppers′ lowers′ ratings′
     unfolding stored
     lines-kept o a b c d g t =
         let F = check2-of found-lines t in
@@ -119,18 +119,20 @@ module _ (s : List ℕ) (sizes : List ℕ) (vias : List Bool) (halves uppers low
           vertices = rw length-map (d ∙ R .vertices);
           segments = rw length-map (g ∙ S .counted);
           lower-ends = rw length-map (g ∙ S .counted);
+          rated = rw length-map (g ∙ S .counted);
           sizes-kept = R .sizes-stored f ∙ sets-over sizes (map length (R .rows)) (rw length-map (omega (arith, F .counted, top)));
           vias-kept = R .vias-stored f ∙ sets-over vias (map (λ v. v .via) (concat (R .rows))) (rw length-map (omega (arith, F .vertices, all)));
           halves-kept = R .halves-stored f (R .fit ∙ F .rows) ∙ sets-over halves (map (λ v. v .half) (concat (R .rows))) (rw length-map (omega (arith, F .vertices, all)));
-          uppers-kept = S .uppers-stored ∙ sets-over uppers (map (λ x. x .upper) (S .segments)) (rw length-map (omega (arith, F .segments)));
-          lowers-kept = S .lowers-stored ∙ sets-over lowers (map (λ x. x .lower) (S .segments)) (rw length-map (omega (arith, F .segments)));
+          uppers-kept = S .uppers-stored ∙ sets-over uppers (map (λ x. x .segment .upper) (S .segments)) (rw length-map (omega (arith, F .segments)));
+          lowers-kept = S .lowers-stored ∙ sets-over lowers (map (λ x. x .segment .lower) (S .segments)) (rw length-map (omega (arith, F .segments)));
+          ratings-kept = S .ratings-stored ∙ sets-over ratings (map (λ x. ratingOf (x .rating)) (S .segments)) (rw length-map (omega (arith, F .segments)));
         }
 
-    pub scans-lines : (b : Bool) → b ≡ inLimits h r (e .count) → formOf s ≡ some found-lines
-        → Scans s (record { form = true; limits = b; levels = h .levels; gap = h .gap; spacing = h .spacing; vertices = r .vertices; segments = e .count }) sizes vias halves uppers lowers sizes′ vias′ halves′ uppers′ lowers′
+    pub scans-lines : (b : Bool) → b ≡ inLimits h r e → formOf s ≡ some found-lines
+        → Scans s (record { form = true; limits = b; levels = h .levels; gap = h .gap; spacing = h .spacing; vertices = r .vertices; segments = e .count }) sizes vias halves uppers lowers ratings sizes′ vias′ halves′ uppers′ lowers′ ratings′
     scans-lines b q p = record {
       form = rw p;
-      limits = λ l x. q ∙ limits-is h r (e .count) (R .rows) (S .segments) (R .counted) (R .fit) (R .vertices) (S .counted) ∙ ap check2 (one l x);
+      limits = λ l x. q ∙ limits-is h r e (R .rows) (S .segments) (R .counted) (R .fit) (R .vertices) (S .counted) (S .fit) ∙ ap check2 (one l x);
       kept = λ l x t. rw (← one l x) (lines-kept _ refl refl refl refl refl (ap check2 (one l x) ∙ t));
     }
       where

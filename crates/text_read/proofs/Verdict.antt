@@ -92,8 +92,8 @@ pub within : {A : Type 0} (xs o ys : List A) → ys ≡ over xs o → length xs 
 within xs o ys e = rw (e, length-append) (omega arith)
 
 -- ---- the arrays of a plan's data
-module _ (p : PlanData) (r : Scanned) (sizes : List ℕ) (vias : List Bool) (halves uppers lowers sizes′ : List ℕ) (vias′ : List Bool) (halves′ uppers′ lowers′ : List ℕ)
-    (K : Kept p r sizes vias halves uppers lowers sizes′ vias′ halves′ uppers′ lowers′) where
+module _ (p : PlanData) (r : Scanned) (sizes : List ℕ) (vias : List Bool) (halves uppers lowers ratings sizes′ : List ℕ) (vias′ : List Bool) (halves′ uppers′ lowers′ ratings′ : List ℕ)
+    (K : Kept p r sizes vias halves uppers lowers ratings sizes′ vias′ halves′ uppers′ lowers′ ratings′) where
   pub sizes-front : take (r .levels) sizes′ ≡ p .sizes
   sizes-front = front (p .sizes) sizes sizes′ (r .levels) (K .sizes-kept) (K .level-lines)
 
@@ -105,6 +105,9 @@ module _ (p : PlanData) (r : Scanned) (sizes : List ℕ) (vias : List Bool) (hal
 
   pub lowers-front : take (r .segments) lowers′ ≡ p .lowers
   lowers-front = front (p .lowers) lowers lowers′ (r .segments) (K .lowers-kept) (K .lower-ends)
+
+  pub ratings-front : take (r .segments) ratings′ ≡ p .ratings
+  ratings-front = front (p .ratings) ratings ratings′ (r .segments) (K .ratings-kept) (K .rated)
 
   kept-fronts : length sizes′ ≡ 64 → length vias′ ≡ 1024 → length uppers′ ≡ 2048 → Fronts r sizes′ vias′ uppers′ lowers′
   kept-fronts a b c = record {
@@ -126,7 +129,7 @@ module _ (p : PlanData) (r : Scanned) (sizes : List ℕ) (vias : List Bool) (hal
   pub halves-front : Limits p → take (r .vertices) halves′ ≡ p .halves
   halves-front l = front (p .halves) halves halves′ (r .vertices) (K .halves-kept) (halves-count l)
 
-  pub in-fronts : acceptable p ≡ true → InFronts p r sizes′ vias′ halves′ uppers′ lowers′
+  pub in-fronts : acceptable p ≡ true → InFronts p r sizes′ vias′ halves′ uppers′ lowers′ ratings′
   in-fronts ok =
       let l = sound p ok .limits in
       record {
@@ -141,32 +144,34 @@ module _ (p : PlanData) (r : Scanned) (sizes : List ℕ) (vias : List Bool) (hal
           ok = ok;
         };
         spaced = sym (K .spacing);
+        rated = sym ratings-front;
         sizes-reach = omega (arith, K .level-lines, within (p .sizes) sizes sizes′ (K .sizes-kept));
         vias-reach = omega (arith, K .vertices, within (p .vias) vias vias′ (K .vias-kept));
         halves-reach = omega (arith, halves-count l, within (p .halves) halves halves′ (K .halves-kept));
         uppers-reach = omega (arith, K .segments, within (p .uppers) uppers uppers′ (K .uppers-kept));
         lowers-reach = omega (arith, K .lower-ends, within (p .lowers) lowers lowers′ (K .lowers-kept));
+        ratings-reach = omega (arith, K .rated, within (p .ratings) ratings ratings′ (K .ratings-kept));
       }
 
 -- what is answered of the data, from arrays that were 0
-module _ (p : PlanData) (r : Scanned) (sizes′ : List ℕ) (vias′ : List Bool) (halves′ uppers′ lowers′ : List ℕ)
-    (K : Kept p r (replicate 64 0) (replicate 1024 false) (replicate 1024 0) (replicate 2048 0) (replicate 2048 0) sizes′ vias′ halves′ uppers′ lowers′) where
+module _ (p : PlanData) (r : Scanned) (sizes′ : List ℕ) (vias′ : List Bool) (halves′ uppers′ lowers′ ratings′ : List ℕ)
+    (K : Kept p r (replicate 64 0) (replicate 1024 false) (replicate 1024 0) (replicate 2048 0) (replicate 2048 0) (replicate 2048 0) sizes′ vias′ halves′ uppers′ lowers′ ratings′) where
   pub kept-answer : _≡_ {A = ReadText}
       (record {
         answer = Accepted (r .vertices) (r .segments);
-        plan = storedPlan (r .levels) (r .gap) (r .spacing) sizes′ vias′ halves′ uppers′ lowers′;
+        plan = storedPlan (r .levels) (r .gap) (r .spacing) sizes′ vias′ halves′ uppers′ lowers′ ratings′;
       })
       (answerOf (accepted p))
   unfolding answerOf planOf
   kept-answer = λ i. record {
     answer = Accepted (K .vertices i) (K .segments i);
-    plan = storedPlan (K .levels i) (K .gap i) (K .spacing i) (K .sizes-kept i) (K .vias-kept i) (K .halves-kept i) (K .uppers-kept i) (K .lowers-kept i);
+    plan = storedPlan (K .levels i) (K .gap i) (K .spacing i) (K .sizes-kept i) (K .vias-kept i) (K .halves-kept i) (K .uppers-kept i) (K .lowers-kept i) (K .ratings-kept i);
   }
 
 -- ---- a scanned text, and what the program answers of it
-module _ (s : List ℕ) (r : Scanned) (sizes : List ℕ) (vias : List Bool) (halves uppers lowers sizes′ : List ℕ) (vias′ : List Bool) (halves′ uppers′ lowers′ : List ℕ)
-    (S : Scans s r sizes vias halves uppers lowers sizes′ vias′ halves′ uppers′ lowers′) (short : length s ≤ maxBytes) where
-  pub reads-kept : (p : PlanData) → tangledReading s ≡ accepted p → Kept p r sizes vias halves uppers lowers sizes′ vias′ halves′ uppers′ lowers′
+module _ (s : List ℕ) (r : Scanned) (sizes : List ℕ) (vias : List Bool) (halves uppers lowers ratings sizes′ : List ℕ) (vias′ : List Bool) (halves′ uppers′ lowers′ ratings′ : List ℕ)
+    (S : Scans s r sizes vias halves uppers lowers ratings sizes′ vias′ halves′ uppers′ lowers′ ratings′) (short : length s ≤ maxBytes) where
+  pub reads-kept : (p : PlanData) → tangledReading s ≡ accepted p → Kept p r sizes vias halves uppers lowers ratings sizes′ vias′ halves′ uppers′ lowers′ ratings′
   reads-kept p e = let f = formed s p e in rw (f .stores) at (S .kept (f .lines) (f .form) (f .two))
 
   no-form : r .form ≡ false → reading s ≡ refused 1
@@ -181,18 +186,18 @@ module _ (s : List ℕ) (r : Scanned) (sizes : List ℕ) (vias : List Bool) (hal
     the-form = some-lines (formOf s) (sym (S .form) ∙ f) .1
 
     module _ (g : r .limits ≡ true) where
-      the-kept : Kept (stored the-lines) r sizes vias halves uppers lowers sizes′ vias′ halves′ uppers′ lowers′
+      the-kept : Kept (stored the-lines) r sizes vias halves uppers lowers ratings sizes′ vias′ halves′ uppers′ lowers′ ratings′
       the-kept = S .kept the-lines the-form (sym (S .limits the-lines the-form) ∙ g)
 
       pub the-fronts : length sizes′ ≡ 64 → length vias′ ≡ 1024 → length uppers′ ≡ 2048 → Fronts r sizes′ vias′ uppers′ lowers′
-      the-fronts = kept-fronts (stored the-lines) r sizes vias halves uppers lowers sizes′ vias′ halves′ uppers′ lowers′ the-kept
+      the-fronts = kept-fronts (stored the-lines) r sizes vias halves uppers lowers ratings sizes′ vias′ halves′ uppers′ lowers′ ratings′ the-kept
 
     -- what the program found is what the definition finds
     same-first : firstRefusal (checksIn r sizes′ vias′ uppers′ lowers′) ≡ firstRefusal (testsOf s (some the-lines))
     unfolding testsBy
     same-first = agree (r .form) (leb (length s) maxBytes) (r .limits) (check2 the-lines) (f ∙ sym (le-leb (length s) maxBytes short))
         (S .limits the-lines the-form)
-        (λ g. kept-checks (stored the-lines) r sizes vias halves uppers lowers sizes′ vias′ halves′ uppers′ lowers′ (the-kept g))
+        (λ g. kept-checks (stored the-lines) r sizes vias halves uppers lowers ratings sizes′ vias′ halves′ uppers′ lowers′ ratings′ (the-kept g))
 
   -- the number n that the program finds is that of the refusal, and 0 means that there is none
   module _ (n : ℕ) (h : n ≡ firstRefusal (checksIn r sizes′ vias′ uppers′ lowers′)) where
@@ -202,7 +207,7 @@ module _ (s : List ℕ) (r : Scanned) (sizes : List ℕ) (vias : List Bool) (hal
         (λ f. reads-failed s (the-lines f) (the-form f) n (h ∙ same-first f) z)
         (λ f. no-form f ∙ ap refused (sym (rw f at h)))
 
-    pub all-pass : n ≡ 0 → Accepts s r sizes vias halves uppers lowers sizes′ vias′ halves′ uppers′ lowers′
+    pub all-pass : n ≡ 0 → Accepts s r sizes vias halves uppers lowers ratings sizes′ vias′ halves′ uppers′ lowers′ ratings′
     unfolding firstRefusal
     all-pass z = test (r .form)
         (λ f. test (r .limits)
@@ -213,7 +218,7 @@ module _ (s : List ℕ) (r : Scanned) (sizes : List ℕ) (vias : List Bool) (hal
           plan = p;
           reads = e;
           kept = the-kept f g;
-          fronts = in-fronts p r sizes vias halves uppers lowers sizes′ vias′ halves′ uppers′ lowers′ (the-kept f g) (read-acceptable s p e);
+          fronts = in-fronts p r sizes vias halves uppers lowers ratings sizes′ vias′ halves′ uppers′ lowers′ ratings′ (the-kept f g) (read-acceptable s p e);
         })
         (λ g. absurd (omega (arith, rw (f, g) at h))))
         (λ f. absurd (omega (arith, rw f at h)))

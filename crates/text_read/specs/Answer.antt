@@ -16,6 +16,7 @@ unfoldable pub planOf : PlanData → Plan
 planOf p =
     storedPlan (p .levels) (p .gap) (p .spacing) (over (p .sizes) (replicate maxLevels 0)) (over (p .vias) (replicate maxVertices false))
     (over (p .halves) (replicate maxVertices 0)) (over (p .uppers) (replicate maxSegments 0)) (over (p .lowers) (replicate maxSegments 0))
+    (over (p .ratings) (replicate maxSegments 0))
 
 unfoldable pub answerOf : Reading → ReadText
 answerOf (accepted p) = record { answer = Accepted (vertexCount p) (length (p .uppers)); plan = planOf p }

@@ -6,6 +6,8 @@ use text_scan::limits::both;
 use text_scan::limits::half_fits;
 use text_scan::limits::half_of;
 use text_scan::limits::header_fits;
+use text_scan::limits::rating_in_limit;
+use text_scan::limits::rating_of;
 use text_scan::scanners::FoundHeader;
 use text_scan::scanners::ends;
 use text_scan::scanners::header_at;
@@ -37,9 +39,10 @@ pub struct Rows {
     pub next: usize,
 }
 
-// The segment lines: how many, and the position past them.
+// The segment lines: how many, whether the ratings written are within the limit, and the position past them.
 pub struct Segments {
     pub count: usize,
+    pub fit: bool,
     pub next: usize,
 }
 
@@ -180,31 +183,46 @@ fn level_lines(
 }
 
 // The segment lines from a position on.
-fn segment_lines(text: &[u8], from: usize, uppers: &mut [u32], lowers: &mut [u32]) -> Segments
+fn segment_lines(
+    text: &[u8],
+    from: usize,
+    uppers: &mut [u32],
+    lowers: &mut [u32],
+    ratings: &mut [u32],
+) -> Segments
     requires { ⌜ from ≤ length (now text) ⌝ }
-    ensures { λ r. ⌜ FindsSegments (now (text .entry)) from r (now (uppers .entry)) (now (lowers .entry)) (now (uppers .exit)) (now (lowers .exit)) ⌝ }
+    ensures { λ r. ⌜ FindsSegments (now (text .entry)) from r (now (uppers .entry)) (now (lowers .entry)) (now (ratings .entry))
+        (now (uppers .exit)) (now (lowers .exit)) (now (ratings .exit)) ⌝ }
 {
     let mut at = from;
     let mut count: usize = 0;
+    let mut fit = true;
     loop {
         let s = segment_at(text, at);
         if !s.found {
-            return Segments { count, next: at };
+            return Segments {
+                count,
+                fit,
+                next: at,
+            };
         }
         put(uppers, count, s.upper);
         put(lowers, count, s.lower);
+        put(ratings, count, rating_of(s));
+        fit = both(fit, rating_in_limit(s));
         count += 1;
         at = s.next;
     }
 }
 
 // 2: each number and count within its limit, and K level lines.
-fn in_limits(h: FoundHeader, r: Rows, segments: usize) -> bool
-    ensures { λ b. ⌜ b ≡ inLimits h r segments ⌝ }
+fn in_limits(h: FoundHeader, r: Rows, s: Segments) -> bool
+    ensures { λ b. ⌜ b ≡ inLimits h r s ⌝ }
 {
     let f = both(header_fits(h, r.levels), r.fit);
     let v = both(f, r.vertices <= Plan::MAX_VERTICES);
-    both(v, segments <= Plan::MAX_SEGMENTS)
+    let e = both(v, s.count <= Plan::MAX_SEGMENTS);
+    both(e, s.fit)
 }
 
 // Checks 1 and 2 of a text, 2 once the whole text was read. The arrays have room for what the limits allow; what passes both
@@ -216,10 +234,12 @@ pub fn scan(
     halves: &mut [u16],
     uppers: &mut [u32],
     lowers: &mut [u32],
+    ratings: &mut [u32],
 ) -> Scanned
-    requires { ⌜ LongEnough (now text) (now sizes) (now vias) (now halves) (now uppers) (now lowers) ⌝ }
+    requires { ⌜ LongEnough (now text) (now sizes) (now vias) (now halves) (now uppers) (now lowers) (now ratings) ⌝ }
     ensures { λ r. ⌜ Scans (now (text .entry)) r (now (sizes .entry)) (now (vias .entry)) (now (halves .entry)) (now (uppers .entry))
-        (now (lowers .entry)) (now (sizes .exit)) (now (vias .exit)) (now (halves .exit)) (now (uppers .exit)) (now (lowers .exit)) ⌝ }
+        (now (lowers .entry)) (now (ratings .entry)) (now (sizes .exit)) (now (vias .exit)) (now (halves .exit)) (now (uppers .exit))
+        (now (lowers .exit)) (now (ratings .exit)) ⌝ }
 {
     let none = Scanned {
         form: false,
@@ -238,13 +258,13 @@ pub fn scan(
     if !r.form {
         return none;
     }
-    let s = segment_lines(text, r.next, uppers, lowers);
+    let s = segment_lines(text, r.next, uppers, lowers, ratings);
     if !ends(text, s.next) {
         return none;
     }
     Scanned {
         form: true,
-        limits: in_limits(h, r, s.count),
+        limits: in_limits(h, r, s),
         levels: h.levels,
         gap: h.gap,
         spacing: h.spacing,

@@ -69,10 +69,12 @@ pub fn read_into(
     halves: &mut [u16],
     uppers: &mut [u32],
     lowers: &mut [u32],
+    ratings: &mut [u32],
 ) -> Found
-    requires { ⌜ Arrays (now sizes) (now vias) (now halves) (now uppers) (now lowers) ⌝ }
+    requires { ⌜ Arrays (now sizes) (now vias) (now halves) (now uppers) (now lowers) (now ratings) ⌝ }
     ensures { λ r. ⌜ Finds (now (text .entry)) r (now (sizes .entry)) (now (vias .entry)) (now (halves .entry)) (now (uppers .entry))
-        (now (lowers .entry)) (now (sizes .exit)) (now (vias .exit)) (now (halves .exit)) (now (uppers .exit)) (now (lowers .exit)) ⌝ }
+        (now (lowers .entry)) (now (ratings .entry)) (now (sizes .exit)) (now (vias .exit)) (now (halves .exit)) (now (uppers .exit))
+        (now (lowers .exit)) (now (ratings .exit)) ⌝ }
 {
     if MAX_BYTES < text.len() {
         return Found {
@@ -88,7 +90,7 @@ pub fn read_into(
             },
         };
     }
-    let scanned = scan(text, sizes, vias, halves, uppers, lowers);
+    let scanned = scan(text, sizes, vias, halves, uppers, lowers, ratings);
     let failed = first_failed(scanned, sizes, vias, uppers, lowers);
     Found { failed, scanned }
 }
@@ -112,6 +114,7 @@ pub fn read(text: &[u8]) -> ReadText
     let mut halves = [0u16; Plan::MAX_VERTICES];
     let mut uppers = [0u32; Plan::MAX_SEGMENTS];
     let mut lowers = [0u32; Plan::MAX_SEGMENTS];
+    let mut ratings = [0u32; Plan::MAX_SEGMENTS];
     let r = read_into(
         text,
         &mut sizes,
@@ -119,6 +122,7 @@ pub fn read(text: &[u8]) -> ReadText
         &mut halves,
         &mut uppers,
         &mut lowers,
+        &mut ratings,
     );
     if r.failed != 0 {
         return refuse(r.failed);
@@ -135,6 +139,7 @@ pub fn read(text: &[u8]) -> ReadText
             halves,
             uppers,
             lowers,
+            ratings,
         ),
     }
 }

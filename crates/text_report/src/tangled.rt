@@ -22,12 +22,13 @@ fn report_untangled(
     halves: &[u16],
     uppers: &[u32],
     lowers: &[u32],
+    ratings: &[u32],
     numbers: &[u16],
     out: &mut [u8],
 ) -> LineAnswer
-    requires { ⌜ Remembers (heldPlan gap spacing (now sizes) (now vias) (now halves) (now uppers) (now lowers)) (now numbers) ⌝ }
+    requires { ⌜ Remembers (heldPlan gap spacing (now sizes) (now vias) (now halves) (now uppers) (now lowers) (now ratings)) (now numbers) ⌝ }
     ensures { λ r. ⌜ Writes (fittedText (reportNumbered (heldPlan gap spacing (now (sizes .entry)) (now (vias .entry)) (now (halves .entry)) (now (uppers .entry))
-        (now (lowers .entry))) (now (numbers .entry))) (now (out .entry))) r (now (out .exit)) ⌝ }
+        (now (lowers .entry)) (now (ratings .entry))) (now (numbers .entry))) (now (out .entry))) r (now (out .exit)) ⌝ }
 {
     let v = vias.len();
     let mut preliminary = [0i64; Plan::MAX_VERTICES];
@@ -44,6 +45,7 @@ fn report_untangled(
         halves,
         uppers,
         lowers,
+        ratings,
         &mut preliminary[..v],
         &mut finals[..v],
         &mut passes,
@@ -77,6 +79,7 @@ pub fn report_tangled_text(text: &[u8], out: &mut [u8]) -> LineAnswer
     let mut halves = [0u16; Plan::MAX_VERTICES];
     let mut uppers = [0u32; Plan::MAX_SEGMENTS];
     let mut lowers = [0u32; Plan::MAX_SEGMENTS];
+    let mut ratings = [0u32; Plan::MAX_SEGMENTS];
     let mut numbers = [0u16; Plan::MAX_VERTICES];
     let r = read_tangled_into(
         text,
@@ -85,6 +88,7 @@ pub fn report_tangled_text(text: &[u8], out: &mut [u8]) -> LineAnswer
         &mut halves,
         &mut uppers,
         &mut lowers,
+        &mut ratings,
         &mut numbers,
     );
     if r.failed != 0 {
@@ -102,6 +106,7 @@ pub fn report_tangled_text(text: &[u8], out: &mut [u8]) -> LineAnswer
         &halves[..v],
         &uppers[..e],
         &lowers[..e],
+        &ratings[..e],
         &numbers[..v],
         out,
     )

@@ -23,11 +23,12 @@ fn report_plan(
     halves: &[u16],
     uppers: &[u32],
     lowers: &[u32],
+    ratings: &[u32],
     out: &mut [u8],
 ) -> LineAnswer
-    requires { ⌜ acceptable (heldPlan gap spacing (now sizes) (now vias) (now halves) (now uppers) (now lowers)) ≡ true ⌝ }
+    requires { ⌜ acceptable (heldPlan gap spacing (now sizes) (now vias) (now halves) (now uppers) (now lowers) (now ratings)) ≡ true ⌝ }
     ensures { λ r. ⌜ Writes (reportOf (accepted (heldPlan gap spacing (now (sizes .entry)) (now (vias .entry)) (now (halves .entry)) (now (uppers .entry))
-        (now (lowers .entry)))) (now (out .entry))) r (now (out .exit)) ⌝ }
+        (now (lowers .entry)) (now (ratings .entry)))) (now (out .entry))) r (now (out .exit)) ⌝ }
 {
     let v = vias.len();
     let mut preliminary = [0i64; Plan::MAX_VERTICES];
@@ -44,6 +45,7 @@ fn report_plan(
         halves,
         uppers,
         lowers,
+        ratings,
         &mut preliminary[..v],
         &mut finals[..v],
         &mut passes,
@@ -76,6 +78,7 @@ pub fn report_text(text: &[u8], out: &mut [u8]) -> LineAnswer
     let mut halves = [0u16; Plan::MAX_VERTICES];
     let mut uppers = [0u32; Plan::MAX_SEGMENTS];
     let mut lowers = [0u32; Plan::MAX_SEGMENTS];
+    let mut ratings = [0u32; Plan::MAX_SEGMENTS];
     let r = read_into(
         text,
         &mut sizes,
@@ -83,6 +86,7 @@ pub fn report_text(text: &[u8], out: &mut [u8]) -> LineAnswer
         &mut halves,
         &mut uppers,
         &mut lowers,
+        &mut ratings,
     );
     if r.failed != 0 {
         return LineAnswer::Refused(r.failed);
@@ -99,6 +103,7 @@ pub fn report_text(text: &[u8], out: &mut [u8]) -> LineAnswer
         &halves[..v],
         &uppers[..e],
         &lowers[..e],
+        &ratings[..e],
         out,
     )
 }

@@ -2,12 +2,12 @@
 use mathlib.Core.Path.{_≡_, refl, sym, _∙_, ap}
 use mathlib.Core.Bool.{Bool, true, false, cond}
 use mathlib.Core.List.{List}
+use mathlib.Core.Option.{Option, none, some}
 use Prim.Native.Nat.{ℕ, _+_, _<_}
 use lib.ListN.{length, drop, drop-of-length-le}
 use Rattle.text.specs.Bytes.{bytes}
-use Rattle.text.specs.Parser.{Got, got, nothing, Rule, then, word, number}
-use Rattle.plan.specs.Segments.{Segment}
-use Rattle.text.specs.Form.{Vertex, box, via, segmentLine}
+use Rattle.text.specs.Parser.{Got, got, nothing, Rule, give, then, either, word, number}
+use Rattle.text.specs.Form.{Vertex, SegmentLine, box, via, rating, segmentLine}
 use Rattle.text_scan.specs.inner.Scanned.{Finds, HasWord, numberThen, vertex, planLine, Ends}
 use native.Mathlib.Omega.{arith}
 use lib.Seq.{drop-cons}
@@ -90,6 +90,21 @@ module _ (s : List ℕ) where
   pub vertex-via : box s ≡ nothing → vertex s ≡ via s
   vertex-via e = rw e
 
+-- ---- a rating
+module _ (s : List ℕ) where
+  pub rating-none : word (bytes " ") s ≡ nothing → either rating (give none) s ≡ got none s
+  unfolding rating
+  rating-none e = rw e
+
+  module _ (t : List ℕ) (e : word (bytes " ") s ≡ got tt t) where
+    pub rating-not : number t ≡ nothing → either rating (give none) s ≡ got none s
+    unfolding rating
+    rating-not f = rw (e, f)
+
+    pub rating-found : (w : ℕ) (u : List ℕ) → number t ≡ got w u → either rating (give none) s ≡ got (some w) u
+    unfolding rating
+    rating-found w u f = rw (e, f)
+
 -- ---- a segment line
 module _ (s : List ℕ) where
   pub segment-none : word (bytes "(seg ") s ≡ nothing → segmentLine s ≡ nothing
@@ -97,20 +112,33 @@ module _ (s : List ℕ) where
   segment-none e = rw e
 
   module _ (t : List ℕ) (e : word (bytes "(seg ") s ≡ got tt t) where
-    segment-opens : segmentLine s ≡ then (numberThen (bytes " ") t) (λ a u. then (numberThen (bytes ")\n") u) (λ b v. got (record { upper = a; lower = b }) v))
+    abbrev lineOf : ℕ → ℕ → Option ℕ → SegmentLine
+    lineOf a b w = record { segment = record { upper = a; lower = b }; rating = w }
+
+    -- what follows the upper end
+    abbrev rest : ℕ → Rule SegmentLine
+    rest a u = then (number u) (λ b v. then (either rating (give none) v) (λ w x. then (word (bytes ")\n") x) (λ _ y. got (lineOf a b w) y)))
+
+    segment-opens : segmentLine s ≡ then (numberThen (bytes " ") t) rest
     unfolding segmentLine
-    segment-opens =
-        let last : ℕ → ℕ → Rule Segment = λ a b v. got (record { upper = a; lower = b }) v in
-        let rest : ℕ → Rule Segment = λ a u. then (number u) (λ b v. then (word (bytes ")\n") v) (λ _ x. last a b x)) in
-        rw e (number-then (bytes " ") t rest
-        ∙ then-same (numberThen (bytes " ") t) rest (λ a u. then (numberThen (bytes ")\n") u) (last a)) (λ a u. number-then (bytes ")\n") u (last a)))
+    segment-opens = rw e (number-then (bytes " ") t rest)
 
     pub segment-not : numberThen (bytes " ") t ≡ nothing → segmentLine s ≡ nothing
     segment-not f = segment-opens ∙ rw f
 
-    pub segment-gives : (f : Bool) (a b : ℕ) (u v : List ℕ) → numberThen (bytes " ") t ≡ got a u → numberThen (bytes ")\n") u ≡ cond f (got b v) nothing
-        → segmentLine s ≡ cond f (got (record { upper = a; lower = b }) v) nothing
-    segment-gives f a b u v g h = segment-opens ∙ rw (g, h) (then-cond f b v (λ x. record { upper = a; lower = x }))
+    module _ (a : ℕ) (u : List ℕ) (f : numberThen (bytes " ") t ≡ got a u) where
+      pub segment-no-lower : number u ≡ nothing → segmentLine s ≡ nothing
+      segment-no-lower g = segment-opens ∙ rw (f, g)
+
+      module _ (b : ℕ) (w : Option ℕ) (v x : List ℕ) (g : number u ≡ got b v) (h : either rating (give none) v ≡ got w x) where
+        segment-ends : segmentLine s ≡ then (word (bytes ")\n") x) (λ _ y. got (lineOf a b w) y)
+        segment-ends = segment-opens ∙ rw (f, g, h)
+
+        pub segment-open : word (bytes ")\n") x ≡ nothing → segmentLine s ≡ nothing
+        segment-open i = segment-ends ∙ rw i
+
+        pub segment-found : (y : List ℕ) → word (bytes ")\n") x ≡ got tt y → segmentLine s ≡ got (lineOf a b w) y
+        segment-found y i = segment-ends ∙ rw i
 
 -- ---- the plan line
 module _ (s : List ℕ) where

@@ -1,14 +1,16 @@
 // Whether what was found is within its limits: the questions of check 2 that are asked line by line.
 use crate::scanners::FoundHeader;
+use crate::scanners::FoundSegment;
 use crate::scanners::FoundVertex;
 use plan::data::Plan;
 use plan::limits::half_width_fits;
 use plan::limits::numbers_fit;
+use plan::limits::rating_fits;
 use plan::numbers::wide;
 ghost use mathlib.Core.Path.{_≡_};
 ghost use mathlib.Core.Bool.{true, _&&_};
-ghost use Rattle.text.specs.Reading.{halfInLimit};
-ghost use Rattle.text_scan.specs.inner.Scanned.{vertexOf, headerInLimits};
+ghost use Rattle.text.specs.Reading.{halfInLimit, ratingInLimit, ratingOf};
+ghost use Rattle.text_scan.specs.inner.Scanned.{vertexOf, segmentOf, headerInLimits};
 
 // "half-width 1 to 200"
 pub fn half_fits(v: FoundVertex) -> bool
@@ -28,6 +30,22 @@ pub fn half_of(v: FoundVertex) -> u16
         return v.half as u16;
     }
     0
+}
+
+// The least rating that is written.
+const LEAST_WRITTEN: u32 = 2;
+
+// "with W from 2 to 100; without one it has rating 1, never written."
+pub fn rating_in_limit(s: FoundSegment) -> bool
+    ensures { λ r. ⌜ r ≡ ratingInLimit (segmentOf s .rating) ⌝ }
+{
+    !s.rated || rating_fits(LEAST_WRITTEN, s.rating)
+}
+
+pub fn rating_of(s: FoundSegment) -> u32
+    ensures { λ r. ⌜ r ≡ ratingOf (segmentOf s .rating) ⌝ }
+{
+    if s.rated { s.rating } else { 1 }
 }
 
 pub fn both(a: bool, b: bool) -> bool

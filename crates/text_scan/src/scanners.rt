@@ -4,7 +4,7 @@ ghost use Prim.Native.Nat.{_+_, _≤_, _<_};
 ghost use lib.ListN.{length, getD};
 ghost use Rattle.text.specs.Parser.{isDigit, number};
 ghost use Rattle.text.specs.Form.{box, segmentLine};
-ghost use Rattle.text_scan.specs.inner.Scanned.{Finds, HasWord, MoreDigits, numberThen, vertex, vertexOf, segmentOf, planLine, headerOf, Ends};
+ghost use Rattle.text_scan.specs.inner.Scanned.{Finds, HasWord, MoreDigits, numberThen, vertex, vertexOf, MayRate, segmentOf, planLine, headerOf, Ends};
 ghost use mathlib.Core.Bool.{true, _&&_};
 
 // A number, and the position past it.
@@ -180,15 +180,34 @@ pub fn vertex_at(text: &[u8], at: usize) -> FoundVertex
     }
 }
 
-// A segment's ends, and the position past its line.
+// " W", where a rating is written; else the position stays.
+fn rating_at(text: &[u8], at: usize) -> FoundNumber
+    requires { ⌜ at ≤ length (now text) ⌝ }
+    ensures { λ r. ⌜ MayRate (now (text .entry)) at (r .found) (r .value) (r .next) ⌝ }
+{
+    let none = FoundNumber {
+        found: false,
+        value: 0,
+        next: at,
+    };
+    if !word_at(text, at, b" ") {
+        return none;
+    }
+    let w = number_at(text, at + 1);
+    if w.found { w } else { none }
+}
+
+// A segment's ends, whether a rating is written and which, and the position past its line.
 pub struct FoundSegment {
     pub found: bool,
     pub upper: u32,
     pub lower: u32,
+    pub rated: bool,
+    pub rating: u32,
     pub next: usize,
 }
 
-// "(seg A B)"
+// "(seg A B)" or "(seg A B W)"
 pub fn segment_at(text: &[u8], at: usize) -> FoundSegment
     requires { ⌜ at ≤ length (now text) ⌝ }
     ensures { λ r. ⌜ Finds segmentLine (now (text .entry)) at (r .found) (segmentOf r) (r .next) ⌝ }
@@ -197,6 +216,8 @@ pub fn segment_at(text: &[u8], at: usize) -> FoundSegment
         found: false,
         upper: 0,
         lower: 0,
+        rated: false,
+        rating: 0,
         next: at,
     };
     if !word_at(text, at, b"(seg ") {
@@ -206,12 +227,21 @@ pub fn segment_at(text: &[u8], at: usize) -> FoundSegment
     if !a.found {
         return none;
     }
-    let b = number_then(text, a.next, b")\n");
+    let b = number_at(text, a.next);
+    if !b.found {
+        return none;
+    }
+    let w = rating_at(text, b.next);
+    if !word_at(text, w.next, b")\n") {
+        return none;
+    }
     FoundSegment {
-        found: b.found,
+        found: true,
         upper: a.value,
         lower: b.value,
-        next: b.next,
+        rated: w.found,
+        rating: w.value,
+        next: w.next + 2,
     }
 }
 

@@ -34,12 +34,14 @@ fn untangle_fronts(
     halves: &mut [u16],
     uppers: &mut [u32],
     lowers: &mut [u32],
+    ratings: &mut [u32],
     numbers: &mut [u16],
 )
-    requires { ⌜ SomeTangledIn s (now sizes) (now vias) (now halves) (now uppers) (now lowers) (now numbers) ⌝ }
-    ensures { λ _. ⌜ ((p : PlanData) → TangledIn p s (now (sizes .entry)) (now (vias .entry)) (now (halves .entry)) (now (uppers .entry)) (now (lowers .entry)) (now (numbers .entry))
-        → UntangledIn p s (now (vias .entry)) (now (halves .entry)) (now (uppers .entry)) (now (lowers .entry)) (now (numbers .entry))
-        (now (vias .exit)) (now (halves .exit)) (now (uppers .exit)) (now (lowers .exit)) (now (numbers .exit))) ⌝ }
+    requires { ⌜ SomeTangledIn s (now sizes) (now vias) (now halves) (now uppers) (now lowers) (now ratings) (now numbers) ⌝ }
+    ensures { λ _. ⌜ ((p : PlanData) → TangledIn p s (now (sizes .entry)) (now (vias .entry)) (now (halves .entry)) (now (uppers .entry))
+        (now (lowers .entry)) (now (ratings .entry)) (now (numbers .entry))
+        → UntangledIn p s (now (vias .entry)) (now (halves .entry)) (now (uppers .entry)) (now (lowers .entry)) (now (ratings .entry)) (now (numbers .entry))
+        (now (vias .exit)) (now (halves .exit)) (now (uppers .exit)) (now (lowers .exit)) (now (ratings .exit)) (now (numbers .exit))) ⌝ }
 {
     let k = wide(s.levels);
     let v = s.vertices;
@@ -50,6 +52,7 @@ fn untangle_fronts(
         &mut halves[..v],
         &mut uppers[..e],
         &mut lowers[..e],
+        &mut ratings[..e],
         &mut numbers[..v],
     );
 }
@@ -63,18 +66,29 @@ pub fn read_tangled_into(
     halves: &mut [u16],
     uppers: &mut [u32],
     lowers: &mut [u32],
+    ratings: &mut [u32],
     numbers: &mut [u16],
 ) -> Found
-    requires { ⌜ Arrays (now sizes) (now vias) (now halves) (now uppers) (now lowers) × (length (now numbers) ≡ maxVertices) ⌝ }
+    requires { ⌜ Arrays (now sizes) (now vias) (now halves) (now uppers) (now lowers) (now ratings) × (length (now numbers) ≡ maxVertices) ⌝ }
     ensures { λ r. ⌜ FindsTangled (now (text .entry)) r (now (sizes .entry)) (now (vias .entry)) (now (halves .entry)) (now (uppers .entry))
-        (now (lowers .entry)) (now (numbers .entry)) (now (sizes .exit)) (now (vias .exit)) (now (halves .exit)) (now (uppers .exit)) (now (lowers .exit)) (now (numbers .exit)) ⌝ }
+        (now (lowers .entry)) (now (ratings .entry)) (now (numbers .entry)) (now (sizes .exit)) (now (vias .exit)) (now (halves .exit))
+        (now (uppers .exit)) (now (lowers .exit)) (now (ratings .exit)) (now (numbers .exit)) ⌝ }
 {
-    let r = read_into(text, sizes, vias, halves, uppers, lowers);
+    let r = read_into(text, sizes, vias, halves, uppers, lowers, ratings);
     if refuses_both(r.failed) {
         return r;
     }
     let scanned = r.scanned;
-    untangle_fronts(scanned, sizes, vias, halves, uppers, lowers, numbers);
+    untangle_fronts(
+        scanned,
+        sizes,
+        vias,
+        halves,
+        uppers,
+        lowers,
+        ratings,
+        numbers,
+    );
     Found { failed: 0, scanned }
 }
 
@@ -97,6 +111,7 @@ pub fn read_tangled(text: &[u8]) -> ReadTangled
     let mut halves = [0u16; Plan::MAX_VERTICES];
     let mut uppers = [0u32; Plan::MAX_SEGMENTS];
     let mut lowers = [0u32; Plan::MAX_SEGMENTS];
+    let mut ratings = [0u32; Plan::MAX_SEGMENTS];
     let mut numbers = [0u16; Plan::MAX_VERTICES];
     let r = read_tangled_into(
         text,
@@ -105,6 +120,7 @@ pub fn read_tangled(text: &[u8]) -> ReadTangled
         &mut halves,
         &mut uppers,
         &mut lowers,
+        &mut ratings,
         &mut numbers,
     );
     if r.failed != 0 {
@@ -122,6 +138,7 @@ pub fn read_tangled(text: &[u8]) -> ReadTangled
             halves,
             uppers,
             lowers,
+            ratings,
         ),
         numbers,
     }

@@ -30,11 +30,11 @@ counts : map lowersWalked ([] ∷ (7 ∷ []) ∷ (7 ∷ 6 ∷ []) ∷ (5 ∷ 7 �
 unfolding walkFrom
 counts = refl
 
--- four levels; between the second and the third a box stands among vias, and two cables cross
+-- four levels; between the second and the third a box stands among vias, and two cables cross, whatever their ratings
 abbrev tangledText : List ℕ
 tangledText =
     bytes "(plan 4 1 1)\n(level (box 1) (box 1))\n(level (via) (box 1) (via) (via))\n(level (box 1) (via) (via))\n(level (box 1) (box 1))\n"
-    ++ bytes "(seg 0 2)\n(seg 0 4)\n(seg 1 5)\n(seg 2 8)\n(seg 3 6)\n(seg 4 7)\n(seg 5 6)\n(seg 7 9)\n(seg 8 10)\n(end)\n"
+    ++ bytes "(seg 0 2)\n(seg 0 4)\n(seg 1 5)\n(seg 2 8 100)\n(seg 3 6)\n(seg 4 7)\n(seg 5 6)\n(seg 7 9)\n(seg 8 10)\n(end)\n"
 
 abbrev walks : List ℕ → List WalkAnswer
 walks text = map (λ l. textWalk l text) (0 ∷ 1 ∷ 2 ∷ 3 ∷ 4 ∷ [])

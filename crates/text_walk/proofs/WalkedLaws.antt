@@ -50,15 +50,16 @@ walk-same : (p : PlanData) (l : ℕ) → p .levels ≡ length (p .sizes) → wal
 unfolding walkOf
 walk-same p l e = let same : hasNext p l ≡ hasNext (graph p) l = ap (λ (k : ℕ). ltb 0 l && ltb l k) e in rw (same, same-walk p l)
 
-pub passed-in : (s : List ℕ) (p : PlanData) → tangledReading s ≡ accepted p → {r : Scanned} {sizes : List ℕ} {vias : List Bool} {halves uppers lowers sizes′ : List ℕ}
-    {vias′ : List Bool} {halves′ uppers′ lowers′ : List ℕ} → Kept p r sizes vias halves uppers lowers sizes′ vias′ halves′ uppers′ lowers′ → PassedIn p r sizes′ vias′ uppers′ lowers′
-passed-in s p e {r} {sizes} {vias} {halves} {uppers} {lowers} {sizes′} {vias′} {halves′} {uppers′} {lowers′} K =
+pub passed-in : (s : List ℕ) (p : PlanData) → tangledReading s ≡ accepted p → {r : Scanned} {sizes : List ℕ} {vias : List Bool} {halves uppers lowers ratings sizes′ : List ℕ}
+    {vias′ : List Bool} {halves′ uppers′ lowers′ ratings′ : List ℕ} → Kept p r sizes vias halves uppers lowers ratings sizes′ vias′ halves′ uppers′ lowers′ ratings′
+    → PassedIn p r sizes′ vias′ uppers′ lowers′
+passed-in s p e {r} {sizes} {vias} {halves} {uppers} {lowers} {ratings} {sizes′} {vias′} {halves′} {uppers′} {lowers′} {ratings′} K =
     let w = limits p (tangled-limits s p e) in
     let t = tangled-through s p e in
-    let a = sym (sizes-front p r sizes vias halves uppers lowers sizes′ vias′ halves′ uppers′ lowers′ K) in
-    let b = sym (vias-front p r sizes vias halves uppers lowers sizes′ vias′ halves′ uppers′ lowers′ K) in
-    let c = sym (uppers-front p r sizes vias halves uppers lowers sizes′ vias′ halves′ uppers′ lowers′ K) in
-    let d = sym (lowers-front p r sizes vias halves uppers lowers sizes′ vias′ halves′ uppers′ lowers′ K) in
+    let a = sym (sizes-front p r sizes vias halves uppers lowers ratings sizes′ vias′ halves′ uppers′ lowers′ ratings′ K) in
+    let b = sym (vias-front p r sizes vias halves uppers lowers ratings sizes′ vias′ halves′ uppers′ lowers′ ratings′ K) in
+    let c = sym (uppers-front p r sizes vias halves uppers lowers ratings sizes′ vias′ halves′ uppers′ lowers′ ratings′ K) in
+    let d = sym (lowers-front p r sizes vias halves uppers lowers ratings sizes′ vias′ halves′ uppers′ lowers′ ratings′ K) in
     record {
       sizes-reach = omega (arith, K .level-lines, within (p .sizes) sizes sizes′ (K .sizes-kept));
       vias-reach = omega (arith, K .vertices, within (p .vias) vias vias′ (K .vias-kept));

@@ -45,6 +45,7 @@ pub fn walk_text(l: usize, text: &[u8]) -> WalkAnswer
     let mut halves = [0u16; Plan::MAX_VERTICES];
     let mut uppers = [0u32; Plan::MAX_SEGMENTS];
     let mut lowers = [0u32; Plan::MAX_SEGMENTS];
+    let mut ratings = [0u32; Plan::MAX_SEGMENTS];
     let r = read_into(
         text,
         &mut sizes,
@@ -52,6 +53,7 @@ pub fn walk_text(l: usize, text: &[u8]) -> WalkAnswer
         &mut halves,
         &mut uppers,
         &mut lowers,
+        &mut ratings,
     );
     if refuses_both(r.failed) {
         return WalkAnswer::Refused(r.failed);

@@ -44,7 +44,8 @@ stored-data p l =
     let h = front (p .halves) (replicate maxVertices 0) (length (p .vias)) (l .halves-long) in
     let a = front (p .uppers) (replicate maxSegments 0) (length (p .uppers)) refl in
     let b = front (p .lowers) (replicate maxSegments 0) (length (p .uppers)) (l .ends-long) in
-    rw (s, v, h, a, b)
+    let w = front (p .ratings) (replicate maxSegments 0) (length (p .uppers)) (l .ratings-long) in
+    rw (s, v, h, a, b, w)
 
 -- a plan that is that of a text is within its limits
 pub stored-limits : {p : Plan} {v e : ℕ} → StoredPlan p v e → StoredLimits p v e

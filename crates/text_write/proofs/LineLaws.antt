@@ -10,14 +10,15 @@ use lib.Seq.{getD-append-add, take-suc, take-all}
 use Rattle.ints.specs.Lists.{sum, concat}
 use Rattle.ints.proofs.Lists.{map-getD, concat-append, concat-one}
 use Rattle.plan.specs.Plan.{PlanData, numbers, levelsFrom, levelsOf}
-use Rattle.plan.specs.Segments.{segmentsFrom, segmentsOf}
+use Rattle.plan.specs.Segments.{segmentsFrom, segmentsOf, ratedFrom, ratedOf}
 use Rattle.plan.specs.inner.Graph.{segment}
 use Rattle.plan.specs.Acceptable.{limitsHold}
 use Rattle.plan.proofs.LevelLaws.{numbers-append}
+use Rattle.plan.proofs.RatedLaws.{rated, rated-at, rated-count}
 use Rattle.plan.proofs.SegmentLaws.{segment-at, segments-count}
 use Rattle.text.specs.Writing.{planLine, vertexWords, levelLineOf, segmentLineOf, lastLine, linesOf, textOf}
 use Rattle.text_write.specs.inner.Written.{Room, Wrote, Fronts}
-use Rattle.text_write.specs.inner.Data.{verticesOf, numbersOf, rowWords, wordsOf, lineOf, levelVertices, LineRoom}
+use Rattle.text_write.specs.inner.Data.{verticesOf, numbersOf, rowWords, wordsOf, ratedSegment, lineOf, levelVertices, LineRoom}
 use Rattle.text_write.proofs.Written.{and-then, wrote-none, wrote-long, front-of}
 
 -- ---- lists of lists
@@ -90,16 +91,25 @@ module _ (p : PlanData) where
   levelLines = map (levelLineOf p) (levelsFrom 0 (p .sizes))
 
   abbrev segmentLines : List (List ℕ)
-  segmentLines = map segmentLineOf (segmentsFrom (p .uppers) (p .lowers))
+  segmentLines = map segmentLineOf (ratedFrom (segmentsFrom (p .uppers) (p .lowers)) (p .ratings))
 
   level-lines : length levelLines ≡ length (p .sizes)
   level-lines = length-map (levelsFrom 0 (p .sizes)) (levelLineOf p) ∙ levels-count 0 (p .sizes)
 
-  segment-lines : length (p .lowers) ≡ length (p .uppers) → length segmentLines ≡ length (p .uppers)
-  segment-lines e = length-map (segmentsFrom (p .uppers) (p .lowers)) segmentLineOf ∙ segments-count (p .uppers) (p .lowers) e
+  -- as many lower ends and ratings as upper ends
+  abbrev pub Even : Type 0
+  Even = (length (p .lowers) ≡ length (p .uppers)) × (length (p .ratings) ≡ length (p .uppers))
+
+  rated-all : Even → length (p .ratings) ≡ length (segmentsFrom (p .uppers) (p .lowers))
+  rated-all e = e .1 ∙ sym (segments-count (p .uppers) (p .lowers) (e .0))
+
+  segment-lines : Even → length segmentLines ≡ length (p .uppers)
+  segment-lines e =
+      let ss = segmentsFrom (p .uppers) (p .lowers) in
+      length-map (ratedFrom ss (p .ratings)) segmentLineOf ∙ rated-count ss (p .ratings) (rated-all e) ∙ segments-count (p .uppers) (p .lowers) (e .0)
 
   lines-from : linesOf p ≡ planLine p ∷ (levelLines ++ (segmentLines ++ lastLine ∷ []))
-  unfolding linesOf levelsOf segmentsOf
+  unfolding linesOf levelsOf segmentsOf ratedOf
   lines-from = ap (λ (l : List (List ℕ)). planLine p ∷ l) (append-assoc levelLines segmentLines (lastLine ∷ []))
 
   pub line-plan : lineOf p 0 ≡ planLine p
@@ -119,20 +129,22 @@ module _ (p : PlanData) where
   after-levels : (i : ℕ) → lineOf p (suc (length (p .sizes) + i)) ≡ getD (segmentLines ++ lastLine ∷ []) i []
   after-levels i = rw (← level-lines) (ap (λ (ls : List (List ℕ)). getD ls (suc (length levelLines + i)) []) lines-from ∙ getD-append-add levelLines (segmentLines ++ lastLine ∷ []) i [])
 
-  pub line-segment : (n : ℕ) → length (p .sizes) < n → length (p .lowers) ≡ length (p .uppers) → n - 1 - length (p .sizes) < length (p .uppers)
-      → lineOf p n ≡ segmentLineOf (segment (getD (p .uppers) (n - 1 - length (p .sizes)) 0) (getD (p .lowers) (n - 1 - length (p .sizes)) 0))
+  pub line-segment : (n : ℕ) → length (p .sizes) < n → Even → n - 1 - length (p .sizes) < length (p .uppers) → let i = n - 1 - length (p .sizes) in
+      lineOf p n ≡ segmentLineOf (ratedSegment (getD (p .uppers) i 0) (getD (p .lowers) i 0) (getD (p .ratings) i 0))
   line-segment n l e h =
       let i = n - 1 - length (p .sizes) in
+      let ss = segmentsFrom (p .uppers) (p .lowers) in
+      let count = segments-count (p .uppers) (p .lowers) (e .0) in
       let f : n ≡ suc (length (p .sizes) + i) = omega arith in
       ap (lineOf p) f ∙ after-levels i
       ∙ List·getD-append segmentLines (lastLine ∷ []) [] i (omega (arith, segment-lines e))
-      ∙ map-getD segmentLineOf (segmentsFrom (p .uppers) (p .lowers)) i (segment 0 0) [] (omega (arith, segments-count (p .uppers) (p .lowers) e))
-      ∙ ap segmentLineOf (segment-at (p .uppers) (p .lowers) i e h)
+      ∙ map-getD segmentLineOf (ratedFrom ss (p .ratings)) i (rated (segment 0 0) 0) [] (omega (arith, rated-count ss (p .ratings) (rated-all e), count))
+      ∙ ap segmentLineOf (rated-at ss (p .ratings) i (rated-all e) (omega (arith, count)) ∙ ap (λ s. rated s (getD (p .ratings) i 0)) (segment-at (p .uppers) (p .lowers) i (e .0) h))
 
-  pub lines-count : length (p .lowers) ≡ length (p .uppers) → length (linesOf p) ≡ length (p .sizes) + length (p .uppers) + 2
+  pub lines-count : Even → length (linesOf p) ≡ length (p .sizes) + length (p .uppers) + 2
   lines-count e = rw lines-from (omega (arith, length-append levelLines (segmentLines ++ lastLine ∷ []), length-append segmentLines (lastLine ∷ []), level-lines, segment-lines e))
 
-  pub line-last : (n : ℕ) → length (p .sizes) < n → length (p .lowers) ≡ length (p .uppers) → length (p .uppers) ≤ n - 1 - length (p .sizes) → n < length (linesOf p)
+  pub line-last : (n : ℕ) → length (p .sizes) < n → Even → length (p .uppers) ≤ n - 1 - length (p .sizes) → n < length (linesOf p)
       → lineOf p n ≡ lastLine
   line-last n l e h k =
       let f : n ≡ suc (length (p .sizes) + length (p .uppers)) = omega (arith, lines-count e) in

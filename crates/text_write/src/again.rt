@@ -47,6 +47,7 @@ pub fn stored_line(plan: Plan, vertices: usize, segments: usize, n: usize, out: 
     let halves = plan.halves;
     let uppers = plan.uppers;
     let lowers = plan.lowers;
+    let ratings = plan.ratings;
     write_line(
         plan.levels,
         plan.gap,
@@ -56,6 +57,7 @@ pub fn stored_line(plan: Plan, vertices: usize, segments: usize, n: usize, out: 
         &halves[..vertices],
         &uppers[..segments],
         &lowers[..segments],
+        &ratings[..segments],
         n,
         out,
     )
@@ -72,6 +74,7 @@ pub fn stored_text(plan: Plan, vertices: usize, segments: usize, out: &mut [u8])
     let halves = plan.halves;
     let uppers = plan.uppers;
     let lowers = plan.lowers;
+    let ratings = plan.ratings;
     write_text(
         plan.levels,
         plan.gap,
@@ -81,6 +84,7 @@ pub fn stored_text(plan: Plan, vertices: usize, segments: usize, out: &mut [u8])
         &halves[..vertices],
         &uppers[..segments],
         &lowers[..segments],
+        &ratings[..segments],
         out,
     )
 }

@@ -1,4 +1,5 @@
 // The lines of a plan's text, written from a position of a lent buffer on. Each answers the position past what it wrote.
+use crate::number::put_decimal;
 use crate::number::put_then;
 use crate::number::put_word;
 use ints::total;
@@ -8,11 +9,10 @@ ghost use mathlib.Core.Bool.{true};
 ghost use Prim.Native.Nat.{_+_, _<_, _≤_};
 ghost use lib.ListN.{length};
 ghost use Rattle.plan.specs.Plan.{numbers, dataOf};
-ghost use Rattle.plan.specs.inner.Graph.{segment};
 ghost use Rattle.plan.specs.Acceptable.{limitsHold};
-ghost use Rattle.text.specs.Writing.{planLine, levelLineOf, segmentLineOf, textOf};
+ghost use Rattle.text.specs.Writing.{planLine, levelLineOf, ratingWords, segmentLineOf, textOf};
 ghost use Rattle.text_write.specs.inner.Written.{Room, Wrote, Fronts};
-ghost use Rattle.text_write.specs.inner.Data.{verticesOf, numbersOf, rowWords, wordsOf, lineOf, levelVertices, LevelRoom, LineRoom};
+ghost use Rattle.text_write.specs.inner.Data.{verticesOf, numbersOf, rowWords, wordsOf, ratedSegment, lineOf, levelVertices, LevelRoom, LineRoom};
 
 // "(plan K G S)"
 fn put_plan(out: &mut [u8], at: usize, levels: u32, gap: u32, spacing: u32) -> usize
@@ -37,14 +37,28 @@ fn put_vertex(out: &mut [u8], at: usize, via: bool, half: u16) -> usize
     put_then(out, h, half as u64, b")")
 }
 
-// "(seg A B)"
-fn put_segment(out: &mut [u8], at: usize, upper: u32, lower: u32) -> usize
-    requires { ⌜ Room (segmentLineOf (segment upper lower)) (now out) at ⌝ }
-    ensures { λ r. ⌜ Wrote (segmentLineOf (segment upper lower)) (now (out .entry)) at r (now (out .exit)) ⌝ }
+// " W"; a rating of 1 is "never written".
+fn put_rating(out: &mut [u8], at: usize, rating: u32) -> usize
+    requires { ⌜ Room (ratingWords rating) (now out) at ⌝ }
+    ensures { λ r. ⌜ Wrote (ratingWords rating) (now (out .entry)) at r (now (out .exit)) ⌝ }
+{
+    if rating == 1 {
+        return at;
+    }
+    let w = put_word(out, at, b" ");
+    put_decimal(out, w, rating as u64)
+}
+
+// "(seg A B)" or "(seg A B W)"
+fn put_segment(out: &mut [u8], at: usize, upper: u32, lower: u32, rating: u32) -> usize
+    requires { ⌜ Room (segmentLineOf (ratedSegment upper lower rating)) (now out) at ⌝ }
+    ensures { λ r. ⌜ Wrote (segmentLineOf (ratedSegment upper lower rating)) (now (out .entry)) at r (now (out .exit)) ⌝ }
 {
     let a = put_word(out, at, b"(seg ");
     let b = put_then(out, a, upper as u64, b" ");
-    put_then(out, b, lower as u64, b")\n")
+    let w = put_decimal(out, b, lower as u64);
+    let end = put_rating(out, w, rating);
+    put_word(out, end, b")\n")
 }
 
 // The vertices `first` and after, `count` of them.
@@ -113,11 +127,12 @@ fn put_line(
     halves: &[u16],
     uppers: &[u32],
     lowers: &[u32],
+    ratings: &[u32],
     n: usize,
 ) -> usize
-    requires { ⌜ LineRoom (dataOf levels gap spacing (now sizes) (now vias) (now halves) (now uppers) (now lowers)) n (now out) at ⌝ }
+    requires { ⌜ LineRoom (dataOf levels gap spacing (now sizes) (now vias) (now halves) (now uppers) (now lowers) (now ratings)) n (now out) at ⌝ }
     ensures { λ r. ⌜ Wrote (lineOf (dataOf levels gap spacing (now (sizes .entry)) (now (vias .entry)) (now (halves .entry)) (now (uppers .entry))
-        (now (lowers .entry))) n) (now (out .entry)) at r (now (out .exit)) ⌝ }
+        (now (lowers .entry)) (now (ratings .entry))) n) (now (out .entry)) at r (now (out .exit)) ⌝ }
 {
     if n == 0 {
         return put_plan(out, at, levels, gap, spacing);
@@ -127,7 +142,7 @@ fn put_line(
     }
     let i = n - 1 - sizes.len();
     if i < uppers.len() {
-        return put_segment(out, at, uppers[i], lowers[i]);
+        return put_segment(out, at, uppers[i], lowers[i], ratings[i]);
     }
     put_word(out, at, b"(end)\n")
 }
@@ -142,12 +157,13 @@ pub fn line(
     halves: &[u16],
     uppers: &[u32],
     lowers: &[u32],
+    ratings: &[u32],
     n: usize,
     out: &mut [u8],
 ) -> usize
-    requires { ⌜ LineRoom (dataOf levels gap spacing (now sizes) (now vias) (now halves) (now uppers) (now lowers)) n (now out) 0 ⌝ }
+    requires { ⌜ LineRoom (dataOf levels gap spacing (now sizes) (now vias) (now halves) (now uppers) (now lowers) (now ratings)) n (now out) 0 ⌝ }
     ensures { λ r. ⌜ Fronts (lineOf (dataOf levels gap spacing (now (sizes .entry)) (now (vias .entry)) (now (halves .entry))
-        (now (uppers .entry)) (now (lowers .entry))) n) (now (out .entry)) r (now (out .exit)) ⌝ }
+        (now (uppers .entry)) (now (lowers .entry)) (now (ratings .entry))) n) (now (out .entry)) r (now (out .exit)) ⌝ }
 {
     put_line(
         out,
@@ -160,6 +176,7 @@ pub fn line(
         halves,
         uppers,
         lowers,
+        ratings,
         n,
     )
 }
@@ -174,12 +191,13 @@ pub fn text(
     halves: &[u16],
     uppers: &[u32],
     lowers: &[u32],
+    ratings: &[u32],
     out: &mut [u8],
 ) -> usize
-    requires { ⌜ (limitsHold (dataOf levels gap spacing (now sizes) (now vias) (now halves) (now uppers) (now lowers)) ≡ true)
-        × (length (textOf (dataOf levels gap spacing (now sizes) (now vias) (now halves) (now uppers) (now lowers))) ≤ length (now out)) ⌝ }
+    requires { ⌜ (limitsHold (dataOf levels gap spacing (now sizes) (now vias) (now halves) (now uppers) (now lowers) (now ratings)) ≡ true)
+        × (length (textOf (dataOf levels gap spacing (now sizes) (now vias) (now halves) (now uppers) (now lowers) (now ratings))) ≤ length (now out)) ⌝ }
     ensures { λ r. ⌜ Fronts (textOf (dataOf levels gap spacing (now (sizes .entry)) (now (vias .entry)) (now (halves .entry))
-        (now (uppers .entry)) (now (lowers .entry)))) (now (out .entry)) r (now (out .exit)) ⌝ }
+        (now (uppers .entry)) (now (lowers .entry)) (now (ratings .entry)))) (now (out .entry)) r (now (out .exit)) ⌝ }
 {
     let lines = sizes.len() + uppers.len() + 2;
     let mut at: usize = 0;
@@ -196,6 +214,7 @@ pub fn text(
             halves,
             uppers,
             lowers,
+            ratings,
             n,
         );
         n += 1;

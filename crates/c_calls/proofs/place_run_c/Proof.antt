@@ -8,7 +8,7 @@ use Rattle.c_calls.proofs.place_run_c.Tie as tie
 returns : tie.Need-returns
 returns c =
     let p = c .before .before in
-    let s = p .before .before .before .before .before .before in
+    let s = p .before .before .before .before .before .before .before in
     let l = simp (back (s .fits .left)) at (p .before .before .before .bound .ensures) in
     let r = simp (back (s .fits .right)) at (p .before .before .bound2 .ensures) in
     run-answers (rw (l, r) at (p .place-run .ensures)) (c .run-code .ensures)

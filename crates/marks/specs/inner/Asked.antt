@@ -46,7 +46,7 @@ pub record Agreeing (vias : List Bool) (halves uppers lowers : List ℕ) (xs : L
 
 -- A plan with these data, whatever its gap.
 abbrev pub DataOf : PlanData → ℕ → List ℕ → List Bool → List ℕ → List ℕ → List ℕ → Type 0
-DataOf p spacing sizes vias halves uppers lowers = p ≡ dataOf (p .levels) (p .gap) spacing sizes vias halves uppers lowers
+DataOf p spacing sizes vias halves uppers lowers = p ≡ dataOf (p .levels) (p .gap) spacing sizes vias halves uppers lowers (p .ratings)
 
 -- A plan with these data whose vertices stand at these heights.
 pub record DataAt (p : PlanData) (heights : List ℕ) (vias : List Bool) (halves uppers lowers : List ℕ) : Type 0 where

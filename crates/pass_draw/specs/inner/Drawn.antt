@@ -44,6 +44,7 @@ pub record Started (k : Begun) (p : PlanData) : Type 0 where
   pub viasAre : k .graph .vias ≡ p .vias
   pub uppersAre : k .graph .uppers ≡ p .uppers
   pub lowersAre : k .graph .lowers ≡ p .lowers
+  pub ratingsAre : k .graph .ratings ≡ p .ratings
 
 -- The same with the sizes of the levels,
 pub record AtStart (k : Begun) (p : PlanData) : Type 0 where
@@ -71,18 +72,21 @@ pub record PlanLists : Type 0 where
   pub halves : List ℕ
   pub uppers : List ℕ
   pub lowers : List ℕ
+  pub ratings : List ℕ
 
-abbrev pub planLists : ℕ → List ℕ → List Bool → List ℕ → List ℕ → List ℕ → PlanLists
-planLists gap sizes vias halves uppers lowers = record {
+abbrev pub planLists : ℕ → List ℕ → List Bool → List ℕ → List ℕ → List ℕ → List ℕ → PlanLists
+planLists gap sizes vias halves uppers lowers ratings = record {
   gap = gap;
   sizes = sizes;
   vias = vias;
   halves = halves;
   uppers = uppers;
   lowers = lowers;
+  ratings = ratings;
 }
 
 -- They are those of p, and these are its preliminary positions.
 pub record Outset (l : PlanLists) (at : List ℤ) (p : PlanData) : Type 0 where
   pub lists : HoldsPlan p (l .gap) (l .sizes) (l .vias) (l .halves) (l .uppers) (l .lowers)
+  pub ratingsAre : p .ratings ≡ l .ratings
   pub preliminaries : at ≡ preliminary p

@@ -10,14 +10,24 @@ use Rattle.passes.specs.Drawing.{Drawing, drawingOf}
 use Rattle.passes.specs.Words.{maxListed}
 use Rattle.passes.specs.Stored.{placingsFrom}
 use Rattle.passes.specs.Demand3.{Demand3}
-use Rattle.plan.specs.inner.Held.{SomePlan}
+use Rattle.plan.specs.inner.Held.{HoldsPlan}
 use Rattle.pass_list.specs.inner.Listing.{Listing, columns}
 use Rattle.pass_draw.specs.inner.Drawn.{Wanted, Unlisted}
 
+-- p has these lists and ratings, whatever its spacing, and passes the checks.
+pub record HoldsRated (p : PlanData) (gap : ℕ) (sizes : List ℕ) (vias : List Bool) (halves uppers lowers ratings : List ℕ) : Type 0 where
+  pub lists : HoldsPlan p gap sizes vias halves uppers lowers
+  pub ratingsAre : p .ratings ≡ ratings
+
+-- There is such a plan.
+pub record SomeRated (gap : ℕ) (sizes : List ℕ) (vias : List Bool) (halves uppers lowers ratings : List ℕ) : Type 0 where
+  pub plan : PlanData
+  pub lists : HoldsRated plan gap sizes vias halves uppers lowers ratings
+
 -- An acceptable plan's lists, room for its positions, and the arrays of an empty list of placings.
-pub record Blank (gap : ℕ) (ns : List ℕ) (vias : List Bool) (halves uppers lowers : List ℕ) (preliminary finals : List ℤ)
+pub record Blank (gap : ℕ) (ns : List ℕ) (vias : List Bool) (halves uppers lowers ratings : List ℕ) (preliminary finals : List ℤ)
     (passes levels counts vertices : List ℕ) (positions : List ℤ) : Type 0 where
-  pub some : SomePlan gap ns vias halves uppers lowers
+  pub some : SomeRated gap ns vias halves uppers lowers ratings
   pub preliminaryRoom : length preliminary ≡ length vias
   pub finalRoom : length finals ≡ length vias
   pub noPasses : passes ≡ replicate maxListed 0
@@ -43,9 +53,9 @@ pub record Made (p : PlanData) (n : ℕ) (preliminary finals : List ℤ) (passes
   pub demand3 : Demand3 p (drawingAt n preliminary finals passes levels counts vertices positions)
 
 -- The same where the list may not be wanted.
-pub record BlankIfWanted (gap : ℕ) (ns : List ℕ) (vias : List Bool) (halves uppers lowers : List ℕ) (preliminary finals : List ℤ)
+pub record BlankIfWanted (gap : ℕ) (ns : List ℕ) (vias : List Bool) (halves uppers lowers ratings : List ℕ) (preliminary finals : List ℤ)
     (passes levels counts vertices : List ℕ) (positions : List ℤ) : Type 0 where
-  pub some : SomePlan gap ns vias halves uppers lowers
+  pub some : SomeRated gap ns vias halves uppers lowers ratings
   pub preliminaryRoom : length preliminary ≡ length vias
   pub finalRoom : length finals ≡ length vias
   pub noList : Wanted (columns passes levels counts vertices positions) → Unlisted (columns passes levels counts vertices positions)

@@ -2,6 +2,7 @@
 -- from `from` up to `end`.
 use mathlib.Core.Bool.{cond, _&&_}
 use mathlib.Core.List.{List}
+use mathlib.Core.Path.{_≡_}
 use Prim.Native.Nat.{ℕ, _+_, _-_, _<_, _≤_}
 use lib.Dec.{ltb}
 use lib.ListN.{length, getD, take, drop}
@@ -14,6 +15,7 @@ use Rattle.pass_tables.specs.inner.Tables.{along}
 use Rattle.run.specs.declared.types.Bound.{Bound}
 use Rattle.run.specs.declared.types.Bound.the-variants.{Free, At}
 use Rattle.run.specs.Call.{Request}
+use Rattle.run_columns.specs.inner.Sums.{ratingsBetween}
 use Rattle.place_run.specs.inner.Requests.{requestOf}
 
 -- Its first member, and one past its last: a via stands wherever the boxes do not reach the level's end.
@@ -41,15 +43,19 @@ countsOf first v n = along (λ (i : ℕ). getD first (v + i + 1) 0 - getD first 
 abbrev pub nearOf : List ℕ → List ℤ → ℕ → ℕ → List ℤ
 nearOf ends xs k n = along (λ (i : ℕ). positionOf xs (getD ends (k + i) 0)) 0 n
 
+-- The ratings of the n row entries from k on, by the sums so far.
+abbrev pub ratesOf : List ℕ → ℕ → ℕ → List ℕ
+ratesOf sums k n = ratingsBetween (take (n + 1) (drop k sums))
+
 -- How many neighbours the boxes from `from` up to `end` have in all.
 abbrev pub rowsLong : ℕ → ℕ → List ℕ → ℕ
 rowsLong from end first = getD first end 0 - getD first from 0
 
 -- The run of these bounds and distances.
-abbrev pub asked : Bound → Bound → List ℕ → ℕ → ℕ → List ℕ → List ℕ → List ℤ → Request
-asked left right distances from end first ends xs =
+abbrev pub asked : Bound → Bound → List ℕ → ℕ → ℕ → List ℕ → List ℕ → List ℕ → List ℤ → Request
+asked left right distances from end first ends sums xs =
     requestOf left right (part from end xs) distances (countsOf first from (end - from))
-    (nearOf ends xs (getD first from 0) (getD first end 0 - getD first from 0))
+    (nearOf ends xs (getD first from 0) (rowsLong from end first)) (ratesOf sums (getD first from 0) (rowsLong from end first))
 
 -- The distances after its placing, where everything stands at xs then: an open run takes on those of its members.
 abbrev pub takenOn : ℕ → ℕ → ℕ → ℕ → List ℤ → List ℕ → List ℕ
@@ -57,7 +63,7 @@ takenOn start from end to xs apart =
     cond (ltb start from && ltb end to) apart (takeOn xs (numbers (lowOf start from) (highOf end to - lowOf start from)) apart)
 
 -- The boxes from `from` up to `end` have their rows, and room in the arrays of the largest run.
-pub record Rowed (from end : ℕ) (first ends : List ℕ) (xs : List ℤ) : Type 0 where
+pub record Rowed (from end : ℕ) (first ends sums : List ℕ) (xs : List ℤ) : Type 0 where
   pub order : from ≤ end
   pub boxes : end ≤ length xs
   pub few : end - from ≤ 64
@@ -65,6 +71,7 @@ pub record Rowed (from end : ℕ) (first ends : List ℕ) (xs : List ℤ) : Type
   pub rising : (v : ℕ) → v + 1 < length first → getD first v 0 ≤ getD first (v + 1) 0
   pub inside : getD first end 0 ≤ length ends
   pub many : length ends ≤ 2048
+  pub summed : length sums ≡ length ends + 1
   pub vertices : Below (length xs) ends
 
 -- The members from `low` up to `high` stand in their order, everything within ±2^40.

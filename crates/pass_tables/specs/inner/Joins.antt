@@ -7,7 +7,7 @@ use Prim.Native.Nat.{ℕ, zero, suc, _+_, _<_, _≤_}
 use lib.Dec.{eqb}
 use lib.ListN.{length, getD}
 use Rattle.plan.specs.Plan.{PlanData}
-use Rattle.passes.specs.Ready.{preceding}
+use Rattle.passes.specs.Ready.{preceding, precedingRatings}
 use Rattle.pass_tables.specs.inner.Tables.{pickedBy}
 
 -- What stands for "none": no vertex has this number.
@@ -68,7 +68,9 @@ abbrev pub orNone : Option ℕ → ℕ
 orNone none = noVertex
 orNone (some w) = w
 
--- Keys and other ends of the segments by which pass q finds neighbours "on the preceding level".
-pub record Preceding (p : PlanData) (q : ℕ) (keys others : List ℕ) : Type 0 where
+-- Keys, other ends and ratings of the segments by which pass q finds neighbours "on the preceding level".
+pub record Preceding (p : PlanData) (q : ℕ) (keys others ratings : List ℕ) : Type 0 where
   pub near : (v : ℕ) → preceding p q v ≡ pickedBy v keys others
   pub long : length others ≡ length keys
+  pub ratings-near : (v : ℕ) → precedingRatings p q v ≡ pickedBy v keys ratings
+  pub ratings-long : length ratings ≡ length keys

@@ -8,6 +8,8 @@ use lib.ListN.{length, getD}
 use lib.IntN.{ℤ}
 use Rattle.plan.specs.Plan.{PlanData, vertexCount, levelOf}
 use Rattle.plan.specs.Acceptable.{acceptable}
+use Rattle.ints.specs.Ratings.{allRatings}
+use Rattle.run_columns.specs.inner.Sums.{ratingsBetween}
 use Rattle.plan.specs.inner.Graph.{Below}
 use Rattle.passes.specs.Runs.{Run}
 use Rattle.passes.specs.State.{State}
@@ -62,17 +64,22 @@ pub record RunIs (p : PlanData) (r : Run) (start from end to : ℕ) : Type 0 whe
   pub past : end ≡ is .first + is .count
   pub ends : to ≡ firstOn p (r .level) + sizeOn p (r .level)
 
--- The neighbours "on the preceding level" of pass q, row by row: those of v stand in `ends` from first[v] up to first[v + 1].
-pub record Neighbouring (p : PlanData) (q : ℕ) (first ends : List ℕ) : Type 0 where
+-- The neighbours "on the preceding level" of pass q, row by row: those of v stand in `ends` from first[v] up to first[v + 1]. The ratings
+-- of the segments to them stand in the same rows, as sums so far.
+pub record Neighbouring (p : PlanData) (q : ℕ) (first ends sums : List ℕ) : Type 0 where
   pub keys : List ℕ
   pub others : List ℕ
-  pub preceding : Preceding p q keys others
+  pub ratings : List ℕ
+  pub preceding : Preceding p q keys others ratings
   pub rows : Rows keys others first ends
+  pub rated : Rows keys ratings first (ratingsBetween sums)
   pub long : length first ≡ suc (vertexCount p)
   pub all : length ends ≡ length keys
+  pub summed : length sums ≡ length keys + 1
   pub few : length keys ≤ 2048
   pub keyed : Below (vertexCount p) keys
   pub vertices : Below (vertexCount p) ends
+  pub within : allRatings (ratingsBetween sums) ≡ true
 
 -- The level that precedes level l in pass q stands from `low` up to `high`.
 pub record Range (p : PlanData) (q l low high : ℕ) : Type 0 where
@@ -113,13 +120,13 @@ pub record AtPass : Type 0 where
   pub coming : List Visit
 
 -- The visit of this moment places its run, which stands so; the neighbours of its pass are these.
-pub record Placing (start from end to : ℕ) (first ends : List ℕ) (at : List ℤ) (apart : List ℕ) (m : AtVisit) : Type 0 where
+pub record Placing (start from end to : ℕ) (first ends sums : List ℕ) (at : List ℤ) (apart : List ℕ) (m : AtVisit) : Type 0 where
   pub ok : acceptable (m .plan) ≡ true
   pub whole : schedule (m .plan) ≡ m .past ++ m .visit ∷ m .coming
   pub places : at ≡ stateAfter (m .plan) (m .past) .at
   pub distances : apart ≡ stateAfter (m .plan) (m .past) .apart
   pub run : RunIs (m .plan) (m .visit .run) start from end to
-  pub near : Neighbouring (m .plan) (m .visit .pass) first ends
+  pub near : Neighbouring (m .plan) (m .visit .pass) first ends sums
   pub due : isDue (m .plan) (m .visit .pass) (stateAfter (m .plan) (m .past)) (m .visit .run) ≡ true
 
 -- Positions and distances after it.

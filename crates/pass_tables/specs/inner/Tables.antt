@@ -1,5 +1,5 @@
 -- What the program's tables hold, each said of the lists that it is made of.
-use mathlib.Core.Bool.{Bool, false, cond, not}
+use mathlib.Core.Bool.{Bool, true, false, cond, not}
 use mathlib.Core.List.{List, [], _∷_, _++_}
 use mathlib.Core.Path.{_≡_}
 use Prim.Native.Nat.{ℕ, zero, suc, _+_, _-_, _*_, _<_, _≤_}
@@ -8,6 +8,9 @@ use lib.ListN.{length, getD, take, drop}
 use lib.IntN.{ℤ, pos, _-ℤ_}
 use Rattle.ints.specs.Ints.{size}
 use Rattle.ints.specs.Lists.{countOf}
+use Rattle.ints.specs.Ratings.{allRatings}
+use Rattle.plan.specs.Limits.{maxSegments}
+use Rattle.plan.specs.inner.Graph.{Below}
 use Rattle.passes.specs.State.{positionOf}
 use Rattle.passes.specs.Ready.{equals}
 
@@ -33,6 +36,16 @@ pickedBy v (k ∷ ks) (o ∷ os) =
 pub record Rows (keys others first ends : List ℕ) : Type 0 where
   pub starts : (v : ℕ) → v < length first → getD first v 0 ≡ total (λ (u : ℕ). countOf u keys) v
   pub row : (v : ℕ) → v < length first → take (countOf v keys) (drop (getD first v 0) ends) ≡ pickedBy v keys others
+
+-- Segments with these keys, other ends and ratings can be sorted into rows, with room for their ends and for the sums of their ratings.
+pub record Sortable (keys others ratings first ends sums : List ℕ) : Type 0 where
+  pub few : length keys ≤ maxSegments
+  pub keyed : Below (length first) keys
+  pub even : length others ≡ length keys
+  pub rated : length ratings ≡ length keys
+  pub within : allRatings ratings ≡ true
+  pub room : length ends ≡ length keys
+  pub sumRoom : length sums ≡ length keys + 1
 
 -- The next via of n vertices from v on; the vertex after them if there is none.
 unfoldable pub nextVia : List Bool → ℕ → ℕ → ℕ

@@ -13,16 +13,17 @@ use Rattle.pass_visits.specs.inner.Visits.{Entering}
 use lib.ListN.{length, getD}
 use Rattle.plan.specs.Limits.{maxVertices}
 
--- What a pass works on: its neighbours, and what the visits change.
+-- What a pass works on: its neighbours and the sums of their ratings, and what the visits change.
 pub record PassWork : Type 0 where
   pub first : List ℕ
   pub ends : List ℕ
+  pub sums : List ℕ
   pub at : List ℤ
   pub apart : List ℕ
   pub marks : List Bool
 
-abbrev pub passWork : List ℕ → List ℕ → List ℤ → List ℕ → List Bool → PassWork
-passWork first ends at apart marks = record { first = first; ends = ends; at = at; apart = apart; marks = marks }
+abbrev pub passWork : List ℕ → List ℕ → List ℕ → List ℤ → List ℕ → List Bool → PassWork
+passWork first ends sums at apart marks = record { first = first; ends = ends; sums = sums; at = at; apart = apart; marks = marks }
 
 -- Room for the tables of any level.
 pub record TableRoom (before after counts : List ℕ) : Type 0 where
@@ -38,7 +39,7 @@ pub record TablesMade (low high start to : ℕ) (vias : List Bool) (first ends b
 
 -- The visits of pass q to the runs of a level come next; the level that precedes it stands from `low` up to `high`.
 pub record LevelNext (q low high start to : ℕ) (vias : List Bool) (k : PassWork) (m : AtLevel) : Type 0 where
-  pub enter : Entering q start to vias (k .first) (k .ends) (k .at) (k .apart) (k .marks) m
+  pub enter : Entering q start to vias (k .first) (k .ends) (k .sums) (k .at) (k .apart) (k .marks) m
   pub range : Range (m .plan) q (m .level) low high
   pub within : high ≤ vertexCount (m .plan)
 
@@ -47,7 +48,7 @@ pub record PassNext (q : ℕ) (starts : List ℕ) (vias : List Bool) (k : PassWo
   pub held : Held (m .plan) (m .past) (passVisits (m .plan) q (inTurn q (m .plan)) ++ m .coming) (k .at) (k .apart) (k .marks)
   pub startsAre : Starts (m .plan) starts
   pub viasAre : vias ≡ m .plan .vias
-  pub near : Neighbouring (m .plan) q (k .first) (k .ends)
+  pub near : Neighbouring (m .plan) q (k .first) (k .ends) (k .sums)
 
 -- They are made.
 abbrev pub PassDone : ℕ → List ℤ → List ℕ → List Bool → AtPass → Type 0

@@ -13,10 +13,12 @@ use Rattle.plan.specs.inner.Levels.{firstOn, sizeOn, On}
 use Rattle.passes.specs.inner.Schedule.{visitOf}
 use Rattle.pass_tables.specs.inner.Moments.{stateAfter, Held, RunIs, Neighbouring, Tables, AtVisit, AtLevel}
 
--- What the visits of a level work on: the neighbours of the pass, the tables of readiness, and what the visits change.
+-- What the visits of a level work on: the neighbours of the pass and the sums of their ratings, the tables of readiness, and what the
+-- visits change.
 pub record Work : Type 0 where
   pub first : List ℕ
   pub ends : List ℕ
+  pub sums : List ℕ
   pub before : List ℕ
   pub after : List ℕ
   pub counts : List ℕ
@@ -24,10 +26,11 @@ pub record Work : Type 0 where
   pub apart : List ℕ
   pub marks : List Bool
 
-abbrev pub work : List ℕ → List ℕ → List ℕ → List ℕ → List ℕ → List ℤ → List ℕ → List Bool → Work
-work first ends before after counts at apart marks = record {
+abbrev pub work : List ℕ → List ℕ → List ℕ → List ℕ → List ℕ → List ℕ → List ℤ → List ℕ → List Bool → Work
+work first ends sums before after counts at apart marks = record {
   first = first;
   ends = ends;
+  sums = sums;
   before = before;
   after = after;
   counts = counts;
@@ -38,7 +41,7 @@ work first ends before after counts at apart marks = record {
 
 -- The same with other positions, distances and marks.
 abbrev pub worked : Work → List ℤ → List ℕ → List Bool → Work
-worked k at apart marks = work (k .first) (k .ends) (k .before) (k .after) (k .counts) at apart marks
+worked k at apart marks = work (k .first) (k .ends) (k .sums) (k .before) (k .after) (k .counts) at apart marks
 
 -- On level l some bounded run may have to be ready to be placed by pass q: one is unsettled, and the pass is not the third.
 pub record AsksReadiness (p : PlanData) (q l : ℕ) (marks : List Bool) : Type 0 where
@@ -52,16 +55,17 @@ pub record Visiting (q start from end to : ℕ) (k : Work) (m : AtVisit) : Type 
   pub held : Held (m .plan) (m .past) (m .visit ∷ m .coming) (k .at) (k .apart) (k .marks)
   pub pass : m .visit .pass ≡ q
   pub run : RunIs (m .plan) (m .visit .run) start from end to
-  pub near : Neighbouring (m .plan) q (k .first) (k .ends)
+  pub near : Neighbouring (m .plan) q (k .first) (k .ends) (k .sums)
   pub tables : AsksReadiness (m .plan) q (m .visit .run .level) (k .marks) → Tables (m .plan) q (m .visit .run .level) (k .first) (k .ends) (k .before) (k .after) (k .counts) (k .marks)
 
 -- It is, whatever its neighbours, positions and distances.
 pub record Asking (q start from end to : ℕ) (before after counts : List ℕ) (marks : List Bool) (m : AtVisit) : Type 0 where
   pub first : List ℕ
   pub ends : List ℕ
+  pub sums : List ℕ
   pub at : List ℤ
   pub apart : List ℕ
-  pub is : Visiting q start from end to (work first ends before after counts at apart marks) m
+  pub is : Visiting q start from end to (work first ends sums before after counts at apart marks) m
 
 -- Whether the visit places its run.
 abbrev pub isDueAt : ℕ → AtVisit → Bool
@@ -77,7 +81,7 @@ pub record Visited (q : ℕ) (k : Work) (m : AtVisit) : Type 0 where
   pub tables : AsksReadiness (m .plan) q (m .visit .run .level) (k .marks) → Tables (m .plan) q (m .visit .run .level) (k .first) (k .ends) (k .before) (k .after) (k .counts) (k .marks)
 
 -- The visits of pass q to the runs of a level, which stands from `start` up to `to`, come next.
-pub record Entering (q start to : ℕ) (vias : List Bool) (first ends : List ℕ) (at : List ℤ) (apart : List ℕ) (marks : List Bool)
+pub record Entering (q start to : ℕ) (vias : List Bool) (first ends sums : List ℕ) (at : List ℤ) (apart : List ℕ) (marks : List Bool)
     (m : AtLevel) : Type 0 where
   pub held : Held (m .plan) (m .past) (map (visitOf q) (runsOn (m .plan) (m .level)) ++ m .coming) at apart marks
   pub kinds : vias ≡ m .plan .vias
@@ -85,11 +89,11 @@ pub record Entering (q start to : ℕ) (vias : List Bool) (first ends : List ℕ
   pub many : m .level ≤ m .plan .levels
   pub starts : start ≡ firstOn (m .plan) (m .level)
   pub stops : to ≡ firstOn (m .plan) (m .level) + sizeOn (m .plan) (m .level)
-  pub near : Neighbouring (m .plan) q first ends
+  pub near : Neighbouring (m .plan) q first ends sums
 
 -- They do, and these tables tell which runs are ready, if any asks.
 pub record Levelling (q start to : ℕ) (vias : List Bool) (k : Work) (m : AtLevel) : Type 0 where
-  pub enter : Entering q start to vias (k .first) (k .ends) (k .at) (k .apart) (k .marks) m
+  pub enter : Entering q start to vias (k .first) (k .ends) (k .sums) (k .at) (k .apart) (k .marks) m
   pub tables : AsksReadiness (m .plan) q (m .level) (k .marks) → Tables (m .plan) q (m .level) (k .first) (k .ends) (k .before) (k .after) (k .counts) (k .marks)
 
 -- They are made.

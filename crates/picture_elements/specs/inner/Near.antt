@@ -1,4 +1,4 @@
--- Points that a drawing has.
+-- Points and pens that a drawing has.
 use Prim.Native.Nat.{ℕ, _≤_, _<_}
 use lib.IntN.{ℤ}
 use Rattle.ints.specs.Ints.{size}
@@ -7,6 +7,10 @@ use Rattle.ints.specs.Reach.{reach}
 -- x in half steps, y in steps.
 abbrev pub Near : ℤ → ℕ → Type 0
 Near x y = (size x ≤ reach) × (y ≤ 630000)
+
+-- A measure, and the rating of a line.
+abbrev pub Pen : ℕ → ℕ → Type 0
+Pen u w = (u ≤ 10000) × (w ≤ 100)
 
 -- A measure, the number of a vertex, and where it stands.
 pub record NearVertex (u n : ℕ) (x : ℤ) (y : ℕ) : Type 0 where

@@ -1,5 +1,5 @@
 -- The elements of a picture by the lists that a program holds: of each vertex its height, its kind and its final position, of each segment
--- its ends.
+-- its ends and its rating.
 use mathlib.Core.Path.{_≡_}
 use mathlib.Core.Bool.{Bool, true, false, cond}
 use mathlib.Core.List.{List, [], _++_, map}
@@ -7,6 +7,7 @@ use Prim.Native.Nat.{ℕ, _*_, _≤_, _<_}
 use lib.ListN.{length, getD}
 use lib.IntN.{ℤ}
 use Rattle.ints.specs.Lists.{concat}
+use Rattle.ints.specs.Ratings.{allRatings}
 use Rattle.ints.specs.Reach.{allWithin}
 use Rattle.plan.specs.Plan.{numbers}
 use Rattle.plan.specs.inner.Graph.{Below}
@@ -32,21 +33,24 @@ pub record Stands (heights : List ℕ) (xs : List ℤ) : Type 0 where
   pub within : allWithin xs ≡ true
 
 -- ---- lines
--- The line from vertex a down to vertex b, and that of the k-th segment.
-abbrev pub lineBetween : List ℕ → List ℤ → ℕ → ℕ → List ℕ
-lineBetween heights xs a b = lineOf (line (positionOf xs a) (getD heights a 0) (positionOf xs b) (getD heights b 0))
+-- The line with rating w from vertex a down to vertex b, and that of the k-th segment.
+abbrev pub lineBetween : ℕ → ℕ → List ℕ → List ℤ → ℕ → ℕ → List ℕ
+lineBetween u w heights xs a b = lineOf u w (line (positionOf xs a) (getD heights a 0) (positionOf xs b) (getD heights b 0))
 
-abbrev pub segmentLine : List ℕ → List ℕ → List ℕ → List ℤ → ℕ → List ℕ
-segmentLine heights uppers lowers xs k = lineBetween heights xs (getD uppers k 0) (getD lowers k 0)
+abbrev pub segmentLine : ℕ → List ℕ → List ℕ → List ℕ → List ℕ → List ℤ → ℕ → List ℕ
+segmentLine u heights uppers lowers ratings xs k = lineBetween u (getD ratings k 0) heights xs (getD uppers k 0) (getD lowers k 0)
 
-abbrev pub linesIn : List ℕ → List ℕ → List ℕ → List ℤ → List ℕ
-linesIn heights uppers lowers xs = walked (segmentLine heights uppers lowers xs) (length uppers)
+abbrev pub linesIn : ℕ → List ℕ → List ℕ → List ℕ → List ℕ → List ℤ → List ℕ
+linesIn u heights uppers lowers ratings xs = walked (segmentLine u heights uppers lowers ratings xs) (length uppers)
 
-pub record LinesAsked (heights uppers lowers : List ℕ) (xs : List ℤ) : Type 0 where
+pub record LinesAsked (u : ℕ) (heights uppers lowers ratings : List ℕ) (xs : List ℤ) : Type 0 where
+  pub measure : u ≤ 10000
   pub stands : Stands heights xs
   pub ends : length lowers ≡ length uppers
   pub upper : Below (length xs) uppers
   pub lower : Below (length xs) lowers
+  pub rated : length ratings ≡ length uppers
+  pub in-range : allRatings ratings ≡ true
 
 -- ---- bends
 abbrev pub vertexBend : ℕ → List ℕ → List Bool → List ℤ → ℕ → List ℕ
@@ -91,17 +95,17 @@ pub record OpeningAsked (u h : ℕ) (halves : List ℕ) (xs : List ℤ) : Type 0
   pub measure : u ≤ 10000
   pub high : h ≤ 640000
 
-abbrev pub documentIn : ℕ → ℕ → List ℕ → List Bool → List ℕ → List ℕ → List ℕ → List ℤ → (ℕ → List ℕ) → List ℕ
-documentIn u h heights vias halves uppers lowers xs name =
-    openingIn u h halves xs ++ linesIn heights uppers lowers xs ++ bytes "</g>\n<g class=\"bends\">\n"
+abbrev pub documentIn : ℕ → ℕ → List ℕ → List Bool → List ℕ → List ℕ → List ℕ → List ℕ → List ℤ → (ℕ → List ℕ) → List ℕ
+documentIn u h heights vias halves uppers lowers ratings xs name =
+    openingIn u h halves xs ++ linesIn u heights uppers lowers ratings xs ++ bytes "</g>\n<g class=\"bends\">\n"
     ++ bendsIn u heights vias xs ++ bytes "</g>\n<g class=\"boxes\" stroke-width=\"" ++ amount (20 * u) ++ bytes "\">\n"
     ++ boxesIn u heights vias halves xs name ++ bytes "</g>\n</svg>\n"
 
-pub record DocumentStands (u h : ℕ) (heights : List ℕ) (vias : List Bool) (halves uppers lowers : List ℕ) (xs : List ℤ) : Type 0 where
+pub record DocumentStands (u h : ℕ) (heights : List ℕ) (vias : List Bool) (halves uppers lowers ratings : List ℕ) (xs : List ℤ) : Type 0 where
   pub opening : OpeningAsked u h halves xs
-  pub lines : LinesAsked heights uppers lowers xs
+  pub lines : LinesAsked u heights uppers lowers ratings xs
   pub boxes : BoxesStand u heights vias halves xs
 
-pub record DocumentAsked (u h : ℕ) (heights : List ℕ) (vias : List Bool) (halves uppers lowers : List ℕ) (xs : List ℤ) (text starts ends : List ℕ) : Type 0 where
-  pub parts : DocumentStands u h heights vias halves uppers lowers xs
+pub record DocumentAsked (u h : ℕ) (heights : List ℕ) (vias : List Bool) (halves uppers lowers ratings : List ℕ) (xs : List ℤ) (text starts ends : List ℕ) : Type 0 where
+  pub parts : DocumentStands u h heights vias halves uppers lowers ratings xs
   pub names : NamesAsked text starts ends (length vias)

@@ -1,4 +1,4 @@
--- What checks 3 to 6 ask about: the levels, the kinds of the vertices and the segments; not the widths and the spacing.
+-- What checks 3 to 6 ask about: the levels, the kinds of the vertices and the segments; not the widths, the spacing and the ratings.
 use mathlib.Core.Bool.{Bool, true, cond, _&&_}
 use mathlib.Core.List.{List, []}
 use mathlib.Core.Path.{_≡_}
@@ -10,9 +10,9 @@ use Rattle.plan.specs.Limits.{maxLevels, maxVertices, maxSegments}
 use Rattle.plan.specs.Plan.{PlanData, dataOf, levelIn}
 use Rattle.plan.specs.Segments.{Segment}
 
--- The data of which these lists are part; gap, spacing and half-widths are left out.
+-- The data of which these lists are part; gap, spacing, half-widths and ratings are left out.
 abbrev pub graphOf : List ℕ → List Bool → List ℕ → List ℕ → PlanData
-graphOf sizes vias uppers lowers = dataOf (length sizes) 0 0 sizes vias [] uppers lowers
+graphOf sizes vias uppers lowers = dataOf (length sizes) 0 0 sizes vias [] uppers lowers []
 
 -- The segment (seg a b).
 abbrev pub segment : ℕ → ℕ → Segment

@@ -8,10 +8,10 @@ use Rattle.plan.specs.Plan.{PlanData, dataOf}
 use Rattle.plan.specs.Acceptable.{acceptable}
 
 -- The plan that these lists hold.
-abbrev pub heldPlan : ℕ → ℕ → List ℕ → List Bool → List ℕ → List ℕ → List ℕ → PlanData
-heldPlan gap spacing sizes vias halves uppers lowers = dataOf (length sizes) gap spacing sizes vias halves uppers lowers
+abbrev pub heldPlan : ℕ → ℕ → List ℕ → List Bool → List ℕ → List ℕ → List ℕ → List ℕ → PlanData
+heldPlan gap spacing sizes vias halves uppers lowers ratings = dataOf (length sizes) gap spacing sizes vias halves uppers lowers ratings
 
--- p has these lists, whatever its spacing, and passes the checks.
+-- p has these lists, whatever its spacing and its ratings, and passes the checks.
 pub record HoldsPlan (p : PlanData) (gap : ℕ) (sizes : List ℕ) (vias : List Bool) (halves uppers lowers : List ℕ) : Type 0 where
   pub levelsAre : p .levels ≡ length sizes
   pub gapIs : p .gap ≡ gap

@@ -8,7 +8,7 @@ use Rattle.plan.specs.Plan.{PlanData, dataOf, levelOf, heightOf}
 
 -- A plan with this spacing and these levels and nothing else: so much says how high a vertex stands.
 abbrev pub frameOf : ℕ → List ℕ → PlanData
-frameOf spacing sizes = dataOf (length sizes) 0 spacing sizes [] [] [] []
+frameOf spacing sizes = dataOf (length sizes) 0 spacing sizes [] [] [] [] []
 
 -- The height of level l, and of vertex v.
 abbrev pub levelHeight : ℕ → ℕ → ℕ

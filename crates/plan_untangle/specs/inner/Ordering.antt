@@ -13,7 +13,7 @@ use Rattle.plan.specs.Acceptable.{limitsHold}
 use Rattle.plan.specs.inner.Graph.{Below}
 use Rattle.plan_untangle.specs.Order.{upperEnd}
 
--- p has these lists, whatever its gap, spacing and half-widths, and passes all checks but 6.
+-- p has these lists, whatever its gap, spacing, half-widths and ratings, and passes all checks but 6.
 pub record Tangled (p : PlanData) (sizes : List ℕ) (vias : List Bool) (uppers lowers : List ℕ) : Type 0 where
   pub levelsAre : p .levels ≡ length sizes
   pub sizesAre : p .sizes ≡ sizes

@@ -21,7 +21,7 @@ use Rattle.report.specs.Lines.{atLine, placeLine, reportLines}
 -- The data of which these are part, as far as the report asks for them: the level spacing, the levels' sizes and the number of
 -- vertices.
 abbrev pub planPart : ℕ → List ℕ → ℕ → PlanData
-planPart spacing sizes v = dataOf 0 0 spacing sizes (replicate v false) [] [] []
+planPart spacing sizes v = dataOf 0 0 spacing sizes (replicate v false) [] [] [] []
 
 -- The height of vertex v, by a list that has the height of each.
 abbrev pub heightIn : List ℕ → ℕ → ℕ

@@ -8,9 +8,9 @@ use lib.Dec.{ltb}
 use lib.IntN.{ℤ, pos, _+ℤ_, _-ℤ_}
 use lib.Signed.{ltZ}
 use Rattle.ints.specs.Ints.{P, N, _⊑_, _⊏_, minZ, maxZ}
-use Rattle.run.specs.Run.{Bound, Box, startOf, firstOf, lastOf}
+use Rattle.run.specs.Run.{Bound, totalRating, Box, startOf, firstOf, lastOf}
 use Rattle.run.specs.inner.Limits.{clamp}
-use Rattle.run.specs.inner.Coordinates.{countUpTo}
+use Rattle.run.specs.inner.Coordinates.{ratedUpTo}
 
 unfoldable pub cutAt : ℤ → List ℤ → List ℤ
 cutAt m [] = []
@@ -20,7 +20,7 @@ unfoldable pub raiseTo : ℤ → List ℤ → List ℤ
 raiseTo m [] = []
 raiseTo m (y ∷ ys) = maxZ y m ∷ raiseTo m ys
 
--- is at least w
+-- The first place from b on where the test holds, if it holds from there on, at most b + w. The first number is at least w.
 unfoldable pub bisect : (ℤ → Bool) → ℕ → ℤ → ℕ → ℤ
 bisect t zero b w = b
 bisect t (suc f) b zero = b
@@ -37,26 +37,27 @@ pub record Bisected (t : ℤ → Bool) (b : ℤ) (w : ℕ) (m : ℤ) : Type 0 wh
   pub holds : P m + N b < P b + N m + w → t m ≡ true
   pub fails : b ⊏ m → t (m -ℤ pos 1) ≡ false
 
--- at or left of m than right of it
+-- The test at m: over left boxes that stand right of m and right boxes that stand at or left of m, the ratings of the neighbours at or
+-- left of m are strictly more than those of the neighbours right of it.
 unfoldable pub leftUpTo : List Box → List ℤ → ℤ → ℕ
 leftUpTo [] xs m = 0
 leftUpTo (b ∷ bs) [] m = 0
-leftUpTo (b ∷ bs) (x ∷ xs) m = cond (ltZ m x) (countUpTo m (b .near)) 0 + leftUpTo bs xs m
+leftUpTo (b ∷ bs) (x ∷ xs) m = cond (ltZ m x) (ratedUpTo m (b .near)) 0 + leftUpTo bs xs m
 
 unfoldable pub leftBeyond : List Box → List ℤ → ℤ → ℕ
 leftBeyond [] xs m = 0
 leftBeyond (b ∷ bs) [] m = 0
-leftBeyond (b ∷ bs) (x ∷ xs) m = cond (ltZ m x) (length (b .near) - countUpTo m (b .near)) 0 + leftBeyond bs xs m
+leftBeyond (b ∷ bs) (x ∷ xs) m = cond (ltZ m x) (totalRating (b .near) - ratedUpTo m (b .near)) 0 + leftBeyond bs xs m
 
 unfoldable pub rightUpTo : List Box → List ℤ → ℤ → ℕ
 rightUpTo [] ys m = 0
 rightUpTo (b ∷ bs) [] m = 0
-rightUpTo (b ∷ bs) (y ∷ ys) m = cond (ltZ m y) 0 (countUpTo m (b .near)) + rightUpTo bs ys m
+rightUpTo (b ∷ bs) (y ∷ ys) m = cond (ltZ m y) 0 (ratedUpTo m (b .near)) + rightUpTo bs ys m
 
 unfoldable pub rightBeyond : List Box → List ℤ → ℤ → ℕ
 rightBeyond [] ys m = 0
 rightBeyond (b ∷ bs) [] m = 0
-rightBeyond (b ∷ bs) (y ∷ ys) m = cond (ltZ m y) 0 (length (b .near) - countUpTo m (b .near)) + rightBeyond bs ys m
+rightBeyond (b ∷ bs) (y ∷ ys) m = cond (ltZ m y) 0 (totalRating (b .near) - ratedUpTo m (b .near)) + rightBeyond bs ys m
 
 abbrev pub moreUpTo : List Box → List Box → List ℤ → List ℤ → ℤ → Bool
 moreUpTo cs bs xs ys m = ltb (leftBeyond cs xs m + rightBeyond bs ys m) (leftUpTo cs xs m + rightUpTo bs ys m)

@@ -4,7 +4,7 @@ use mathlib.Core.List.{List, [], _∷_, map}
 use Prim.Native.Nat.{ℕ, _+_, _-_}
 use lib.IntN.{ℤ, pos, _-ℤ_, _+ℤ_}
 use lib.Signed.{ltZ}
-use Rattle.run.specs.Run.{Bound, free, at, Box}
+use Rattle.run.specs.Run.{Bound, free, at, Lead, Box}
 
 abbrev pub less : ℕ → ℤ → ℤ
 less o n = n -ℤ pos o
@@ -13,8 +13,16 @@ unfoldable pub countUpTo : ℤ → List ℤ → ℕ
 countUpTo m [] = 0
 countUpTo m (n ∷ ns) = cond (ltZ m n) 0 1 + countUpTo m ns
 
+-- The ratings of the neighbours at or left of m.
+unfoldable pub ratedUpTo : ℤ → List Lead → ℕ
+ratedUpTo m [] = 0
+ratedUpTo m (n ∷ ns) = cond (ltZ m (n .at)) 0 (n .rating) + ratedUpTo m ns
+
+abbrev pub lessLead : ℕ → Lead → Lead
+lessLead o n = record { at = less o (n .at); rating = n .rating }
+
 abbrev pub lessBox : ℕ → Box → Box
-lessBox o b = record { old = less o (b .old); near = map (less o) (b .near); dist = b .dist }
+lessBox o b = record { old = less o (b .old); near = map (lessLead o) (b .near); dist = b .dist }
 
 unfoldable pub inRun : ℕ → List Box → List Box
 inRun o [] = []

@@ -20,12 +20,17 @@ slice-aggregate-answered-4 c = sym (length-take-le _ _ (search needs))
 slice-aggregate-answered-5 : tie.Need-slice-aggregate-answered-5
 slice-aggregate-answered-5 c = sym (length-take-le _ _ (search needs))
 
+slice-aggregate-answered-6 : tie.Need-slice-aggregate-answered-6
+slice-aggregate-answered-6 c = sym (length-take-le _ _ (search needs))
+
 pub cut-and-answered-spec : {M : Type 1} → statement M
 cut-and-answered-spec =
     tie.close
     (tie.spec (λ c κs. search needs) (λ c κs. search needs) (λ c κs. search needs) (λ c κs. search needs) (λ c κs. search needs)
     (λ c κs. search needs) (λ c κs. search needs) (λ c κs. search needs) (λ c κs. search needs) (λ c κs. search needs)
-    (λ c κs. search needs) (λ c κs. search needs) (λ c κs. search needs) (λ c κs. search needs) (λ c. search needs)
-    slice-aggregate-answered (λ c. search needs) slice-aggregate-answered-2 (λ c. search needs) slice-aggregate-answered-3
-    (λ c. search needs) slice-aggregate-answered-4 (λ c. search needs) slice-aggregate-answered-5 (λ c κs. search needs)
-    (λ c. search needs) (λ c. search needs) (λ c. search needs) (λ c. search needs) (λ c. search needs) (λ c. search needs))
+    (λ c κs. search needs) (λ c κs. search needs) (λ c κs. search needs) (λ c κs. search needs) (λ c κs. search needs)
+    (λ c κs. search needs) (λ c κs. search needs) (λ c. search needs) slice-aggregate-answered (λ c. search needs)
+    slice-aggregate-answered-2 (λ c. search needs) slice-aggregate-answered-3 (λ c. search needs) slice-aggregate-answered-4
+    (λ c. search needs) slice-aggregate-answered-5 (λ c. search needs) slice-aggregate-answered-6 (λ c κs. search needs)
+    (λ c. search needs) (λ c. search needs) (λ c. search needs) (λ c. search needs) (λ c. search needs) (λ c. search needs)
+    (λ c. search needs))

@@ -24,6 +24,9 @@ slice-aggregate-command-4 c = search needs
 slice-aggregate-command-5 : tie.Need-slice-aggregate-command-5
 slice-aggregate-command-5 c = search needs
 
+slice-aggregate-command-6 : tie.Need-slice-aggregate-command-6
+slice-aggregate-command-6 c = search needs
+
 command-requires : tie.Need-command-requires
 command-requires c κs = search needs
 
@@ -45,16 +48,20 @@ slice-aggregate-print-answers-5 c = search needs
 slice-aggregate-print-answers-6 : tie.Need-slice-aggregate-print-answers-6
 slice-aggregate-print-answers-6 c = search needs
 
+slice-aggregate-print-answers-7 : tie.Need-slice-aggregate-print-answers-7
+slice-aggregate-print-answers-7 c = search needs
+
 print-answers-requires : tie.Need-print-answers-requires
 print-answers-requires c κs =
-    let k = c .before .before .before .before .before .before .before .before .before .before .before .command in (
-      inside-after rooms (lent (k .last .1 .0) (buffers (k .last .1 .1 .0) (k .last .1 .1 .1 .0) (k .last .1 .1 .1 .1 .0) (k .last .1 .1 .1 .1 .1 .0))) (k .result)
+    let k = c .before .before .before .before .before .before .before .before .before .before .before .before .before .command in (
+      inside-after rooms (lent (k .last .1 .0) (buffers (k .last .1 .1 .0) (k .last .1 .1 .1 .0) (k .last .1 .1 .1 .1 .0) (k .last .1 .1 .1 .1 .1 .0) (k .last .1 .1 .1 .1 .1 .1 .0))) (k .result)
           (record {
             text = k .kept .1 .0;
             old = k .kept .1 .1 .0;
             distances = k .kept .1 .1 .1 .0;
             counts = k .kept .1 .1 .1 .1 .0;
             neighbours = k .kept .1 .1 .1 .1 .1 .0;
+            ratings = k .kept .1 .1 .1 .1 .1 .1 .0;
           })
           (k .ensures .inside),
       answer-long,
@@ -62,9 +69,9 @@ print-answers-requires c κs =
 
 returns : tie.Need-returns
 returns c =
-    let a = c .before .before .before .before .before .before .before .before .before .before .before .before .before .before .before .before .before .before .before .before .args in let k = c .before .before .before .before .before .before .before .before .before .before .before .before .before .command in
+    let a = c .before .before .before .before .before .before .before .before .before .before .before .before .before .before .before .before .before .before .before .before .before .before .before .args in let k = c .before .before .before .before .before .before .before .before .before .before .before .before .before .before .before .command in
     c .before .print-answers .ensures
-    ∙ ap (λ (t : Turn). t .sheet) (rooms-turn (a .sheet) (commandOf (a .line .now)) (k .result) (lent (k .last .1 .0) (buffers (k .last .1 .1 .0) (k .last .1 .1 .1 .0) (k .last .1 .1 .1 .1 .0) (k .last .1 .1 .1 .1 .1 .0))) (k .ensures))
+    ∙ ap (λ (t : Turn). t .sheet) (rooms-turn (a .sheet) (commandOf (a .line .now)) (k .result) (lent (k .last .1 .0) (buffers (k .last .1 .1 .0) (k .last .1 .1 .1 .0) (k .last .1 .1 .1 .1 .0) (k .last .1 .1 .1 .1 .1 .0) (k .last .1 .1 .1 .1 .1 .1 .0))) (k .ensures))
 
 pub answer-line-spec : {M : Type 1} → statement M
 answer-line-spec =
@@ -75,6 +82,7 @@ answer-line-spec =
     slice-aggregate-command-3
     slice-aggregate-command-4
     slice-aggregate-command-5
+    slice-aggregate-command-6
     command-requires
     slice-aggregate-print-answers
     slice-aggregate-print-answers-2
@@ -82,5 +90,6 @@ answer-line-spec =
     slice-aggregate-print-answers-4
     slice-aggregate-print-answers-5
     slice-aggregate-print-answers-6
+    slice-aggregate-print-answers-7
     print-answers-requires
     returns)

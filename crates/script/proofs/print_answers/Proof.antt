@@ -17,21 +17,21 @@ use Rattle.script.proofs.print_answers.Statement.{statement}
 use Rattle.script.proofs.print_answers.Tie as tie
 
 abbrev Inv-loop : tie.InvT-loop
-Inv-loop command text old distances counts neighbours buffer₀ kept₀ n₀ buffer kept n =
-    Turning command (lent text (buffers old distances counts neighbours)) (turnOf (commandIn command (lent text (buffers old distances counts neighbours))) kept₀) kept n
+Inv-loop command text old distances counts neighbours ratings buffer₀ kept₀ n₀ buffer kept n =
+    Turning command (lent text (buffers old distances counts neighbours ratings)) (turnOf (commandIn command (lent text (buffers old distances counts neighbours ratings))) kept₀) kept n
     × (maxAnswer ≤ length buffer) × (length buffer ≡ length buffer₀)
 
 abbrev μ-loop : tie.MeasureT-loop
-μ-loop command text old distances counts neighbours buffer₀ kept₀ n₀ buffer kept n =
-    length (turnOf (commandIn command (lent text (buffers old distances counts neighbours))) kept₀ .said) - n
+μ-loop command text old distances counts neighbours ratings buffer₀ kept₀ n₀ buffer kept n =
+    length (turnOf (commandIn command (lent text (buffers old distances counts neighbours ratings))) kept₀ .said) - n
 
 loop-holds : tie.Need-loop-holds Inv-loop μ-loop
 loop-holds c =
-    let s = c .before .before .before .before in let a = s .args in
-    (turning (a .command) (lent (a .text .now) (buffers (a .old .now) (a .distances .now) (a .counts .now) (a .neighbours .now))) (a .sheet), s .pre .1, search needs)
+    let s = c .before .before .before .before .before in let a = s .args in
+    (turning (a .command) (lent (a .text .now) (buffers (a .old .now) (a .distances .now) (a .counts .now) (a .neighbours .now) (a .ratings .now))) (a .sheet), s .pre .1, search needs)
 
 turn-requires : tie.Need-turn-requires Inv-loop μ-loop
-turn-requires c κs = let i = c .before .loop .inv in asked (i .0) (c .before .before .before .before .before .before .pre .0) (i .1)
+turn-requires c κs = let i = c .before .loop .inv in asked (i .0) (c .before .before .before .before .before .before .before .pre .0) (i .1)
 
 slice-reshare-prefix-write-all : tie.Need-slice-reshare-prefix-write-all Inv-loop μ-loop
 slice-reshare-prefix-write-all c = omega (arith, c .before .before .before .turn .ensures .wrote .inside)
@@ -44,11 +44,11 @@ returns c = left (c .before .before .before .before .before .before .before .bef
 
 add-n : tie.Need-add-n Inv-loop μ-loop
 add-n c =
-    let a = c .before .before .before .before .before .before .before .before .before .before .before .before .before .before .args in
+    let a = c .before .before .before .before .before .before .before .before .before .before .before .before .before .before .before .args in
     omega (
       arith,
       below (c .before .before .before .before .before .before .before .before .before .loop .inv .0) (c .before .before .before .before .before .before .before .turn .ensures) (not-false _ (c .if1 .left)),
-      few-answers (commandIn (a .command) (lent (a .text .now) (buffers (a .old .now) (a .distances .now) (a .counts .now) (a .neighbours .now)))) (a .sheet),
+      few-answers (commandIn (a .command) (lent (a .text .now) (buffers (a .old .now) (a .distances .now) (a .counts .now) (a .neighbours .now) (a .ratings .now)))) (a .sheet),
     )
 
 loop-less : tie.Need-loop-less Inv-loop μ-loop

@@ -12,15 +12,16 @@ pub record Fills {A : Type 0} (xs : List A) (room n : ℕ) (out : List A) : Type
   pub holds : take n out ≡ take room xs
   pub inside : n ≤ room
 
--- Buffers for old positions, distances, counts and neighbours.
+-- Buffers for old positions, distances, counts, neighbours and their ratings.
 pub record Buffers : Type 0 where
   pub old : List ℤ
   pub distances : List ℕ
   pub counts : List ℕ
   pub neighbours : List ℤ
+  pub ratings : List ℕ
 
-abbrev pub buffers : List ℤ → List ℕ → List ℕ → List ℤ → Buffers
-buffers o d c n = record { old = o; distances = d; counts = c; neighbours = n }
+abbrev pub buffers : List ℤ → List ℕ → List ℕ → List ℤ → List ℕ → Buffers
+buffers o d c n w = record { old = o; distances = d; counts = c; neighbours = n; ratings = w }
 
 -- The request that lies in buffers,
 abbrev pub requestWith : RunRequest → Buffers → Request
@@ -32,6 +33,7 @@ requestWith r b = record {
   distances = take (r .distances) (b .distances);
   counts = take (r .counts) (b .counts);
   neighbours = take (r .neighbours) (b .neighbours);
+  ratings = take (r .ratings) (b .ratings);
 }
 
 -- and one of which only so much is left as buffers have room for.
@@ -44,6 +46,7 @@ shortened b q = record {
   distances = take (length (b .distances)) (q .distances);
   counts = take (length (b .counts)) (q .counts);
   neighbours = take (length (b .neighbours)) (q .neighbours);
+  ratings = take (length (b .ratings)) (q .ratings);
 }
 
 -- No list is longer than its buffer.
@@ -52,6 +55,7 @@ pub record Within (b : Buffers) (r : RunRequest) : Type 0 where
   pub distances : r .distances ≤ length (b .distances)
   pub counts : r .counts ≤ length (b .counts)
   pub neighbours : r .neighbours ≤ length (b .neighbours)
+  pub ratings : r .ratings ≤ length (b .ratings)
 
 -- What the program leaves of a request: `before` are the buffers as they were lent, `after` as they are given back.
 pub record Asks (q : Request) (room : ℕ) (before : Buffers) (r : RunRequest) (after : Buffers) : Type 0 where

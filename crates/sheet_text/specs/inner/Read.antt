@@ -6,11 +6,12 @@ use Prim.Native.Nat.{ℕ, _+_, _≤_}
 use lib.ListN.{length}
 use Rattle.plan.specs.Limits.{maxVertices, maxSegments}
 use Rattle.plan.specs.Plan.{PlanData}
-use Rattle.plan.specs.Checks.{check3}
+use Rattle.plan.specs.Segments.{segmentsFrom}
+use Rattle.plan.specs.Checks.{check3, rising}
 use Rattle.plan.specs.declared.data.Plan.{Plan}
 use Rattle.plan.specs.inner.Graph.{Below}
 use Rattle.plan_renumber.specs.Renumber.{inverse, renumbered}
-use Rattle.plan_renumber.specs.inner.Words.{Once}
+use Rattle.plan_renumber.specs.inner.Words.{Once, EachRated}
 use Rattle.report.specs.declared.data.Counts.{Counts}
 use Rattle.text.specs.Writing.{linesOf}
 use Rattle.text_write.specs.inner.Stored.{StoredLimits}
@@ -21,13 +22,15 @@ abbrev pub readWith : Plan → List ℕ → Counts → PlanData
 readWith p m c = renumbered (planWith p c) (inverse (numbersIn m c))
 
 -- Each vertex's number, once, and a plan's lists for as many vertices.
-pub record Numbered (m : List ℕ) (vias : List Bool) (halves uppers lowers : List ℕ) : Type 0 where
+pub record Numbered (m : List ℕ) (vias : List Bool) (halves uppers lowers ratings : List ℕ) : Type 0 where
   pub few : length m ≤ maxVertices
   pub once : Once (length m) m
   pub vias-long : length vias ≡ length m
   pub halves-long : length halves ≡ length m
   pub segments : length uppers ≤ maxSegments
   pub ends : length uppers ≡ length lowers
+  pub rise : rising (segmentsFrom uppers lowers) ≡ true
+  pub rated : EachRated uppers ratings
   pub upper : Below (length m) uppers
   pub lower : Below (length m) lowers
 

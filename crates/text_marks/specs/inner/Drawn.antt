@@ -6,12 +6,12 @@ use Prim.Native.Nat.{ℕ}
 use lib.ListN.{length}
 use lib.IntN.{ℤ}
 use Rattle.plan.specs.Plan.{PlanData}
-use Rattle.plan.specs.inner.Held.{SomePlan}
+use Rattle.pass_draw.specs.inner.Made.{SomeRated}
 use Rattle.passes.specs.Drawing.{drawingOf}
 
 -- The lists of a plan that passes the checks, and room for its positions.
-pub record PositionsRoom (gap : ℕ) (sizes : List ℕ) (vias : List Bool) (halves uppers lowers : List ℕ) (preliminary finals : List ℤ) : Type 0 where
-  pub some : SomePlan gap sizes vias halves uppers lowers
+pub record PositionsRoom (gap : ℕ) (sizes : List ℕ) (vias : List Bool) (halves uppers lowers ratings : List ℕ) (preliminary finals : List ℤ) : Type 0 where
+  pub some : SomeRated gap sizes vias halves uppers lowers ratings
   pub preliminaryRoom : length preliminary ≡ length vias
   pub finalRoom : length finals ≡ length vias
 

@@ -3,18 +3,17 @@
 use mathlib.Core.Path.{_≡_}
 use mathlib.Core.Bool.{Bool, true, cond, _&&_}
 use mathlib.Core.List.{List}
+use mathlib.Core.Option.{Option, none, some}
 use Prim.Native.Nat.{ℕ, _+_, _≤_, _<_}
 use lib.Dec.{eqb}
 use lib.ListN.{length, drop}
 use Rattle.plan.specs.Limits.{within, maxLevels, maxGap, maxSpacing}
-use Rattle.plan.specs.Segments.{Segment}
 use Rattle.text.specs.Bytes.{bytes}
 use Rattle.text.specs.Parser.{got, nothing, Rule, give, _>>=_, _>>_, either, word, digitsAfter, number, then}
-use Rattle.text.specs.Form.{Vertex, box, via, Lines, whole}
+use Rattle.text.specs.Form.{Vertex, SegmentLine, Lines, box, via, rating, whole}
 use Rattle.text_scan.specs.declared.scanners.FoundVertex.{FoundVertex}
 use Rattle.text_scan.specs.declared.scanners.FoundSegment.{FoundSegment}
 use Rattle.text_scan.specs.declared.scanners.FoundHeader.{FoundHeader}
-use mathlib.Core.Option.{none, some}
 
 -- The rule finds a at `at` and leaves the text from `next` on; or, where `found` is false, it finds nothing.
 pub record Finds {A : Type 0} (rule : Rule A) (s : List ℕ) (at : ℕ) (found : Bool) (a : A) (next : ℕ) : Type 0 where
@@ -48,8 +47,18 @@ vertex = either box via
 abbrev pub vertexOf : FoundVertex → Vertex
 vertexOf r = record { via = r .via; half = cond (r .via) 0 (r .half) }
 
-abbrev pub segmentOf : FoundSegment → Segment
-segmentOf r = record { upper = r .upper; lower = r .lower }
+-- The rating w, if one is written.
+abbrev pub ratingIf : Bool → ℕ → Option ℕ
+ratingIf written w = cond written (some w) none
+
+-- Whether a rating is written at `at`, which, and where the text goes on.
+pub record MayRate (s : List ℕ) (at : ℕ) (written : Bool) (w next : ℕ) : Type 0 where
+  pub gives : either rating (give none) (drop at s) ≡ got (ratingIf written w) (drop next s)
+  pub inside : next ≤ length s
+  pub onward : at ≤ next
+
+abbrev pub segmentOf : FoundSegment → SegmentLine
+segmentOf r = record { segment = record { upper = r .upper; lower = r .lower }; rating = ratingIf (r .rated) (r .rating) }
 
 -- "(plan K G S)"
 pub record Header : Type 0 where

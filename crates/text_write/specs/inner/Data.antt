@@ -7,17 +7,19 @@ use lib.ListN.{length, take, getD}
 use Rattle.ints.specs.Lists.{sum, concat}
 use Rattle.plan.specs.Limits.{maxLevels}
 use Rattle.plan.specs.Plan.{PlanData, numbers, dataOf}
+use Rattle.plan.specs.Segments.{Rated}
 use Rattle.plan.specs.Acceptable.{limitsHold}
+use Rattle.plan.specs.inner.Graph.{segment}
 use Rattle.text.specs.Writing.{vertexWords, levelLineOf, linesOf}
 use Rattle.text_write.specs.inner.Written.{Room}
 
 -- The data of which these lists are part, as far as a vertex's words ask for them.
 abbrev pub verticesOf : List Bool → List ℕ → PlanData
-verticesOf vias halves = dataOf 0 0 0 [] vias halves [] []
+verticesOf vias halves = dataOf 0 0 0 [] vias halves [] [] []
 
 -- The data of which these numbers are part, as far as the plan line asks for them.
 abbrev pub numbersOf : ℕ → ℕ → ℕ → PlanData
-numbersOf levels gap spacing = dataOf levels gap spacing [] [] [] [] []
+numbersOf levels gap spacing = dataOf levels gap spacing [] [] [] [] [] []
 
 -- The vertices of a level, from left to right, one after another: "(box 3) (via)", each with a space before it.
 abbrev pub rowWords : PlanData → List ℕ → List ℕ
@@ -27,13 +29,17 @@ rowWords p vs = concat (map (vertexWords p) vs)
 abbrev pub wordsOf : Bool → ℕ → List ℕ
 wordsOf via half = vertexWords (verticesOf (via ∷ []) (half ∷ [])) 0
 
+-- The segment (seg a b) with the rating w.
+abbrev pub ratedSegment : ℕ → ℕ → ℕ → Rated
+ratedSegment a b w = record { segment = segment a b; rating = w }
+
 -- Line n of the plan's text.
 abbrev pub lineOf : PlanData → ℕ → List ℕ
 lineOf p n = getD (linesOf p) n []
 
--- "A text of an acceptable plan has at most 43,546 bytes"
+-- "A text of an acceptable plan has at most 51,738 bytes"
 abbrev pub maxText : ℕ
-maxText = 43546
+maxText = 51738
 
 -- The vertices of level l, the first of which is 0 here.
 abbrev pub levelVertices : List ℕ → ℕ → List ℕ

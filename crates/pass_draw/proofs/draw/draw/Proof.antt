@@ -10,11 +10,11 @@ use Rattle.pass_draw.proofs.draw.draw.Statement.{statement}
 use Rattle.pass_draw.proofs.draw.draw.Tie as tie
 
 make-drawing-requires : tie.Need-make-drawing-requires
-make-drawing-requires c κs = room (c .before .before .before .before .before .before .before .before .before .before .before .before .before .before .before .before .pre)
+make-drawing-requires c κs = room (c .before .before .before .before .before .before .before .before .before .before .before .before .before .before .before .before .before .pre)
 
 returns : tie.Need-returns
 returns c = λ p l. c .before .before .before .before .before .before .before .before .before .before .before .make-drawing .ensures p l .made
-    (omega (arith, c .before .before .before .before .before .before .before .before .before .before .before .make-drawing .kept .1 .1 .1 .1 .1 .1 .1 .1 .0, ap length (c .before .before .before .before .before .before .before .before .before .before .before .before .before .before .before .before .before .before .before .before .before .before .before .before .before .before .before .before .pre .noPasses), length-replicate {A = ℕ} maxListed 0))
+    (omega (arith, c .before .before .before .before .before .before .before .before .before .before .before .make-drawing .kept .1 .1 .1 .1 .1 .1 .1 .1 .1 .0, ap length (c .before .before .before .before .before .before .before .before .before .before .before .before .before .before .before .before .before .before .before .before .before .before .before .before .before .before .before .before .before .pre .noPasses), length-replicate {A = ℕ} maxListed 0))
 
 pub draw-spec : {M : Type 1} → statement M
 draw-spec =

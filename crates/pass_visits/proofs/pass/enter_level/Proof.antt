@@ -8,7 +8,7 @@ use Rattle.pass_visits.proofs.pass.enter_level.Tie as tie
 
 make-tables-requires : tie.Need-make-tables-requires
 make-tables-requires c κs =
-    let s = c .before .before .before .before .before .before .before .before .before .before .before .before .pre in
+    let s = c .before .before .before .before .before .before .before .before .before .before .before .before .before .pre in
     let k = s .0 .is in
     let f = level-fits k in
     let m = marks-fit k in
@@ -16,21 +16,21 @@ make-tables-requires c κs =
 
 visit-level-requires : tie.Need-visit-level-requires
 visit-level-requires c κs =
-    let s = c .before .before .before .before .before .before .before .before .before .before .before .before .before .before .before .before .before .before .before .before .before .before .before .before .before .pre .0 in
+    let s = c .before .before .before .before .before .before .before .before .before .before .before .before .before .before .before .before .before .before .before .before .before .before .before .before .before .before .pre .0 in
     record {
       it = s .it;
       is = made (s .is) {before = c .before .before .before .before .before .before .before .before .before .before .before .before .make-tables .last .1 .1 .1 .1 .1 .1 .1 .1 .1 .0} {after = c .before .before .before .before .before .before .before .before .before .before .before .before .make-tables .last .1 .1 .1 .1 .1 .1 .1 .1 .1 .1 .0} {counts = c .before .before .before .before .before .before .before .before .before .before .before .before .make-tables .last .1 .1 .1 .1 .1 .1 .1 .1 .1 .1 .1 .0}
-          (c .before .before .before .before .before .before .before .before .before .before .before .before .make-tables .kept .1 .1 .1 .1 .1 .1 .1 .1 .1 .0 ∙ c .before .before .before .before .before .before .before .before .before .before .before .before .before .before .before .before .before .before .before .before .before .before .before .before .before .pre .1 .lefts)
-          (c .before .before .before .before .before .before .before .before .before .before .before .before .make-tables .kept .1 .1 .1 .1 .1 .1 .1 .1 .1 .1 .0 ∙ c .before .before .before .before .before .before .before .before .before .before .before .before .before .before .before .before .before .before .before .before .before .before .before .before .before .pre .1 .rights)
-          (c .before .before .before .before .before .before .before .before .before .before .before .before .make-tables .kept .1 .1 .1 .1 .1 .1 .1 .1 .1 .1 .1 .0 ∙ c .before .before .before .before .before .before .before .before .before .before .before .before .before .before .before .before .before .before .before .before .before .before .before .before .before .pre .1 .numbers)
+          (c .before .before .before .before .before .before .before .before .before .before .before .before .make-tables .kept .1 .1 .1 .1 .1 .1 .1 .1 .1 .0 ∙ c .before .before .before .before .before .before .before .before .before .before .before .before .before .before .before .before .before .before .before .before .before .before .before .before .before .before .pre .1 .lefts)
+          (c .before .before .before .before .before .before .before .before .before .before .before .before .make-tables .kept .1 .1 .1 .1 .1 .1 .1 .1 .1 .1 .0 ∙ c .before .before .before .before .before .before .before .before .before .before .before .before .before .before .before .before .before .before .before .before .before .before .before .before .before .before .pre .1 .rights)
+          (c .before .before .before .before .before .before .before .before .before .before .before .before .make-tables .kept .1 .1 .1 .1 .1 .1 .1 .1 .1 .1 .1 .0 ∙ c .before .before .before .before .before .before .before .before .before .before .before .before .before .before .before .before .before .before .before .before .before .before .before .before .before .before .pre .1 .numbers)
           (c .before .before .before .before .before .before .before .before .before .before .before .before .make-tables .ensures);
     }
 
 returns : tie.Need-returns
 returns c = λ m k. c .before .before .before .before .before .visit-level .ensures m (made k {before = c .before .before .before .before .before .before .before .before .before .before .before .before .before .before .before .before .before .before .make-tables .last .1 .1 .1 .1 .1 .1 .1 .1 .1 .0} {after = c .before .before .before .before .before .before .before .before .before .before .before .before .before .before .before .before .before .before .make-tables .last .1 .1 .1 .1 .1 .1 .1 .1 .1 .1 .0} {counts = c .before .before .before .before .before .before .before .before .before .before .before .before .before .before .before .before .before .before .make-tables .last .1 .1 .1 .1 .1 .1 .1 .1 .1 .1 .1 .0}
-    (c .before .before .before .before .before .before .before .before .before .before .before .before .before .before .before .before .before .before .make-tables .kept .1 .1 .1 .1 .1 .1 .1 .1 .1 .0 ∙ c .before .before .before .before .before .before .before .before .before .before .before .before .before .before .before .before .before .before .before .before .before .before .before .before .before .before .before .before .before .before .before .pre .1 .lefts)
-    (c .before .before .before .before .before .before .before .before .before .before .before .before .before .before .before .before .before .before .make-tables .kept .1 .1 .1 .1 .1 .1 .1 .1 .1 .1 .0 ∙ c .before .before .before .before .before .before .before .before .before .before .before .before .before .before .before .before .before .before .before .before .before .before .before .before .before .before .before .before .before .before .before .pre .1 .rights)
-    (c .before .before .before .before .before .before .before .before .before .before .before .before .before .before .before .before .before .before .make-tables .kept .1 .1 .1 .1 .1 .1 .1 .1 .1 .1 .1 .0 ∙ c .before .before .before .before .before .before .before .before .before .before .before .before .before .before .before .before .before .before .before .before .before .before .before .before .before .before .before .before .before .before .before .pre .1 .numbers)
+    (c .before .before .before .before .before .before .before .before .before .before .before .before .before .before .before .before .before .before .make-tables .kept .1 .1 .1 .1 .1 .1 .1 .1 .1 .0 ∙ c .before .before .before .before .before .before .before .before .before .before .before .before .before .before .before .before .before .before .before .before .before .before .before .before .before .before .before .before .before .before .before .before .pre .1 .lefts)
+    (c .before .before .before .before .before .before .before .before .before .before .before .before .before .before .before .before .before .before .make-tables .kept .1 .1 .1 .1 .1 .1 .1 .1 .1 .1 .0 ∙ c .before .before .before .before .before .before .before .before .before .before .before .before .before .before .before .before .before .before .before .before .before .before .before .before .before .before .before .before .before .before .before .before .pre .1 .rights)
+    (c .before .before .before .before .before .before .before .before .before .before .before .before .before .before .before .before .before .before .make-tables .kept .1 .1 .1 .1 .1 .1 .1 .1 .1 .1 .1 .0 ∙ c .before .before .before .before .before .before .before .before .before .before .before .before .before .before .before .before .before .before .before .before .before .before .before .before .before .before .before .before .before .before .before .before .pre .1 .numbers)
     (c .before .before .before .before .before .before .before .before .before .before .before .before .before .before .before .before .before .before .make-tables .ensures))
 
 pub enter-level-spec : {M : Type 1} → statement M

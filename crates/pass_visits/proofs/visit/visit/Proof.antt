@@ -7,7 +7,7 @@ use Rattle.pass_visits.proofs.visit.visit.Statement.{statement}
 use Rattle.pass_visits.proofs.visit.visit.Tie as tie
 
 is-due-requires : tie.Need-is-due-requires
-is-due-requires c κs = let s = c .before .before .before .before .before .before .before .before .pre in record { it = s .it; is = asking (s .is) }
+is-due-requires c κs = let s = c .before .before .before .before .before .before .before .before .before .pre in record { it = s .it; is = asking (s .is) }
 
 returns : tie.Need-returns
 returns c m v =
@@ -16,12 +16,12 @@ returns c m v =
 
 place-one-requires : tie.Need-place-one-requires
 place-one-requires c κs =
-    let s = c .before .before .before .before .before .before .before .before .before .before .before .before .pre in
+    let s = c .before .before .before .before .before .before .before .before .before .before .before .before .before .pre in
     let d = c .before .before .before .is-due .ensures (s .it) (asking (s .is)) in
     record { it = s .it; is = placing (s .is) d (c .before .before .if1 .left) }
 
 settle-requires : tie.Need-settle-requires
-settle-requires c κs = let v = c .before .before .before .before .before .before .before .before .before .before .before .before .before .before .before .before .before .pre .is in
+settle-requires c κs = let v = c .before .before .before .before .before .before .before .before .before .before .before .before .before .before .before .before .before .before .pre .is in
     let o = order v in omega (arith, o .boxes, o .high, o .vertices, v .held .long)
 
 returns-2 : tie.Need-returns-2

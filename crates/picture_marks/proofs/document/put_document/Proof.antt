@@ -14,11 +14,11 @@ use Rattle.picture_marks.proofs.document.put_document.Tie as tie
 
 put-opening-requires : tie.Need-put-opening-requires
 put-opening-requires c κs =
-    let s = c .before .before .before .before .before .before .before .before .before .before in
+    let s = c .before .before .before .before .before .before .before .before .before .before .before in
     let a = s .args in (
       s .pre .0 .parts .opening,
       room-after (openingIn (a .measure) (a .height) (a .halves .now) (a .finals .now))
-          (documentIn (a .measure) (a .height) (a .heights .now) (a .vias .now) (a .halves .now) (a .uppers .now) (a .lowers .now) (a .finals .now)
+          (documentIn (a .measure) (a .height) (a .heights .now) (a .vias .now) (a .halves .now) (a .uppers .now) (a .lowers .now) (a .ratings .now) (a .finals .now)
           (nameAt (a .names .now) (a .starts .now) (a .ends .now)))
           (wrote-none (a .out .now) 0) (s .pre .1) (simp length-append (omega arith)),
     )
@@ -26,12 +26,12 @@ put-opening-requires c κs =
 put-lines-requires : tie.Need-put-lines-requires
 put-lines-requires c κs =
     let c1 = c .before .before .before in
-    let s = c1 .before .before .before .before .before .before .before .before .before .before .before in
+    let s = c1 .before .before .before .before .before .before .before .before .before .before .before .before in
     let a = s .args in
     let w1 = (c1 .put-opening .ensures) in (
       s .pre .0 .parts .lines,
-      room-after (linesIn (a .heights .now) (a .uppers .now) (a .lowers .now) (a .finals .now))
-          (documentIn (a .measure) (a .height) (a .heights .now) (a .vias .now) (a .halves .now) (a .uppers .now) (a .lowers .now) (a .finals .now)
+      room-after (linesIn (a .measure) (a .heights .now) (a .uppers .now) (a .lowers .now) (a .ratings .now) (a .finals .now))
+          (documentIn (a .measure) (a .height) (a .heights .now) (a .vias .now) (a .halves .now) (a .uppers .now) (a .lowers .now) (a .ratings .now) (a .finals .now)
           (nameAt (a .names .now) (a .starts .now) (a .ends .now)))
           w1 (s .pre .1) (simp length-append (omega arith)),
     )
@@ -40,12 +40,12 @@ put-word-requires : tie.Need-put-word-requires
 put-word-requires c κs =
     let c1 = c .before .before .before .before in
     let c2 = c1 .before .before .before .before in
-    let s = c2 .before .before .before .before .before .before .before .before .before .before .before in
+    let s = c2 .before .before .before .before .before .before .before .before .before .before .before .before in
     let a = s .args in
     let w1 = (c2 .put-opening .ensures) in
     let w2 = and-then w1 (c1 .put-lines .ensures) in
     room-after (bytes "</g>\n<g class=\"bends\">\n")
-    (documentIn (a .measure) (a .height) (a .heights .now) (a .vias .now) (a .halves .now) (a .uppers .now) (a .lowers .now) (a .finals .now) (nameAt (a .names .now) (a .starts .now) (a .ends .now)))
+    (documentIn (a .measure) (a .height) (a .heights .now) (a .vias .now) (a .halves .now) (a .uppers .now) (a .lowers .now) (a .ratings .now) (a .finals .now) (nameAt (a .names .now) (a .starts .now) (a .ends .now)))
     w2 (s .pre .1) (simp length-append (omega arith))
 
 put-bends-requires : tie.Need-put-bends-requires
@@ -53,14 +53,14 @@ put-bends-requires c κs =
     let c1 = c .before .before .before in
     let c2 = c1 .before .before .before .before .before in
     let c3 = c2 .before .before .before .before in
-    let s = c3 .before .before .before .before .before .before .before .before .before .before .before in
+    let s = c3 .before .before .before .before .before .before .before .before .before .before .before .before in
     let a = s .args in
     let w1 = (c3 .put-opening .ensures) in
     let w2 = and-then w1 (c2 .put-lines .ensures) in
     let w3 = and-then w2 (c1 .put-word .ensures) in (
       s .pre .0 .parts .boxes .bends,
       room-after (bendsIn (a .measure) (a .heights .now) (a .vias .now) (a .finals .now))
-          (documentIn (a .measure) (a .height) (a .heights .now) (a .vias .now) (a .halves .now) (a .uppers .now) (a .lowers .now) (a .finals .now)
+          (documentIn (a .measure) (a .height) (a .heights .now) (a .vias .now) (a .halves .now) (a .uppers .now) (a .lowers .now) (a .ratings .now) (a .finals .now)
           (nameAt (a .names .now) (a .starts .now) (a .ends .now)))
           w3 (s .pre .1) (simp length-append (omega arith)),
     )
@@ -68,7 +68,7 @@ put-bends-requires c κs =
 mul-put-measured : tie.Need-mul-put-measured
 mul-put-measured c =
     let b18 = c .before .before .before .before .before .before .before .before .before .before .before .before .before .before .before .before .before .before in
-    let s = b18 .before .before .before .before .before .before .before .before .before .before in
+    let s = b18 .before .before .before .before .before .before .before .before .before .before .before in
     omega (arith, s .pre .0 .parts .opening .measure)
 
 put-measured-requires : tie.Need-put-measured-requires
@@ -77,14 +77,14 @@ put-measured-requires c κs =
     let c2 = c1 .before .before .before .before in
     let c3 = c2 .before .before .before .before .before in
     let c4 = c3 .before .before .before .before in
-    let s = c4 .before .before .before .before .before .before .before .before .before .before .before in
+    let s = c4 .before .before .before .before .before .before .before .before .before .before .before .before in
     let a = s .args in
     let w1 = (c4 .put-opening .ensures) in
     let w2 = and-then w1 (c3 .put-lines .ensures) in
     let w3 = and-then w2 (c2 .put-word .ensures) in
     let w4 = and-then w3 (c1 .put-bends .ensures) in
     room-after ((bytes "</g>\n<g class=\"boxes\" stroke-width=\"") ++ (amount (20 * a .measure)))
-    (documentIn (a .measure) (a .height) (a .heights .now) (a .vias .now) (a .halves .now) (a .uppers .now) (a .lowers .now) (a .finals .now) (nameAt (a .names .now) (a .starts .now) (a .ends .now)))
+    (documentIn (a .measure) (a .height) (a .heights .now) (a .vias .now) (a .halves .now) (a .uppers .now) (a .lowers .now) (a .ratings .now) (a .finals .now) (nameAt (a .names .now) (a .starts .now) (a .ends .now)))
     w4 (s .pre .1) (simp length-append (omega arith))
 
 put-word-requires-2 : tie.Need-put-word-requires-2
@@ -94,7 +94,7 @@ put-word-requires-2 c κs =
     let c3 = c2 .before .before .before .before in
     let c4 = c3 .before .before .before .before .before in
     let c5 = c4 .before .before .before .before in
-    let s = c5 .before .before .before .before .before .before .before .before .before .before .before in
+    let s = c5 .before .before .before .before .before .before .before .before .before .before .before .before in
     let a = s .args in
     let w1 = (c5 .put-opening .ensures) in
     let w2 = and-then w1 (c4 .put-lines .ensures) in
@@ -102,7 +102,7 @@ put-word-requires-2 c κs =
     let w4 = and-then w3 (c2 .put-bends .ensures) in
     let w5 = and-both (bytes "</g>\n<g class=\"boxes\" stroke-width=\"") (amount (20 * a .measure)) w4 (c1 .put-measured .ensures) in
     room-after (bytes "\">\n")
-    (documentIn (a .measure) (a .height) (a .heights .now) (a .vias .now) (a .halves .now) (a .uppers .now) (a .lowers .now) (a .finals .now) (nameAt (a .names .now) (a .starts .now) (a .ends .now)))
+    (documentIn (a .measure) (a .height) (a .heights .now) (a .vias .now) (a .halves .now) (a .uppers .now) (a .lowers .now) (a .ratings .now) (a .finals .now) (nameAt (a .names .now) (a .starts .now) (a .ends .now)))
     w5 (s .pre .1) (simp length-append (omega arith))
 
 put-boxes-requires : tie.Need-put-boxes-requires
@@ -113,7 +113,7 @@ put-boxes-requires c κs =
     let c4 = c3 .before .before .before .before in
     let c5 = c4 .before .before .before .before .before in
     let c6 = c5 .before .before .before .before in
-    let s = c6 .before .before .before .before .before .before .before .before .before .before .before in
+    let s = c6 .before .before .before .before .before .before .before .before .before .before .before .before in
     let a = s .args in
     let w1 = (c6 .put-opening .ensures) in
     let w2 = and-then w1 (c5 .put-lines .ensures) in
@@ -123,7 +123,7 @@ put-boxes-requires c κs =
     let w6 = and-then w5 (c1 .put-word2 .ensures) in (
       record { boxes = s .pre .0 .parts .boxes; names = s .pre .0 .names },
       room-after (boxesIn (a .measure) (a .heights .now) (a .vias .now) (a .halves .now) (a .finals .now) (nameAt (a .names .now) (a .starts .now) (a .ends .now)))
-          (documentIn (a .measure) (a .height) (a .heights .now) (a .vias .now) (a .halves .now) (a .uppers .now) (a .lowers .now) (a .finals .now)
+          (documentIn (a .measure) (a .height) (a .heights .now) (a .vias .now) (a .halves .now) (a .uppers .now) (a .lowers .now) (a .ratings .now) (a .finals .now)
           (nameAt (a .names .now) (a .starts .now) (a .ends .now)))
           w6 (s .pre .1) (simp length-append (omega arith)),
     )
@@ -137,7 +137,7 @@ put-word-requires-3 c κs =
     let c5 = c4 .before .before .before .before in
     let c6 = c5 .before .before .before .before .before in
     let c7 = c6 .before .before .before .before in
-    let s = c7 .before .before .before .before .before .before .before .before .before .before .before in
+    let s = c7 .before .before .before .before .before .before .before .before .before .before .before .before in
     let a = s .args in
     let w1 = (c7 .put-opening .ensures) in
     let w2 = and-then w1 (c6 .put-lines .ensures) in
@@ -147,7 +147,7 @@ put-word-requires-3 c κs =
     let w6 = and-then w5 (c2 .put-word2 .ensures) in
     let w7 = and-then w6 (c1 .put-boxes .ensures) in
     room-after (bytes "</g>\n</svg>\n")
-    (documentIn (a .measure) (a .height) (a .heights .now) (a .vias .now) (a .halves .now) (a .uppers .now) (a .lowers .now) (a .finals .now) (nameAt (a .names .now) (a .starts .now) (a .ends .now)))
+    (documentIn (a .measure) (a .height) (a .heights .now) (a .vias .now) (a .halves .now) (a .uppers .now) (a .lowers .now) (a .ratings .now) (a .finals .now) (nameAt (a .names .now) (a .starts .now) (a .ends .now)))
     w7 (s .pre .1) (simp length-append (omega arith))
 
 returns : tie.Need-returns
@@ -160,7 +160,7 @@ returns c =
     let c6 = c5 .before .before .before .before in
     let c7 = c6 .before .before .before .before .before in
     let c8 = c7 .before .before .before .before in
-    let s = c8 .before .before .before .before .before .before .before .before .before .before .before in
+    let s = c8 .before .before .before .before .before .before .before .before .before .before .before .before in
     let a = s .args in
     let w1 = (c8 .put-opening .ensures) in
     let w2 = and-then w1 (c7 .put-lines .ensures) in

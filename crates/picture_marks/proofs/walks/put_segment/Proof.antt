@@ -12,11 +12,12 @@ put-line-requires c κs =
     let xs = a .finals .now in
     let v = a .a in
     let w = a .b in
-    let st = s .pre .0 in
+    let st = s .pre .1 in
     rw (stored-at xs v (st .within), stored-at xs w (st .within)) (
-      (within-at xs v (st .within), st .low v (s .pre .1)),
-      (within-at xs w (st .within), st .low w (s .pre .2)),
-      s .pre .3,
+      s .pre .0,
+      (within-at xs v (st .within), st .low v (s .pre .2)),
+      (within-at xs w (st .within), st .low w (s .pre .3)),
+      s .pre .4,
     )
 
 returns : tie.Need-returns
@@ -25,7 +26,7 @@ returns c =
     let s = c1 .before .before .before .before .before .before .before .before in
     let a = s .args in
     let xs = a .finals .now in
-    let st = s .pre .0 in
+    let st = s .pre .1 in
     rw (stored-at xs (a .a) (st .within), stored-at xs (a .b) (st .within)) at (c1 .put-line .ensures)
 
 pub put-segment-spec : {M : Type 1} → statement M

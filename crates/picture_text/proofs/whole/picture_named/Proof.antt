@@ -1,5 +1,5 @@
 -- `picture_text::whole::picture_named` meets its contract: the final positions are those of the plan's drawing, and the names those of the text.
-use mathlib.Core.Path.{_≡_, sym, _∙_}
+use mathlib.Core.Path.{_≡_, refl, sym, _∙_}
 use mathlib.Core.List.{List, _++_}
 use Prim.Native.Nat.{ℕ}
 use borrow.Author.Needs.{needs}
@@ -16,7 +16,7 @@ use Rattle.picture_text.proofs.whole.picture_named.Statement.{statement
 use Rattle.picture_text.proofs.whole.picture_named.Tie as tie
 
 abbrev held : tie.Start → PlanData
-held c = let a = c .args in heldPlan (a .gap) (a .spacing) (a .sizes .now) (a .vias .now) (a .halves .now) (a .uppers .now) (a .lowers .now)
+held c = let a = c .args in heldPlan (a .gap) (a .spacing) (a .sizes .now) (a .vias .now) (a .halves .now) (a .uppers .now) (a .lowers .now) (a .ratings .now)
 
 -- as many zeros as there are vertices
 zeros : (c : tie.Start) → length (take (length (c .args .vias .now)) (replicate 1024 (pos 0))) ≡ length (c .args .vias .now)
@@ -27,36 +27,36 @@ rest n = drop n (replicate 1024 (pos 0))
 
 -- once it is drawn
 abbrev start : tie.After-draw-positions → tie.Start
-start c = c .before .before .before .before .before .before .before .before .before .before .before .before
+start c = c .before .before .before .before .before .before .before .before .before .before .before .before .before
 
 abbrev count : tie.After-draw-positions → ℕ
 count c = length (start c .args .vias .now)
 
 abbrev drawn : tie.After-draw-positions → List ℤ
-drawn c = c .draw-positions .last .1 .1 .1 .1 .1 .1 .1 .0
+drawn c = c .draw-positions .last .1 .1 .1 .1 .1 .1 .1 .1 .0
 
 long : (c : tie.After-draw-positions) → length (drawn c) ≡ count c
-long c = c .draw-positions .kept .1 .1 .1 .1 .1 .1 .1 .0 ∙ zeros (start c)
+long c = c .draw-positions .kept .1 .1 .1 .1 .1 .1 .1 .1 .0 ∙ zeros (start c)
 
 final : (c : tie.After-draw-positions) → take (count c) (drawn c ++ rest (count c)) ≡ drawingOf (held (start c)) .final
-final c = first-is (drawn c) (rest (count c)) (count c) (long c) ∙ c .draw-positions .ensures (held (start c)) (holds-held (start c .pre .plan)) .ended
+final c = first-is (drawn c) (rest (count c)) (count c) (long c) ∙ c .draw-positions .ensures (held (start c)) (record { lists = holds-held (start c .pre .plan); ratingsAre = refl }) .ended
 
 array-borrow-prefix-preliminary : tie.Need-array-borrow-prefix-preliminary
-array-borrow-prefix-preliminary c = few-vertices (held (c .before .before .before .before .before .before .before .before .before)) (c .before .before .before .before .before .before .before .before .before .pre .plan)
+array-borrow-prefix-preliminary c = few-vertices (held (c .before .before .before .before .before .before .before .before .before .before)) (c .before .before .before .before .before .before .before .before .before .before .pre .plan)
 
 slice-aggregate-draw-positions : tie.Need-slice-aggregate-draw-positions
-slice-aggregate-draw-positions c = sym (zeros (c .before .before .before .before .before .before .before .before .before .before))
+slice-aggregate-draw-positions c = sym (zeros (c .before .before .before .before .before .before .before .before .before .before .before))
 
 array-borrow-prefix-finals : tie.Need-array-borrow-prefix-finals
-array-borrow-prefix-finals c = few-vertices (held (c .before .before .before .before .before .before .before .before .before .before)) (c .before .before .before .before .before .before .before .before .before .before .pre .plan)
+array-borrow-prefix-finals c = few-vertices (held (c .before .before .before .before .before .before .before .before .before .before .before)) (c .before .before .before .before .before .before .before .before .before .before .before .pre .plan)
 
 slice-aggregate-draw-positions-2 : tie.Need-slice-aggregate-draw-positions-2
-slice-aggregate-draw-positions-2 c = sym (zeros (c .before .before .before .before .before .before .before .before .before .before .before))
+slice-aggregate-draw-positions-2 c = sym (zeros (c .before .before .before .before .before .before .before .before .before .before .before .before))
 
 draw-positions-requires : tie.Need-draw-positions-requires
 draw-positions-requires c κs =
-    let s = c .before .before .before .before .before .before .before .before .before .before .before in
-    record { some = record { plan = held s; lists = holds-held (s .pre .plan) }; preliminaryRoom = zeros s; finalRoom = zeros s }
+    let s = c .before .before .before .before .before .before .before .before .before .before .before .before in
+    record { some = record { plan = held s; lists = record { lists = holds-held (s .pre .plan); ratingsAre = refl } }; preliminaryRoom = zeros s; finalRoom = zeros s }
 
 array-share-prefix-finals : tie.Need-array-share-prefix-finals
 array-share-prefix-finals c = let d = c .before .before in first-fit (drawn d) (rest (count d)) (count d) (long d)

@@ -9,16 +9,16 @@ use Rattle.picture_text.proofs.whole.picture_plan.Statement.{statement}
 use Rattle.picture_text.proofs.whole.picture_plan.Tie as tie
 
 abbrev held : tie.Start → PlanData
-held c = let a = c .args in heldPlan (a .gap) (a .spacing) (a .sizes .now) (a .vias .now) (a .halves .now) (a .uppers .now) (a .lowers .now)
+held c = let a = c .args in heldPlan (a .gap) (a .spacing) (a .sizes .now) (a .vias .now) (a .halves .now) (a .uppers .now) (a .lowers .now) (a .ratings .now)
 
 index-names-requires : tie.Need-index-names-requires
 index-names-requires c κs =
-    let s = c .before .before .before .before .before .before .before .before .before in
+    let s = c .before .before .before .before .before .before .before .before .before .before in
     (few-vertices (held s) (s .pre), few-vertices (held s) (s .pre))
 
 picture-named-requires : tie.Need-picture-named-requires
 picture-named-requires c κs =
-    let s = c .before .before .before .before .before .before .before .before .before .before .before .before .before .before .before .before .before in
+    let s = c .before .before .before .before .before .before .before .before .before .before .before .before .before .before .before .before .before .before in
     let n = c .before .before .before .before .before .before .before .index-names in
     let l = good-named (n .ensures) (c .before .before .before .enum-told .given .1) in
     record {
@@ -32,7 +32,7 @@ picture-named-requires c κs =
 
 returns-2 : tie.Need-returns-2
 returns-2 c =
-    let s = c .before .before .before .before .before .before .before .before .before .before .before .before .before .before .before in
+    let s = c .before .before .before .before .before .before .before .before .before .before .before .before .before .before .before .before in
     bad-refused (held s) (s .args .out .now) (c .before .before .before .before .before .index-names .ensures) (c .before .answer .given .1)
 
 pub picture-plan-spec : {M : Type 1} → statement M

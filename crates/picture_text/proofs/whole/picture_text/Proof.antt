@@ -15,19 +15,19 @@ use Rattle.picture_text.proofs.whole.picture_text.Tie as tie
 
 -- once the text is accepted
 abbrev done : tie.Else1 → tie.After-read-into
-done c = c .before .before .before .before .before .before .before
+done c = c .before .before .before .before .before .before .before .before
 
 abbrev plan : tie.Else1 → PlanData
 plan c = done c .read-into .ensures .accepts (c .if1 .left) .plan
 
 fronts : (c : tie.Else1) → let r = done c .read-into in
-    InFronts (plan c) (r .result .scanned) (r .last .1 .0) (r .last .1 .1 .0) (r .last .1 .1 .1 .0) (r .last .1 .1 .1 .1 .0) (r .last .1 .1 .1 .1 .1 .0)
+    InFronts (plan c) (r .result .scanned) (r .last .1 .0) (r .last .1 .1 .0) (r .last .1 .1 .1 .0) (r .last .1 .1 .1 .1 .0) (r .last .1 .1 .1 .1 .1 .0) (r .last .1 .1 .1 .1 .1 .1 .0)
 fronts c = done c .read-into .ensures .accepts (c .if1 .left) .fronts
 
 returns : tie.Need-returns
 returns c =
-    let a = c .before .before .before .before .before .before .before .before .before .before .before .before .before .before .before .before .args in
-    leaves (ap (λ g. pictureIn g (a .names .now) (a .out .now)) (c .before .before .before .before .before .before .before .read-into .ensures .refuses (c .if1 .taken)))
+    let a = c .before .before .before .before .before .before .before .before .before .before .before .before .before .before .before .before .before .before .args in
+    leaves (ap (λ g. pictureIn g (a .names .now) (a .out .now)) (c .before .before .before .before .before .before .before .before .read-into .ensures .refuses (c .if1 .taken)))
     (refused-so _ (a .names .now) (a .out .now))
 
 array-share-prefix-sizes : tie.Need-array-share-prefix-sizes
@@ -60,26 +60,32 @@ array-share-prefix-lowers c = fronts (c .before .before .before .before .before 
 slice-aggregate-picture-plan-5 : tie.Need-slice-aggregate-picture-plan-5
 slice-aggregate-picture-plan-5 c = sym (length-take-le _ _ (fronts (c .before .before .before .before .before .before .before) .lowers-reach))
 
+array-share-prefix-ratings : tie.Need-array-share-prefix-ratings
+array-share-prefix-ratings c = fronts (c .before .before .before .before .before .before .before) .ratings-reach
+
+slice-aggregate-picture-plan-6 : tie.Need-slice-aggregate-picture-plan-6
+slice-aggregate-picture-plan-6 c = sym (length-take-le _ _ (fronts (c .before .before .before .before .before .before .before .before) .ratings-reach))
+
 picture-plan-requires : tie.Need-picture-plan-requires
 picture-plan-requires c κs =
-    let e = c .before .before .before .before .before .before .before .before in
+    let e = c .before .before .before .before .before .before .before .before .before in
     let f = fronts e in
-    rw (c .before .before .before .before .before .before .wide .ensures) (ap acceptable (sym (held-is (done e .read-into .result .scanned .spacing) (f .lists) (f .spaced))) ∙ f .lists .ok)
+    rw (c .before .before .before .before .before .before .before .wide .ensures) (ap acceptable (sym (held-is (done e .read-into .result .scanned .spacing) (f .lists) (f .spaced) (f .rated))) ∙ f .lists .ok)
 
 returns-2 : tie.Need-returns-2
 returns-2 c =
-    let e = c .before .before .before .before .before .before .before .before .before .before .before in
+    let e = c .before .before .before .before .before .before .before .before .before .before .before .before in
     let r = done e .read-into in
-    let a = done e .before .before .before .before .before .before .before .before .before .args in
+    let a = done e .before .before .before .before .before .before .before .before .before .before .args in
     let f = fronts e in
-    leaves (ap (λ g. pictureIn g (a .names .now) (a .out .now)) (r .ensures .accepts (e .if1 .left) .reads ∙ ap accepted (held-is (r .result .scanned .spacing) (f .lists) (f .spaced))))
-    (rw (c .before .before .before .before .before .before .before .before .before .wide .ensures) at (c .before .before .picture-plan .ensures))
+    leaves (ap (λ g. pictureIn g (a .names .now) (a .out .now)) (r .ensures .accepts (e .if1 .left) .reads ∙ ap accepted (held-is (r .result .scanned .spacing) (f .lists) (f .spaced) (f .rated))))
+    (rw (c .before .before .before .before .before .before .before .before .before .before .wide .ensures) at (c .before .before .picture-plan .ensures))
 
 pub picture-text-spec : {M : Type 1} → statement M
 picture-text-spec =
     tie.close
-    (tie.spec (λ c. search needs) (λ c. search needs) (λ c. search needs) (λ c. search needs) (λ c. search needs)
+    (tie.spec (λ c. search needs) (λ c. search needs) (λ c. search needs) (λ c. search needs) (λ c. search needs) (λ c. search needs)
     (λ c κs. search needs) returns (λ c κs. search needs) array-share-prefix-sizes slice-aggregate-picture-plan
     array-share-prefix-vias slice-aggregate-picture-plan-2 array-share-prefix-halves slice-aggregate-picture-plan-3
     array-share-prefix-uppers slice-aggregate-picture-plan-4 array-share-prefix-lowers slice-aggregate-picture-plan-5
-    picture-plan-requires (λ c. search needs) returns-2)
+    array-share-prefix-ratings slice-aggregate-picture-plan-6 picture-plan-requires (λ c. search needs) returns-2)

@@ -36,10 +36,10 @@ too-near-requires c κs =
     ))
 
 returns : tie.Need-returns
-returns c = rw (c .enum-told .given .1) (λ old counts neighbours e k. refl)
+returns c = rw (c .enum-told .given .1) (λ old counts neighbours ratings e k. refl)
 
 returns-2 : tie.Need-returns-2
-returns-2 c = rw (c .before .before .before .left .given .1, c .enum-told2 .given .1) (λ old counts neighbours e k. refl)
+returns-2 c = rw (c .before .before .before .left .given .1, c .enum-told2 .given .1) (λ old counts neighbours ratings e k. refl)
 
 returns-3 : tie.Need-returns-3
 returns-3 c =
@@ -48,7 +48,7 @@ returns-3 c =
     let l = c .before .before .before .before .before .before .left .given in
     let r = c .before .before .before .right .given in
     let near = simp (b-l, b-r, c .before .total .ensures) at (c .too-near .ensures) in
-    rw (l .1, r .1) (λ old counts neighbours e k. rw (bounds-sum old ds counts neighbours e (omega arith), near) (not-lt (r .0 .0 -ℤ l .0 .0) (pos (sum ds))))
+    rw (l .1, r .1) (λ old counts neighbours ratings e k. rw (bounds-sum old ds counts neighbours ratings e (omega arith), near) (not-lt (r .0 .0 -ℤ l .0 .0) (pos (sum ds))))
 
 pub is-possible-spec : {M : Type 1} → statement M
 is-possible-spec =

@@ -1,8 +1,8 @@
--- `run_halves::halves::start` meets its contract: of s neighbours, the one at ⌊(s − 1)/2⌋ is the ⌈s/2⌉-th.
+-- `run_halves::halves::start` meets its contract: the two neighbours that it reads are the middle ones.
 use borrow.Author.Needs.{needs}
-use mathlib.Core.Path.{_≡_, refl, _∙_, sym}
+use mathlib.Core.Path.{_≡_, _∙_, sym}
 use native.Mathlib.Omega.{arith}
-use Prim.Native.Nat.{_+_, _-_, _/_, _<_, _≤_}
+use Prim.Native.Nat.{ℕ, _+_, _-_, _<_, _≤_}
 use lib.ListN.{length, getD}
 use lib.IntN.{ℤ, pos, _+ℤ_}
 use mathlib.Core.List.{List, [], _∷_}
@@ -11,53 +11,63 @@ use mir.Val.{toZ, ofZ}
 use Rattle.ints.specs.Ints.{size}
 use Rattle.ints.specs.Reach.{reach}
 use Rattle.ints.proofs.Laws.{back, back′, fit-sum}
-use Rattle.ints.proofs.Lists.{getD-either}
-use Rattle.run.specs.Run.{halfDown, startOf}
-use Rattle.run.proofs.HalfDown.{start-none}
+use Rattle.run.specs.Run.{leadsOf, startOf}
+use Rattle.run.proofs.Unrated.{start-none}
+use Rattle.run_columns.specs.inner.Sums.{ratingsBetween, SumsOf}
+use Rattle.run_halves.proofs.Middles.{start-between}
 use Rattle.run_halves.proofs.halves.start.Statement.{statement}
 use Rattle.run_halves.proofs.halves.start.Tie as tie
 
-none : (old : ℤ) (ns : List ℤ) → length ns ≡ 0 → old ≡ startOf old ns
-none old [] h = sym (start-none old)
-none old (n ∷ ns) h = absurd (omega arith)
+none : (old : ℤ) (ns : List ℤ) (ws : List ℕ) → length ns ≡ 0 → old ≡ startOf old (leadsOf ns ws)
+unfolding leadsOf
+none old [] ws h = sym (start-none old)
+none old (n ∷ ns) ws h = absurd (omega arith)
+
+sums : (c : tie.Else1) → let a = c .before .before .args in SumsOf (a .sums .now) (a .near .now)
+sums c = c .before .before .pre .1
 
 -- the two middle ones, as they are read
-abbrev low : List ℤ → ℤ
-low ns = getD ns ((length ns - 1) / 2) (pos 0)
+low-index : (c : tie.After-find-middles) → c .find-middles .result .lower < length (c .before .before .before .args .near .now)
+low-index c = omega (arith, c .find-middles .ensures .lower .within, sums (c .before) .long)
 
-abbrev high : List ℤ → ℤ
-high ns = getD ns (length ns / 2) (pos 0)
+high-index : (c : tie.After-find-middles) → c .find-middles .result .upper < length (c .before .before .before .args .near .now)
+high-index c = omega (arith, c .find-middles .ensures .upper .within, sums (c .before) .long)
 
-middles : (old : ℤ) (ns : List ℤ) → 0 < length ns → halfDown (low ns +ℤ high ns) ≡ startOf old ns
-unfolding startOf
-middles old ns h = let e : (length ns - 1) / 2 ≡ (length ns + 1) / 2 - 1 = omega arith in
-    rw (e, getD-either ns ((length ns + 1) / 2 - 1) (pos 0) old (omega arith), getD-either ns (length ns / 2) (pos 0) old (omega arith)) refl
+abbrev low : tie.After-low → ℤ
+low c = getD (c .before .before .before .before .args .near .now) (c .before .find-middles .result .lower) (pos 0)
 
-b-low : (c : tie.After-low) → let ns = c .before .before .args .near .now in toZ w64 (ofZ w64 (low ns)) ≡ low ns
-b-low c = back′ (low (c .before .before .args .near .now)) (c .low .given)
+abbrev high : tie.After-high → ℤ
+high c = getD (c .before .before .before .before .before .args .near .now) (c .before .before .find-middles .result .upper) (pos 0)
 
-b-high : (c : tie.After-high) → let ns = c .before .before .before .args .near .now in toZ w64 (ofZ w64 (high ns)) ≡ high ns
-b-high c = back′ (high (c .before .before .before .args .near .now)) (c .high .given)
+b-low : (c : tie.After-low) → toZ w64 (ofZ w64 (low c)) ≡ low c
+b-low c = back′ (low c) (c .low .given)
 
-sizes : (c : tie.After-high) → let ns = c .before .before .before .args .near .now in (size (low ns) ≤ reach) × (size (high ns) ≤ reach)
-sizes c = let s = c .before .before .before in let n = length (s .args .near .now) in let h = c .before .before .if1 .left in
-    (s .pre ((n - 1) / 2) (omega arith), s .pre (n / 2) (omega arith))
+b-high : (c : tie.After-high) → toZ w64 (ofZ w64 (high c)) ≡ high c
+b-high c = back′ (high c) (c .high .given)
 
-b-sum : (c : tie.After-high) → let ns = c .before .before .before .args .near .now in toZ w64 (ofZ w64 (low ns +ℤ high ns)) ≡ low ns +ℤ high ns
-b-sum c = let ns = c .before .before .before .args .near .now in back (fit-sum (low ns) (high ns) (omega (arith, sizes c)))
+sizes : (c : tie.After-high) → (size (low (c .before)) ≤ reach) × (size (high c) ≤ reach)
+sizes c = let s = c .before .before .before .before .before in (s .pre .0 _ (low-index (c .before .before)), s .pre .0 _ (high-index (c .before .before)))
+
+b-sum : (c : tie.After-high) → toZ w64 (ofZ w64 (low (c .before) +ℤ high c)) ≡ low (c .before) +ℤ high c
+b-sum c = back (fit-sum (low (c .before)) (high c) (omega (arith, sizes c)))
+
+find-middles-requires : tie.Need-find-middles-requires
+find-middles-requires c κs = let q = sums c in (q .rated, omega (arith, q .long, q .few), omega (arith, q .long, c .if1 .left))
 
 -- "within ±2^40": their sum fits
 add-half-down : tie.Need-add-half-down
 add-half-down c = simp (b-low, b-high) (omega (arith, fit-sum, sizes c))
 
 returns : tie.Need-returns
-returns c = let s = c .before in let ns = s .args .near .now in back (s .fits .old) ∙ none (s .args .old) ns (c .if1 .taken)
+returns c = let s = c .before .before in back (s .fits .old) ∙ none (s .args .old) (s .args .near .now) (ratingsBetween (s .args .sums .now)) (c .if1 .taken)
 
 returns-2 : tie.Need-returns-2
-returns-2 c = let s = c .before .before .before .before in
-    back′ (c .half-down .result) (c .half-down .ok) ∙ simp (b-low, b-high, b-sum) at (c .half-down .ensures) ∙ middles (s .args .old) (s .args .near .now) (omega (arith, c .before .before .before .if1 .left))
+returns-2 c = let m = c .before .before .before in
+    back′ (c .half-down .result) (c .half-down .ok) ∙ simp (b-low, b-high, b-sum) at (c .half-down .ensures)
+    ∙ start-between (sums (m .before)) (m .before .before .before .args .old) _ _ (m .find-middles .ensures)
 
 pub start-spec : {M : Type 1} → statement M
 start-spec =
     tie.close
-    (tie.spec (λ c. search needs) (λ c. search needs) (λ c. search needs) (λ c. search needs) (λ c. search needs) add-half-down (λ c κs. search needs) returns returns-2)
+    (tie.spec returns find-middles-requires (λ c. omega (arith, low-index c)) (λ c. low-index c) (λ c. omega (arith, high-index (c .before))) (λ c. high-index (c .before))
+    add-half-down (λ c κs. search needs) returns-2)

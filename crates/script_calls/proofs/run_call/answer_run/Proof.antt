@@ -7,21 +7,21 @@ use Rattle.script_calls.proofs.run_call.answer_run.Tie as tie
 
 say-positions-requires : tie.Need-say-positions-requires
 say-positions-requires c κs =
-    let s = c .before .before .before .before .before .before .before .before .before .before in let p = c .before .before .before .before .before .place-run in
-    positions-room _ (s .args .answer .now) (s .args .out .now) (s .args .at) (c .before .before .enum-told .given .1) (p .ensures) (p .kept .1 .1 .1 .1 .1 .1 .1 .0) (s .pre)
+    let s = c .before .before .before .before .before .before .before .before .before .before .before in let p = c .before .before .before .before .before .place-run in
+    positions-room _ (s .args .answer .now) (s .args .out .now) (s .args .at) (c .before .before .enum-told .given .1) (p .ensures) (p .kept .1 .1 .1 .1 .1 .1 .1 .1 .0) (s .pre)
 
 say-refused-requires : tie.Need-say-refused-requires
-say-refused-requires c κs = refused-room (c .before .before .before .before .before .before .before .before .before .args .out .now) (c .before .before .before .before .before .before .before .before .before .args .at) (c .before .before .before .before .before .before .before .before .before .pre)
+say-refused-requires c κs = refused-room (c .before .before .before .before .before .before .before .before .before .before .args .out .now) (c .before .before .before .before .before .before .before .before .before .before .args .at) (c .before .before .before .before .before .before .before .before .before .before .pre)
 
 returns : tie.Need-returns
 returns c =
-    let s = c .before .before .before .before .before .before .before .before .before .before .before .before .before in let p = c .before .before .before .before .before .before .before .before .place-run in let e = c .before .before .before .before .before .enum-told .given .1 in
-    let room = positions-room _ (s .args .answer .now) (s .args .out .now) (s .args .at) e (p .ensures) (p .kept .1 .1 .1 .1 .1 .1 .1 .0) (s .pre) in
+    let s = c .before .before .before .before .before .before .before .before .before .before .before .before .before .before in let p = c .before .before .before .before .before .before .before .before .place-run in let e = c .before .before .before .before .before .enum-told .given .1 in
+    let room = positions-room _ (s .args .answer .now) (s .args .out .now) (s .args .at) e (p .ensures) (p .kept .1 .1 .1 .1 .1 .1 .1 .1 .0) (s .pre) in
     placed-said e (p .ensures) (fitted room (c .before .before .say-positions .ensures))
 
 returns-2 : tie.Need-returns-2
 returns-2 c =
-    let s = c .before .before .before .before .before .before .before .before .before .before .before .before in
+    let s = c .before .before .before .before .before .before .before .before .before .before .before .before .before in
     refused-said (c .before .before .before .before .enum-told2 .given .1) (c .before .before .before .before .before .before .before .place-run .ensures)
     (fitted (refused-room (s .args .out .now) (s .args .at) (s .pre)) (c .before .before .say-refused .ensures))
 

@@ -120,12 +120,23 @@ returns-10 c =
 returns-11 : tie.Need-returns-11
 unfolding planPokes
 returns-11 c =
+    let c9 = c .before .before .before .before .before .before .before .before .before in
+    record {
+      says = λ b. rw (c .before .before .before .whole-at18 .ensures, c .before .before .whole-at19 .ensures, c .before .whole-at20 .ensures, c .whole-at21 .ensures)
+          (sym (said-at (c9 .args .line .now) planPokes (loadingPokes ++ drawingPokes) 10
+          (sym (found (c .before .before .before .before .before)) ∙ c .before .before .before .before .match .keys11) (omega arith)));
+      bare = refl;
+    }
+
+returns-12 : tie.Need-returns-12
+unfolding planPokes
+returns-12 c =
     let c6 = c .before .before .before .before .before .before in
     let n = c .before .match .rest in
-    let h = (above 9 (above 8 (above 7 (above 6 (above 5 (above 4
-    (above 3 (above 2 (above 1 (above 0 (omega arith) (n .0 .0 .0 .0 .0 .0 .0 .0 .0 .1)) (n .0 .0 .0 .0 .0 .0 .0 .0 .1))
-    (n .0 .0 .0 .0 .0 .0 .0 .1)) (n .0 .0 .0 .0 .0 .0 .1)) (n .0 .0 .0 .0 .0 .1)) (n .0 .0 .0 .0 .1)) (n .0 .0 .0 .1)) (n .0 .0 .1)) (n .0 .1))
-    (n .1)) in
+    let h = (above 10 (above 9 (above 8 (above 7 (above 6 (above 5 (above 4
+    (above 3 (above 2 (above 1 (above 0 (omega arith) (n .0 .0 .0 .0 .0 .0 .0 .0 .0 .0 .1)) (n .0 .0 .0 .0 .0 .0 .0 .0 .0 .1))
+    (n .0 .0 .0 .0 .0 .0 .0 .0 .1)) (n .0 .0 .0 .0 .0 .0 .0 .1)) (n .0 .0 .0 .0 .0 .0 .1)) (n .0 .0 .0 .0 .0 .1)) (n .0 .0 .0 .0 .1)) (n .0 .0 .0 .1)) (n .0 .0 .1))
+    (n .0 .1)) (n .1)) in
     let s = c .said-by-loading-pokes .ensures in
     record {
       says = λ b. s .says b ∙ sym (said-none (c6 .args .line .now) planPokes (loadingPokes ++ drawingPokes) (omega (arith, h, found (c .before .before))));
@@ -138,5 +149,5 @@ said-by-pokes-spec =
     (tie.spec (λ c κs. search needs) (λ c κs. search needs) (λ c κs. search needs) (λ c κs. search needs) (λ c κs. search needs)
     (λ c κs. search needs) (λ c κs. search needs) (λ c κs. search needs) (λ c κs. search needs) (λ c κs. search needs) (λ c κs. search needs)
     (λ c κs. search needs) (λ c κs. search needs) (λ c κs. search needs) (λ c κs. search needs) (λ c κs. search needs) (λ c κs. search needs)
-    (λ c κs. search needs) (λ c κs. search needs) returns returns-2 returns-3 returns-4 returns-5 returns-6 returns-7 returns-8 returns-9
-    returns-10 returns-11)
+    (λ c κs. search needs) (λ c κs. search needs) (λ c κs. search needs) (λ c κs. search needs) (λ c κs. search needs) (λ c κs. search needs)
+    returns returns-2 returns-3 returns-4 returns-5 returns-6 returns-7 returns-8 returns-9 returns-10 returns-11 returns-12)

@@ -13,4 +13,5 @@ returns-2 c = rw (c .with-plan .ensures, lt-ltb _ _ (c .before .before .if1 .lef
 pub put-segment-spec : {M : Type 1} → statement M
 put-segment-spec =
     tie.close
-    (tie.spec returns (λ c. search needs) (λ c. search needs) (λ c. search needs) (λ c. search needs) (λ c κs. search needs) returns-2)
+    (tie.spec returns (λ c. search needs) (λ c. search needs) (λ c. search needs) (λ c. search needs) (λ c. search needs) (λ c. search needs)
+    (λ c κs. search needs) returns-2)

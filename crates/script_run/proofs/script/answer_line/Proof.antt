@@ -9,25 +9,26 @@ use Rattle.script_run.proofs.script.answer_line.Tie as tie
 
 each-answer-requires : tie.Need-each-answer-requires
 each-answer-requires c κs =
-    let k = c .before .before .before .before .before .before .before .before .before .before .before .before .command in
+    let k = c .before .before .before .before .before .before .before .before .before .before .before .before .before .before .command in
     record {
-      inside = inside-after rooms (lent (k .last .1 .0) (buffers (k .last .1 .1 .0) (k .last .1 .1 .1 .0) (k .last .1 .1 .1 .1 .0) (k .last .1 .1 .1 .1 .1 .0))) (k .result)
+      inside = inside-after rooms (lent (k .last .1 .0) (buffers (k .last .1 .1 .0) (k .last .1 .1 .1 .0) (k .last .1 .1 .1 .1 .0) (k .last .1 .1 .1 .1 .1 .0) (k .last .1 .1 .1 .1 .1 .1 .0))) (k .result)
           (record {
             text = k .kept .1 .0;
             old = k .kept .1 .1 .0;
             distances = k .kept .1 .1 .1 .0;
             counts = k .kept .1 .1 .1 .1 .0;
             neighbours = k .kept .1 .1 .1 .1 .1 .0;
+            ratings = k .kept .1 .1 .1 .1 .1 .1 .0;
           })
           (k .ensures .inside);
       answer = answer-long;
-      place = c .before .before .before .before .before .before .before .before .before .before .before .before .before .before .before .before .before .before .before .before .pre;
+      place = c .before .before .before .before .before .before .before .before .before .before .before .before .before .before .before .before .before .before .before .before .before .before .before .pre;
     }
 
 returns : tie.Need-returns
 returns c =
-    let a = c .before .before .before .before .before .before .before .before .before .before .before .before .before .before .before .before .before .before .before .before .before .before .before .before .args in let k = c .before .before .before .before .before .before .before .before .before .before .before .before .before .before .before .before .command in
-    line-turned (a .sheet) (commandOf (a .line .now)) (k .result) (lent (k .last .1 .0) (buffers (k .last .1 .1 .0) (k .last .1 .1 .1 .0) (k .last .1 .1 .1 .1 .0) (k .last .1 .1 .1 .1 .1 .0))) (k .ensures) (c .before .before .before .each-answer .ensures)
+    let a = c .before .before .before .before .before .before .before .before .before .before .before .before .before .before .before .before .before .before .before .before .before .before .before .before .before .before .before .args in let k = c .before .before .before .before .before .before .before .before .before .before .before .before .before .before .before .before .before .before .command in
+    line-turned (a .sheet) (commandOf (a .line .now)) (k .result) (lent (k .last .1 .0) (buffers (k .last .1 .1 .0) (k .last .1 .1 .1 .0) (k .last .1 .1 .1 .1 .0) (k .last .1 .1 .1 .1 .1 .0) (k .last .1 .1 .1 .1 .1 .1 .0))) (k .ensures) (c .before .before .before .each-answer .ensures)
 
 pub answer-line-spec : {M : Type 1} → statement M
 answer-line-spec =
@@ -38,7 +39,9 @@ answer-line-spec =
     (λ c. search needs)
     (λ c. search needs)
     (λ c. search needs)
+    (λ c. search needs)
     (λ c κs. search needs)
+    (λ c. search needs)
     (λ c. search needs)
     (λ c. search needs)
     (λ c. search needs)

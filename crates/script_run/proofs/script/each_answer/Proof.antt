@@ -17,22 +17,22 @@ use Rattle.script_run.proofs.script.each_answer.Statement.{statement}
 use Rattle.script_run.proofs.script.each_answer.Tie as tie
 
 abbrev Inv-loop : tie.InvT-loop
-Inv-loop command text old distances counts neighbours buffer₀ out₀ at room write kept₀ to₀ n₀ buffer out kept to n =
-    Going command (lent text (buffers old distances counts neighbours)) (turnOf (commandIn command (lent text (buffers old distances counts neighbours))) kept₀)
+Inv-loop command text old distances counts neighbours ratings buffer₀ out₀ at room write kept₀ to₀ n₀ buffer out kept to n =
+    Going command (lent text (buffers old distances counts neighbours ratings)) (turnOf (commandIn command (lent text (buffers old distances counts neighbours ratings))) kept₀)
     write room out₀ at kept out to n
     × (maxAnswer ≤ length buffer) × (length buffer ≡ length buffer₀) × (length out ≡ length out₀)
 
 abbrev μ-loop : tie.MeasureT-loop
-μ-loop command text old distances counts neighbours buffer₀ out₀ at room write kept₀ to₀ n₀ buffer out kept to n =
-    length (turnOf (commandIn command (lent text (buffers old distances counts neighbours))) kept₀ .said) - n
+μ-loop command text old distances counts neighbours ratings buffer₀ out₀ at room write kept₀ to₀ n₀ buffer out kept to n =
+    length (turnOf (commandIn command (lent text (buffers old distances counts neighbours ratings))) kept₀ .said) - n
 
 loop-holds : tie.Need-loop-holds Inv-loop μ-loop
 loop-holds c =
-    let s = c .before .before .before .before .before in let a = s .args in
-    (starts (a .command) (lent (a .text .now) (buffers (a .old .now) (a .distances .now) (a .counts .now) (a .neighbours .now))) (a .sheet) (s .pre .place), s .pre .answer, search needs, search needs)
+    let s = c .before .before .before .before .before .before in let a = s .args in
+    (starts (a .command) (lent (a .text .now) (buffers (a .old .now) (a .distances .now) (a .counts .now) (a .neighbours .now) (a .ratings .now))) (a .sheet) (s .pre .place), s .pre .answer, search needs, search needs)
 
 turn-requires : tie.Need-turn-requires Inv-loop μ-loop
-turn-requires c κs = let i = c .before .loop .inv in asked (i .0 .turning) (c .before .before .before .before .before .before .before .pre .inside) (i .1)
+turn-requires c κs = let i = c .before .loop .inv in asked (i .0 .turning) (c .before .before .before .before .before .before .before .before .pre .inside) (i .1)
 
 slice-reshare-prefix-lay : tie.Need-slice-reshare-prefix-lay Inv-loop μ-loop
 slice-reshare-prefix-lay c = omega (arith, c .before .before .before .turn .ensures .wrote .inside)
@@ -51,11 +51,11 @@ returns-2 c = ends (c .before .before .before .before .before .before .before .b
 
 add-n : tie.Need-add-n Inv-loop μ-loop
 add-n c =
-    let a = c .before .before .before .before .before .before .before .before .before .before .before .before .before .before .before .before .before .before .before .before .args in
+    let a = c .before .before .before .before .before .before .before .before .before .before .before .before .before .before .before .before .before .before .before .before .before .args in
     omega (
       arith,
       below (c .before .before .before .before .before .before .before .before .before .before .before .before .before .before .loop .inv .0 .turning) (c .before .before .before .before .before .before .before .before .before .before .before .before .turn .ensures) (not-false _ (c .if2 .left)),
-      few-answers (commandIn (a .command) (lent (a .text .now) (buffers (a .old .now) (a .distances .now) (a .counts .now) (a .neighbours .now)))) (a .sheet),
+      few-answers (commandIn (a .command) (lent (a .text .now) (buffers (a .old .now) (a .distances .now) (a .counts .now) (a .neighbours .now) (a .ratings .now)))) (a .sheet),
     )
 
 loop-less : tie.Need-loop-less Inv-loop μ-loop

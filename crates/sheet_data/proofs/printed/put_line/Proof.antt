@@ -13,7 +13,7 @@ use Rattle.sheet_data.proofs.printed.put_line.Statement.{statement}
 use Rattle.sheet_data.proofs.printed.put_line.Tie as tie
 
 plan-arrays : (c : tie.Start) → PlanArrays (c .args .plan)
-plan-arrays c = record { sizes = search needs; vias = search needs; halves = search needs; uppers = search needs; lowers = search needs }
+plan-arrays c = record { sizes = search needs; vias = search needs; halves = search needs; uppers = search needs; lowers = search needs; ratings = search needs }
 
 drawing-arrays : (c : tie.Start) → DrawingArrays (c .args .drawing)
 drawing-arrays c = record {

@@ -12,7 +12,7 @@ use Rattle.sheet_data.proofs.valid.are_own.Statement.{statement}
 use Rattle.sheet_data.proofs.valid.are_own.Tie as tie
 
 plan-arrays : (c : tie.Start) → PlanArrays (c .args .plan)
-plan-arrays c = record { sizes = search needs; vias = search needs; halves = search needs; uppers = search needs; lowers = search needs }
+plan-arrays c = record { sizes = search needs; vias = search needs; halves = search needs; uppers = search needs; lowers = search needs; ratings = search needs }
 
 numbers-long : (c : tie.Start) → length (c .args .t2) ≡ maxVertices
 numbers-long c = search needs

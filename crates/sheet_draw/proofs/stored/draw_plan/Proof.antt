@@ -12,7 +12,7 @@ use Rattle.sheet_draw.proofs.stored.draw_plan.Statement.{statement}
 use Rattle.sheet_draw.proofs.stored.draw_plan.Tie as tie
 
 plan-arrays : (c : tie.Start) → PlanArrays (c .args .plan)
-plan-arrays c = record { sizes = search needs; vias = search needs; halves = search needs; uppers = search needs; lowers = search needs }
+plan-arrays c = record { sizes = search needs; vias = search needs; halves = search needs; uppers = search needs; lowers = search needs; ratings = search needs }
 
 of-plan : (c : tie.Start) → PlanCut (c .args .plan) (c .args .counts)
 of-plan c = plan-cut (plan-arrays c) (c .args .counts) (c .pre)

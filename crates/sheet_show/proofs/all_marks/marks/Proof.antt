@@ -9,7 +9,7 @@ use Rattle.sheet_show.proofs.all_marks.marks.Statement.{statement}
 use Rattle.sheet_show.proofs.all_marks.marks.Tie as tie
 
 plan-arrays : (c : tie.Start) → PlanArrays (c .args .sheet .plan)
-plan-arrays c = record { sizes = search needs; vias = search needs; halves = search needs; uppers = search needs; lowers = search needs }
+plan-arrays c = record { sizes = search needs; vias = search needs; halves = search needs; uppers = search needs; lowers = search needs; ratings = search needs }
 
 returns : tie.Need-returns
 returns c =

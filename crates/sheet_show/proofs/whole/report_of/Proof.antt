@@ -15,7 +15,7 @@ use Rattle.sheet_show.proofs.whole.report_of.Statement.{statement}
 use Rattle.sheet_show.proofs.whole.report_of.Tie as tie
 
 plan-arrays : (c : tie.Start) → PlanArrays (c .args .plan)
-plan-arrays c = record { sizes = search needs; vias = search needs; halves = search needs; uppers = search needs; lowers = search needs }
+plan-arrays c = record { sizes = search needs; vias = search needs; halves = search needs; uppers = search needs; lowers = search needs; ratings = search needs }
 
 drawing-arrays : (c : tie.Start) → DrawingArrays (c .args .drawing)
 drawing-arrays c = record {

@@ -5,7 +5,7 @@ use Rattle.text_marks.proofs.drawn.draw_positions.Statement.{statement}
 use Rattle.text_marks.proofs.drawn.draw_positions.Tie as tie
 
 make-drawing-requires : tie.Need-make-drawing-requires
-make-drawing-requires c κs = let r = c .before .before .before .before .before .before .before .before .before .before .before .before .pre in
+make-drawing-requires c κs = let r = c .before .before .before .before .before .before .before .before .before .before .before .before .before .pre in
     record { some = r .some; preliminaryRoom = r .preliminaryRoom; finalRoom = r .finalRoom; noList = λ w. absurd (omega (arith, w)) }
 
 returns : tie.Need-returns

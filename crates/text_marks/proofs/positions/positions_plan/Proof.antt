@@ -23,7 +23,7 @@ abbrev count : tie.Start → ℕ
 count c = length (c .args .vias .now)
 
 few : (c : tie.Start) → count c ≤ 1024
-few c = held-bounds _ _ _ _ _ _ _ (c .pre .lists) .few
+few c = held-bounds _ _ _ _ _ _ _ (c .pre .lists .lists) .few
 
 -- as many zeros as there are vertices
 zeros : (c : tie.Start) → length (take (count c) (replicate 1024 (pos 0))) ≡ count c
@@ -38,40 +38,40 @@ rest n = drop n (replicate 1024 (pos 0))
 
 -- once it is drawn
 abbrev start : tie.After-draw-positions → tie.Start
-start c = c .before .before .before .before .before .before .before .before .before
+start c = c .before .before .before .before .before .before .before .before .before .before
 
 fit : (c : tie.After-draw-positions) → count (start c) + count (start c) ≤ length (start c .args .out .now)
 fit c = c .before .before .before .if1 .left
 
 abbrev firsts : tie.After-draw-positions → List ℤ
-firsts c = c .draw-positions .last .1 .1 .1 .1 .1 .1 .0
+firsts c = c .draw-positions .last .1 .1 .1 .1 .1 .1 .1 .0
 
 abbrev finals : tie.After-draw-positions → List ℤ
-finals c = c .draw-positions .last .1 .1 .1 .1 .1 .1 .1 .0
+finals c = c .draw-positions .last .1 .1 .1 .1 .1 .1 .1 .1 .0
 
 firsts-long : (c : tie.After-draw-positions) → length (firsts c) ≡ count (start c)
-firsts-long c = c .draw-positions .kept .1 .1 .1 .1 .1 .1 .0 ∙ places (start c) (fit c)
+firsts-long c = c .draw-positions .kept .1 .1 .1 .1 .1 .1 .1 .0 ∙ places (start c) (fit c)
 
 finals-long : (c : tie.After-draw-positions) → length (finals c) ≡ count (start c)
-finals-long c = c .draw-positions .kept .1 .1 .1 .1 .1 .1 .1 .0 ∙ zeros (start c)
+finals-long c = c .draw-positions .kept .1 .1 .1 .1 .1 .1 .1 .1 .0 ∙ zeros (start c)
 
 returns : tie.Need-returns
 returns c = λ p l.
-    let b = c .before .before .before .before .before .before .args .out .now in
-    writes (positions-of p b ∙ fitted-short (vertexCount p) (bothOf p) b (omega (arith, both-long p (l .ok), ap length (l .viasAre), c .if1 .taken))) (record { answered = refl; left = refl })
+    let b = c .before .before .before .before .before .before .before .args .out .now in
+    writes (positions-of p b ∙ fitted-short (vertexCount p) (bothOf p) b (omega (arith, both-long p (l .lists .ok), ap length (l .lists .viasAre), c .if1 .taken))) (record { answered = refl; left = refl })
 
 slice-aggregate-draw-positions : tie.Need-slice-aggregate-draw-positions
-slice-aggregate-draw-positions c = sym (places (c .before .before .before .before .before .before .before) (c .before .if1 .left))
+slice-aggregate-draw-positions c = sym (places (c .before .before .before .before .before .before .before .before) (c .before .if1 .left))
 
 array-borrow-prefix-finals : tie.Need-array-borrow-prefix-finals
-array-borrow-prefix-finals c = few (c .before .before .before .before .before .before .before)
+array-borrow-prefix-finals c = few (c .before .before .before .before .before .before .before .before)
 
 slice-aggregate-draw-positions-2 : tie.Need-slice-aggregate-draw-positions-2
-slice-aggregate-draw-positions-2 c = sym (zeros (c .before .before .before .before .before .before .before .before))
+slice-aggregate-draw-positions-2 c = sym (zeros (c .before .before .before .before .before .before .before .before .before))
 
 draw-positions-requires : tie.Need-draw-positions-requires
 draw-positions-requires c κs =
-    let s = c .before .before .before .before .before .before .before .before in
+    let s = c .before .before .before .before .before .before .before .before .before in
     record { some = s .pre; preliminaryRoom = places s (c .before .before .if1 .left); finalRoom = zeros s }
 
 array-share-prefix-finals : tie.Need-array-share-prefix-finals
@@ -92,8 +92,8 @@ returns-2 c = λ p l.
     let b = start d .args .out .now in
     let v = count (start d) in
     let m = d .draw-positions .ensures p l in
-    writes (positions-of p b ∙ fitted-long (vertexCount p) (bothOf p) b (omega (arith, both-long p (l .ok), ap length (l .viasAre), fit d))) (record {
-      answered = ap gives (sym (ap length (l .viasAre)));
+    writes (positions-of p b ∙ fitted-long (vertexCount p) (bothOf p) b (omega (arith, both-long p (l .lists .ok), ap length (l .lists .viasAre), fit d))) (record {
+      answered = ap gives (sym (ap length (l .lists .viasAre)));
       left = two-written (firsts d) (finals d) (c .before .copy-positions .last .1 .0) b v p (firsts-long d) (finals-long d)
           (c .before .copy-positions .ensures ∙ first-is (finals d) (rest v) v (finals-long d)) (m .started) (m .ended);
     })

@@ -19,7 +19,7 @@ use Rattle.text_report.proofs.whole.report_plan.Statement.{statement}
 use Rattle.text_report.proofs.whole.report_plan.Tie as tie
 
 abbrev held : tie.Start → PlanData
-held c = let a = c .args in heldPlan (a .gap) (a .spacing) (a .sizes .now) (a .vias .now) (a .halves .now) (a .uppers .now) (a .lowers .now)
+held c = let a = c .args in heldPlan (a .gap) (a .spacing) (a .sizes .now) (a .vias .now) (a .halves .now) (a .uppers .now) (a .lowers .now) (a .ratings .now)
 
 -- as many zeros as there are vertices
 zeros : (c : tie.Start) → length (take (length (c .args .vias .now)) (replicate 1024 (pos 0))) ≡ length (c .args .vias .now)
@@ -30,22 +30,22 @@ rest n = drop n (replicate 1024 (pos 0))
 
 -- once it is drawn
 abbrev start : tie.After-draw → tie.Start
-start c = c .before .before .before .before .before .before .before .before .before .before .before .before .before .before
+start c = c .before .before .before .before .before .before .before .before .before .before .before .before .before .before .before
 
 abbrev count : tie.After-draw → ℕ
 count c = length (start c .args .vias .now)
 
 abbrev firsts : tie.After-draw → List ℤ
-firsts c = c .draw .last .1 .1 .1 .1 .1 .1 .0
+firsts c = c .draw .last .1 .1 .1 .1 .1 .1 .1 .0
 
 abbrev finals : tie.After-draw → List ℤ
-finals c = c .draw .last .1 .1 .1 .1 .1 .1 .1 .0
+finals c = c .draw .last .1 .1 .1 .1 .1 .1 .1 .1 .0
 
 firsts-long : (c : tie.After-draw) → length (firsts c) ≡ count c
-firsts-long c = c .draw .kept .1 .1 .1 .1 .1 .1 .0 ∙ zeros (start c)
+firsts-long c = c .draw .kept .1 .1 .1 .1 .1 .1 .1 .0 ∙ zeros (start c)
 
 finals-long : (c : tie.After-draw) → length (finals c) ≡ count c
-finals-long c = c .draw .kept .1 .1 .1 .1 .1 .1 .1 .0 ∙ zeros (start c)
+finals-long c = c .draw .kept .1 .1 .1 .1 .1 .1 .1 .1 .0 ∙ zeros (start c)
 
 firsts-are : (c : tie.After-draw) → take (count c) (firsts c ++ rest (count c)) ≡ firsts c
 firsts-are c = first-is (firsts c) (rest (count c)) (count c) (firsts-long c)
@@ -53,27 +53,27 @@ firsts-are c = first-is (firsts c) (rest (count c)) (count c) (firsts-long c)
 finals-are : (c : tie.After-draw) → take (count c) (finals c ++ rest (count c)) ≡ finals c
 finals-are c = first-is (finals c) (rest (count c)) (count c) (finals-long c)
 
-made : (c : tie.After-draw) → let l = c .draw .last .1 .1 .1 .1 .1 .1 .1 .1 in
+made : (c : tie.After-draw) → let l = c .draw .last .1 .1 .1 .1 .1 .1 .1 .1 .1 in
     Made (held (start c)) (c .draw .result) (firsts c) (finals c) (l .0) (l .1 .0) (l .1 .1 .0) (l .1 .1 .1 .0) (l .1 .1 .1 .1 .0)
-made c = c .draw .ensures (held (start c)) (holds-held (start c .pre))
+made c = c .draw .ensures (held (start c)) (record { lists = holds-held (start c .pre); ratingsAre = refl })
 
 array-borrow-prefix-preliminary : tie.Need-array-borrow-prefix-preliminary
-array-borrow-prefix-preliminary c = few-vertices (held (c .before .before .before .before .before .before)) (c .before .before .before .before .before .before .pre)
+array-borrow-prefix-preliminary c = few-vertices (held (c .before .before .before .before .before .before .before)) (c .before .before .before .before .before .before .before .pre)
 
 slice-aggregate-draw : tie.Need-slice-aggregate-draw
-slice-aggregate-draw c = sym (zeros (c .before .before .before .before .before .before .before))
+slice-aggregate-draw c = sym (zeros (c .before .before .before .before .before .before .before .before))
 
 array-borrow-prefix-finals : tie.Need-array-borrow-prefix-finals
-array-borrow-prefix-finals c = few-vertices (held (c .before .before .before .before .before .before .before)) (c .before .before .before .before .before .before .before .pre)
+array-borrow-prefix-finals c = few-vertices (held (c .before .before .before .before .before .before .before .before)) (c .before .before .before .before .before .before .before .before .pre)
 
 slice-aggregate-draw-2 : tie.Need-slice-aggregate-draw-2
-slice-aggregate-draw-2 c = sym (zeros (c .before .before .before .before .before .before .before .before))
+slice-aggregate-draw-2 c = sym (zeros (c .before .before .before .before .before .before .before .before .before))
 
 draw-requires : tie.Need-draw-requires
 draw-requires c κs =
-    let s = c .before .before .before .before .before .before .before .before .before .before .before .before .before in
+    let s = c .before .before .before .before .before .before .before .before .before .before .before .before .before .before in
     record {
-      some = record { plan = held s; lists = holds-held (s .pre) };
+      some = record { plan = held s; lists = record { lists = holds-held (s .pre); ratingsAre = refl } };
       preliminaryRoom = zeros s;
       finalRoom = zeros s;
       noPasses = refl;
