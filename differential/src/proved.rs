@@ -8,7 +8,7 @@ use reference::requests::Request;
 pub const MAX_REPORT: usize = 119_834;
 
 /// No picture has more bytes.
-pub const MAX_PICTURE: usize = 1_257_182;
+pub const MAX_PICTURE: usize = 1_306_334;
 
 /// No plan has a longer text.
 pub const MAX_TEXT: usize = 51_738;

@@ -6,7 +6,7 @@
 use crate::label::Label;
 use crate::names::{self, Names};
 use crate::passes::{self, Drawing};
-use crate::plan::Plan;
+use crate::plan::{Plan, Segment};
 use crate::{report, text};
 
 /// The colours by class, for light and dark.
@@ -60,7 +60,7 @@ pub fn document(plan: &Plan, drawing: &Drawing, names: &Names) -> Vec<u8> {
     );
     svg += STYLE;
     svg += &format!("<g class=\"lines\" stroke-width=\"{pen}\">\n");
-    plan.segments().iter().for_each(|segment| svg += &view.line(segment.upper, segment.lower));
+    plan.segments().iter().for_each(|segment| svg += &view.line(segment));
     svg += "</g>\n<g class=\"bends\">\n";
     (0..plan.vertices()).filter(|&v| plan.is_via(v)).for_each(|v| svg += &view.bend(v));
     svg += &format!("</g>\n<g class=\"boxes\" stroke-width=\"{pen}\">\n");
@@ -104,10 +104,15 @@ impl<'a> View<'a> {
         (500 * self.drawing.position[v], 1_000 * self.plan.height(self.plan.level_of(v)))
     }
 
-    fn line(&self, upper: usize, lower: usize) -> String {
-        let ((x1, y1), (x2, y2)) = (self.point(upper), self.point(lower));
+    /// A heavier line has a thicker pen; that of rating 1 is the group's.
+    fn line(&self, segment: &Segment) -> String {
+        let ((x1, y1), (x2, y2)) = (self.point(segment.upper), self.point(segment.lower));
         let [x1, y1, x2, y2] = [x1, y1, x2, y2].map(decimal);
-        format!("<line x1=\"{x1}\" y1=\"{y1}\" x2=\"{x2}\" y2=\"{y2}\"/>\n")
+        let pen = match segment.rating() {
+            Segment::UNRATED => String::new(),
+            rating => format!(" stroke-width=\"{}\"", decimal((19 + rating) * self.unit)),
+        };
+        format!("<line x1=\"{x1}\" y1=\"{y1}\" x2=\"{x2}\" y2=\"{y2}\"{pen}/>\n")
     }
 
     fn bend(&self, v: usize) -> String {
@@ -226,6 +231,15 @@ mod tests {
                 "</svg>",
             ]
         );
+    }
+
+    /// The measure is 1 + 2 × 3.
+    #[test]
+    fn heavy_lines() {
+        let plan = "(plan 2 1 10)\n(level (box 3))\n(level (box 3) (box 3) (box 3))\n(seg 0 1)\n(seg 0 2 2)\n(seg 0 3 100)\n(end)\n";
+        let svg = lines(plan, "");
+        let pens: Vec<&str> = svg.iter().filter_map(|line| line.split_once("y2=\"10\"")).map(|(_, pen)| pen).collect();
+        assert_eq!(pens, ["/>", " stroke-width=\"0.147\"/>", " stroke-width=\"0.833\"/>"]);
     }
 
     #[test]
