@@ -16,12 +16,12 @@ function drawingOf(text, report, names, numbers = []) {
   }
   const marks = marksOf(text), heights = marks.filter(m => m[0] < 2).map(m => m[2]), ys = [...new Set(heights)];
   const vertices = heights.map((y, n) => ({ isBox: marks[n][0] === 0, y, half: marks[n][3], level: ys.indexOf(y) + 1, above: [], below: [] }));
-  // the text is accepted, so its segments are written so, and in the order of their marks
-  const segments = [...textOf(text).matchAll(/\(seg (\d+) (\d+)/g)].map(s => [+s[1], +s[2]]);
+  // the text is accepted, so its segments are written so, and in the order of their marks; a rating of 1 is not written
+  const lines = [...textOf(text).matchAll(/\(seg (\d+) (\d+)(?: (\d+))?\)/g)], segments = lines.map(s => [+s[1], +s[2]]), ratings = lines.map(s => +(s[3] || 1));
   segments.forEach(([a, b], n) => { vertices[a].below.push([n, b]); vertices[b].above.push([n, a]); });
   const moved = numbers.slice(0, vertices.length).map((number, n) => ({ number, now: n })).filter(({ number, now }) => number !== now);
   moved.sort((a, b) => a.number - b.number);
-  return { text, names: namesIn(names), vertices, segments, placings, preliminary, final, levels: ys.length, moved };
+  return { text, names: namesIn(names), vertices, segments, ratings, placings, preliminary, final, levels: ys.length, moved };
 }
 
 // The names in an accepted text of names, by vertex.
@@ -39,8 +39,8 @@ function positionsAfter(count) {
 // The segments between a placing's boxes and the level that its pass goes by: the one above, in pass 2 the one below.
 const segmentsBy = ({ pass, boxes }) => boxes.flatMap(n => drawing.vertices[n][pass === 2 ? "below" : "above"].map(([segment]) => segment));
 
-// The sideways length of segments, in steps.
-const sideways = (segments, xs) => segments.reduce((sum, n) => sum + Math.abs(xs[drawing.segments[n][0]] - xs[drawing.segments[n][1]]), 0) / 2;
+// The sideways length of segments, in steps, each counted with its rating.
+const sideways = (segments, xs) => segments.reduce((sum, n) => sum + drawing.ratings[n] * Math.abs(xs[drawing.segments[n][0]] - xs[drawing.segments[n][1]]), 0) / 2;
 
 // What a box is called in words; a long name is cut, its number never.
 function nameOf(n) {

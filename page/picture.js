@@ -21,6 +21,7 @@ function showPicture(svg) {
     root, lines, shapes, left, top, width, height, pen: +root.querySelector(".lines").getAttribute("stroke-width"),
     high: box ? +box.getAttribute("height") : 0, letters: letters.sort((a, b) => a - b)[letters.length >> 1] || 0,
   };
+  for (const line of lines) if (line.hasAttribute("stroke-width")) line.style.setProperty("--over", line.getAttribute("stroke-width") / parts.pen - 1);
   drawing.vertices.forEach(({ isBox, level }, n) => {
     if (!isBox) return;
     shapes[n].setAttribute("role", "button");

@@ -4,9 +4,9 @@
 
 const REFUSALS = {
   1: ["The text is not in the form of a plan, or is longer than 65,536 bytes.",
-    "Write (plan K G S), a line (level ..) for each level, lines (seg A B), and (end): single spaces, no others, and a line feed after each line."],
+    "Write (plan K G S), a line (level ..) for each level, lines (seg A B) or, with a rating, (seg A B W), and (end): single spaces, no others, and a line feed after each line."],
   2: ["A number or a count is outside its limit.",
-    "Keep to 1 to 64 levels, as many as the first line says; gap 1 to 100; spacing 1 to 10,000; half-width 1 to 200; 64 vertices on a level and 1,024 in all; 2,048 segments."],
+    "Keep to 1 to 64 levels, as many as the first line says; gap 1 to 100; spacing 1 to 10,000; half-width 1 to 200; 64 vertices on a level and 1,024 in all; 2,048 segments; a rating 2 to 100, and none written for 1."],
   3: ["A segment does not join two neighbouring levels.",
     "Let every segment go from a vertex to one on the next level down; a longer cable goes by a via on each level between."],
   4: ["Segments do not rise.",
@@ -47,7 +47,7 @@ function whereRefused(number, bytes) {
 }
 
 function whereOfForm(lines) {
-  const number = "(0|[1-9]\\d{0,4})", form = new RegExp(`^\\((plan( ${number}){3}|level( \\(via\\)| \\(box ${number}\\))+|seg( ${number}){2}|end)\\)$`);
+  const number = "(0|[1-9]\\d{0,4})", form = new RegExp(`^\\((plan( ${number}){3}|level( \\(via\\)| \\(box ${number}\\))+|seg( ${number}){2,3}|end)\\)$`);
   const order = ["(plan", "(leve", "(seg ", "(end)"], rank = line => order.indexOf(line.slice(0, 5));
   const odd = lines.findIndex((line, n) => n < lines.length - 1 && (!form.test(line) || (n === 0 ? rank(line) !== 0 : rank(line) < Math.max(1, rank(lines[n - 1])))
     || (rank(line) === 3 && n < lines.length - 2)));
@@ -59,8 +59,10 @@ function whereOfLimits(lines) {
   const [K, G, S] = lines[0].match(/\d+/g).map(Number), levels = lines.filter(line => line.startsWith("(level"));
   if (K < 1 || K > 64 || G < 1 || G > 100 || S < 1 || S > 10000) return lineAt(lines, 0);
   if (K !== levels.length) return { words: `The first line says ${K} levels; there are ${levels.length}.` };
+  const ratingOf = line => +(line.match(/\d+/g)[2] || 2);
   const odd = lines.findIndex(line => line.startsWith("(level")
-    && (line.match(/via|box/g).length > 64 || (line.match(/\d+/g) || []).some(half => +half < 1 || +half > 200)));
+    ? line.match(/via|box/g).length > 64 || (line.match(/\d+/g) || []).some(half => +half < 1 || +half > 200)
+    : line.startsWith("(seg") && (ratingOf(line) < 2 || ratingOf(line) > 100));
   if (odd >= 0) return lineAt(lines, odd);
   return { words: `There are ${levels.join("").match(/via|box/g).length} vertices and ${lines.filter(line => line.startsWith("(seg")).length} segments.` };
 }

@@ -14,7 +14,8 @@ function stepOf(count) {
   if (!placing) return { words: `Final positions, after ${all} placings`, boxes: [], segments: [] };
   const { pass, level, boxes } = placing, segments = segmentsBy(placing), other = pass === 2 ? "level below" : "level above";
   const before = sideways(segments, positionsAfter(count - 1)), after = sideways(segments, positionsAfter(count));
-  const length = segments.length ? `Sideways to the ${other}: ${inSteps(before)} before, ${inSteps(after)} after` : `No cable to a ${other}: sideways length 0`;
+  const rated = segments.some(n => drawing.ratings[n] > 1) ? ", each cable by its rating" : "";
+  const length = segments.length ? `Sideways to the ${other}${rated}: ${inSteps(before)} before, ${inSteps(after)} after` : `No cable to a ${other}: sideways length 0`;
   return { words: `Placing ${count} of ${all}, pass ${pass}, going ${pass === 2 ? "up" : "down"}, level ${level}: ${few(boxes)}. ${length}`, boxes, segments };
 }
 
