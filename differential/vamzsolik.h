@@ -11,7 +11,7 @@ extern "C" {
 #endif
 
 /* A buffer of this many bytes has room for every report. */
-#define VAMZSOLIK_MAX_REPORT 130074
+#define VAMZSOLIK_MAX_REPORT 119834
 
 /* A buffer of this many numbers has room for the marks of every plan: five numbers for each of 1,024 vertices and 2,048 segments. */
 #define VAMZSOLIK_MAX_NUMBERS 15360
@@ -20,10 +20,10 @@ extern "C" {
 #define VAMZSOLIK_MAX_POSITIONS 2048
 
 /* A buffer of this many bytes has room for every picture. */
-#define VAMZSOLIK_MAX_PICTURE 1398504
+#define VAMZSOLIK_MAX_PICTURE 1306334
 
 /* A buffer of this many bytes has room for the text of every plan, one of this many numbers for the numbers of its vertices. */
-#define VAMZSOLIK_MAX_TEXT 51754
+#define VAMZSOLIK_MAX_TEXT 51738
 #define VAMZSOLIK_MAX_VERTICES 1024
 
 /* Writes the report of the plan text into out and returns its length. If the text is refused with N, 1 to 6, it returns -N, and

@@ -3,7 +3,7 @@
 // multiple of 8. Lengths and answers are 64 bits wide, BigInt here.
 
 // bytes and numbers that are enough for every plan
-const MAX_TEXT = 51754, MAX_REPORT = 130074, MAX_NUMBERS = 15360, MAX_PICTURE = 1398504, MAX_VERTICES = 1024;
+const MAX_TEXT = 51738, MAX_REPORT = 119834, MAX_NUMBERS = 15360, MAX_PICTURE = 1306334, MAX_VERTICES = 1024;
 let library;
 
 const at = id => document.getElementById(id);

@@ -4,9 +4,9 @@
 
 const REFUSALS = {
   1: ["The text is not in the form of a plan, or is longer than 65,536 bytes.",
-    "Write (plan K G S), if wanted (slope P Q), a line (level ..) for each level, lines (seg A B) or, with a rating, (seg A B W), and (end): single spaces, no others, and a line feed after each line."],
+    "Write (plan K G S), a line (level ..) for each level, lines (seg A B) or, with a rating, (seg A B W), and (end): single spaces, no others, and a line feed after each line."],
   2: ["A number or a count is outside its limit.",
-    "Keep to 1 to 64 levels, as many as the first line says; gap 1 to 100; spacing 1 to 10,000; both numbers of a slope 1 to 100; half-width 1 to 200; 64 vertices on a level and 1,024 in all; 2,048 segments; a rating 2 to 100, and none written for 1."],
+    "Keep to 1 to 64 levels, as many as the first line says; gap 1 to 100; spacing 1 to 10,000; half-width 1 to 200; 64 vertices on a level and 1,024 in all; 2,048 segments; a rating 2 to 100, and none written for 1."],
   3: ["A segment does not join two neighbouring levels.",
     "Let every segment go from a vertex to one on the next level down; a longer cable goes by a via on each level between."],
   4: ["Segments do not rise.",
@@ -47,10 +47,10 @@ function whereRefused(number, bytes) {
 }
 
 function whereOfForm(lines) {
-  const number = "(0|[1-9]\\d{0,4})", form = new RegExp(`^\\((plan( ${number}){3}|slope( ${number}){2}|level( \\(via\\)| \\(box ${number}\\))+|seg( ${number}){2,3}|end)\\)$`);
-  const order = ["(plan", "(slop", "(leve", "(seg ", "(end)"], rank = line => order.indexOf(line.slice(0, 5));
-  const odd = lines.findIndex((line, n) => n < lines.length - 1 && (!form.test(line) || (n === 0 ? rank(line) !== 0 : rank(line) < Math.max(n === 1 ? 1 : 2, rank(lines[n - 1])))
-    || (rank(line) === 4 && n < lines.length - 2)));
+  const number = "(0|[1-9]\\d{0,4})", form = new RegExp(`^\\((plan( ${number}){3}|level( \\(via\\)| \\(box ${number}\\))+|seg( ${number}){2,3}|end)\\)$`);
+  const order = ["(plan", "(leve", "(seg ", "(end)"], rank = line => order.indexOf(line.slice(0, 5));
+  const odd = lines.findIndex((line, n) => n < lines.length - 1 && (!form.test(line) || (n === 0 ? rank(line) !== 0 : rank(line) < Math.max(1, rank(lines[n - 1])))
+    || (rank(line) === 3 && n < lines.length - 2)));
   if (odd >= 0) return lineAt(lines, odd);
   return { words: lines[lines.length - 1] ? "The last line has no line feed after it." : "The last line must be (end)." };
 }
@@ -59,8 +59,6 @@ function whereOfLimits(lines) {
   const [K, G, S] = lines[0].match(/\d+/g).map(Number), levels = lines.filter(line => line.startsWith("(level"));
   if (K < 1 || K > 64 || G < 1 || G > 100 || S < 1 || S > 10000) return lineAt(lines, 0);
   if (K !== levels.length) return { words: `The first line says ${K} levels; there are ${levels.length}.` };
-  const slope = lines[1].startsWith("(slope") ? lines[1].match(/\d+/g).map(Number) : [];
-  if (slope.some(n => n < 1 || n > 100)) return lineAt(lines, 1);
   const ratingOf = line => +(line.match(/\d+/g)[2] || 2);
   const odd = lines.findIndex(line => line.startsWith("(level")
     ? line.match(/via|box/g).length > 64 || (line.match(/\d+/g) || []).some(half => +half < 1 || +half > 200)

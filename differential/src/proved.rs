@@ -5,13 +5,13 @@ use reference::marks::{Mark, Point};
 use reference::requests::Request;
 
 /// No report has more bytes.
-pub const MAX_REPORT: usize = 130_074;
+pub const MAX_REPORT: usize = 119_834;
 
 /// No picture has more bytes.
-pub const MAX_PICTURE: usize = 1_398_504;
+pub const MAX_PICTURE: usize = 1_306_334;
 
 /// No plan has a longer text.
-pub const MAX_TEXT: usize = 51_754;
+pub const MAX_TEXT: usize = 51_738;
 
 /// No plan has more vertices.
 pub const MAX_VERTICES: usize = 1_024;

@@ -13,15 +13,6 @@ pub fn plans() -> Vec<PathBuf> {
     files("vectors", "plan")
 }
 
-/// A plan text with the steepest slope as its second line.
-pub fn steep(plan_text: &[u8]) -> Vec<u8> {
-    let first = plan_text
-        .iter()
-        .position(|&byte| byte == b'\n')
-        .map_or(0, |end| end + 1);
-    [&plan_text[..first], b"(slope 1 100)\n", &plan_text[first..]].concat()
-}
-
 /// All scripts; beside each stand its answers.
 pub fn scripts() -> Vec<PathBuf> {
     files("scripts", "script")

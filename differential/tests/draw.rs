@@ -68,17 +68,13 @@ fn every_kind() {
         ("rated-deep", 1_500),
         ("rated-vias", 2_500),
         ("rated-max", 300),
-        ("sloped-small", 2_000),
-        ("sloped-medium", 1_000),
-        ("sloped-vias", 500),
-        ("sloped-max", 50),
     ] {
         assert_eq!(random_plans(kind, seeds), seeds, "{kind}");
     }
-    for kind in ["tangled", "rated-tangled", "sloped-tangled"] {
+    for kind in ["tangled", "rated-tangled"] {
         assert!(random_plans(kind, 3_000) > 100, "{kind}");
     }
-    for kind in ["damaged", "rated-damaged", "sloped-damaged"] {
+    for kind in ["damaged", "rated-damaged"] {
         assert!(random_plans(kind, 4_000) > 100, "{kind}");
     }
 }

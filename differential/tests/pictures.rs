@@ -2,7 +2,7 @@
 //! with names good and bad, in buffers of any length.
 
 use differential::proved;
-use differential::vectors::{plans, steep};
+use differential::vectors::plans;
 use reference::edges::edges;
 use reference::generate::generate;
 use reference::picture::{picture, Fault};
@@ -119,11 +119,6 @@ fn accepted_texts() {
         ("rated-medium", 1_000),
         ("rated-vias", 500),
         ("rated-max", 30),
-        ("sloped-small", 3_000),
-        ("sloped-medium", 1_000),
-        ("sloped-deep", 100),
-        ("sloped-vias", 500),
-        ("sloped-max", 30),
     ] {
         let drawn = compare_kind(kind, times);
         assert!(drawn > times / 2 && drawn < times, "{kind}");
@@ -135,7 +130,6 @@ fn refused_texts() {
     assert!(compare_kind("tangled", 2_000) > 100);
     assert!(compare_kind("damaged", 10_000) > 100);
     assert!(compare_kind("rated-damaged", 5_000) > 50);
-    assert!(compare_kind("sloped-damaged", 5_000) > 50);
 }
 
 #[test]
@@ -214,11 +208,11 @@ fn short_buffers() {
     assert_eq!(proved::write_picture(b"", b"", &mut []), Err(1));
 }
 
-/// Names as long as can be, of the sign with the longest escape, and the steepest slope.
+/// Names as long as can be, of the sign with the longest escape.
 #[test]
 fn no_picture_is_longer() {
     for plan in plans() {
-        let plan_text = steep(&fs::read(&plan).expect("a plan"));
+        let plan_text = fs::read(&plan).expect("a plan");
         let Ok(read) = text::read(&plan_text) else {
             continue;
         };

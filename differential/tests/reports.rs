@@ -2,7 +2,7 @@
 //! buffers of any length, and on a thread's stack.
 
 use differential::proved::{self, MAX_REPORT, NUMBERS};
-use differential::vectors::{plans, steep};
+use differential::vectors::plans;
 use reference::edges::edges;
 use reference::generate::generate;
 use reference::{marks, passes, report, text};
@@ -92,12 +92,6 @@ fn accepted_texts() {
         ("rated-deep", 1_500),
         ("rated-vias", 4_000),
         ("rated-max", 300),
-        ("sloped-small", 20_000),
-        ("sloped-medium", 8_000),
-        ("sloped-wide", 1_500),
-        ("sloped-deep", 1_500),
-        ("sloped-vias", 4_000),
-        ("sloped-max", 300),
     ] {
         assert_eq!(compare_kind(kind, times), times, "{kind}");
     }
@@ -107,14 +101,12 @@ fn accepted_texts() {
 fn tangled_texts() {
     assert!(compare_kind("tangled", 12_000) > 1_000);
     assert!(compare_kind("rated-tangled", 8_000) > 600);
-    assert!(compare_kind("sloped-tangled", 8_000) > 600);
 }
 
 #[test]
 fn damaged_texts() {
     assert!(compare_kind("damaged", 40_000) > 1_000);
     assert!(compare_kind("rated-damaged", 40_000) > 1_000);
-    assert!(compare_kind("sloped-damaged", 40_000) > 1_000);
 }
 
 #[test]
@@ -182,17 +174,6 @@ fn marks_of_a_text() {
         );
     }
     assert_eq!(proved::marks(b""), Err(1));
-}
-
-/// The vectors with the steepest slope, whose heights are the longest numbers.
-#[test]
-fn steep_slopes() {
-    for plan in plans() {
-        let plan_text = steep(&fs::read(&plan).expect("a plan"));
-        let name = format!("{} at 1/100", plan.display());
-        compare(&name, &plan_text);
-        assert!(report::answer(&plan_text).len() <= MAX_REPORT, "{name}");
-    }
 }
 
 #[test]

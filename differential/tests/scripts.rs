@@ -102,21 +102,11 @@ fn more_random_rated_scripts() {
     (SCRIPTS..2 * SCRIPTS).for_each(|seed| compare_random(seed, scripts::rated_script));
 }
 
-#[test]
-fn random_sloped_scripts() {
-    (0..SCRIPTS).for_each(|seed| compare_random(seed, scripts::sloped_script));
-}
-
-#[test]
-fn more_random_sloped_scripts() {
-    (SCRIPTS..2 * SCRIPTS).for_each(|seed| compare_random(seed, scripts::sloped_script));
-}
-
 /// Each script gives the answers that stand beside it.
 #[test]
 fn vectors() {
     let scripts = vectors::scripts();
-    assert_eq!(scripts.len(), 194);
+    assert_eq!(scripts.len(), 167);
     for file in scripts {
         let expected = fs::read(file.with_extension("answers")).expect("answers");
         let mut out = vec![OLD; expected.len()];
@@ -187,83 +177,6 @@ fn poked_ratings() {
     }
 }
 
-/// A poke makes the slope what it says; what is outside 1 to 100 is no text's, but two zeros are no slope.
-#[test]
-fn poked_slopes() {
-    let plan = |slope: &str| {
-        let levels = "(level (box 1))\\n(level (box 1) (box 1))\\n(level (box 1))\\n";
-        format!("load 1 tangled (plan 3 1 5)\\n{slope}{levels}(seg 0 1)\\n(seg 0 2)\\n(seg 2 3)\\n(end)\\n\n")
-    };
-    let ask = "texts 1\nlines 1\nmarks 1\ndraw 1\nlines 1\n";
-    let parts = [
-        "0",
-        "1",
-        "2",
-        "99",
-        "100",
-        "101",
-        "255",
-        "256",
-        "257",
-        "65537",
-        "4294967297",
-        "18446744073709551615",
-        "-1",
-        "01",
-        "x",
-        "",
-        "18446744073709551616",
-    ];
-    let both = parts.iter().flat_map(|p| parts.map(|q| format!("{p} {q}")));
-    let others = [
-        "none",
-        "None",
-        "none none",
-        "1",
-        "1 1 1",
-        " 1 1",
-        "1  1",
-        "",
-    ]
-    .map(str::to_string);
-    for slope in both.chain(others) {
-        let poke = format!("poke 1 slope {slope}\n{ask}poke 1 pos 0 -77\nlines 1\n");
-        for line in ["", "(slope 3 2)\\n"] {
-            let load = plan(line) + "draw 1\n";
-            compare(
-                [&load, &poke, "clear 1\n", ask, &load, ask]
-                    .concat()
-                    .as_bytes(),
-            );
-        }
-    }
-}
-
-/// Levels as far apart as they come: 64 boxes one below the other, by turns at the far left and the far right.
-#[test]
-fn great_heights() {
-    let levels = "(level (box 1))\\n".repeat(64);
-    let segments: String = (1..64).map(|v| format!("(seg {} {v})\\n", v - 1)).collect();
-    let load = format!("load 1 tangled (plan 64 1 1)\\n{levels}{segments}(end)\\n\ndraw 1\n");
-    let most: i64 = 1 << 40;
-    for (left, right) in [
-        (-most, most),
-        (most, -most),
-        (most - 1, -most),
-        (3 - most, most - 2),
-        (-1, 1),
-    ] {
-        let pokes: String = (0..64)
-            .map(|v| format!("poke 1 pos {v} {}\n", if v % 2 == 0 { left } else { right }))
-            .collect();
-        for slope in [
-            "1 100", "1 99", "3 100", "7 100", "99 100", "100 99", "1 1", "100 1", "none",
-        ] {
-            compare(format!("{load}{pokes}poke 1 slope {slope}\nlines 1\nmarks 1\n").as_bytes());
-        }
-    }
-}
-
 #[test]
 fn scripts_of_the_gate() {
     let file = Path::new(env!("CARGO_MANIFEST_DIR")).join("../crates/script/stdin");
@@ -289,10 +202,6 @@ fn edges() {
         "walk 1 (end)\\n\nwalk 1 (end)\\n",
         "poke 1 seg 0 0 1 ",
         "poke 1 seg 2048 0 1 1",
-        "poke 1 slope none",
-        "poke 1 slope",
-        "poke 1 slope ",
-        "poke 1 slope 1 1 ",
         "placerun r=0 old= counts= nbrs= dist= ratings=",
         "placerun r=0 old= counts= nbrs= dist= ratings",
         "placerun r=0 old= counts= nbrs= dist= ratings= ratings=",

@@ -74,7 +74,7 @@ fn at_the_edges() {
 
 #[test]
 fn damaged_texts() {
-    for kind in ["damaged", "rated-damaged", "sloped-damaged"] {
+    for kind in ["damaged", "rated-damaged"] {
         let outcomes = compare_kind(kind, 100_000);
         assert!(outcomes.iter().all(|&count| count > 1_000), "{kind}");
     }
@@ -82,7 +82,7 @@ fn damaged_texts() {
 
 #[test]
 fn tangled_texts() {
-    for kind in ["tangled", "rated-tangled", "sloped-tangled"] {
+    for kind in ["tangled", "rated-tangled"] {
         let [accepted, .., crossing] = compare_kind(kind, 20_000);
         assert!(accepted > 1_000 && crossing > 1_000, "{kind}");
     }
@@ -113,10 +113,6 @@ fn accepted_texts() {
         ("rated-deep", 2_000),
         ("rated-vias", 5_000),
         ("rated-max", 300),
-        ("sloped-small", 20_000),
-        ("sloped-medium", 5_000),
-        ("sloped-vias", 2_000),
-        ("sloped-max", 100),
     ];
     for (kind, times) in kinds {
         assert_eq!(compare_kind(kind, times)[0], times, "{kind}");

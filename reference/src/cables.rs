@@ -150,7 +150,6 @@ fn joined(random: &mut Random, rows: &[Vec<Place>], cables: usize) -> Draft {
         vertices: rows.iter().flatten().map(&mut vertex).collect(),
         gap: random.within(1, 9),
         spacing: random.within(1, 99),
-        slope: None,
         sizes: rows.iter().map(Vec::len).collect(),
         segments: segments.into_iter().map(Segment::new).collect(),
     }

@@ -7,7 +7,6 @@
 use std::fmt;
 use std::ops::Range;
 
-use crate::heights;
 use crate::passes::{self, Drawing};
 use crate::plan::{Plan, Segment, Side, Stretch};
 
@@ -248,21 +247,20 @@ fn upright(plan: &Plan, position: &[i64]) -> Verdict {
 
 /// `bends`: no cable bends more than twice. A strand of vias is followed from its topmost via.
 fn bends(plan: &Plan, position: &[i64]) -> Verdict {
-    let height = heights::of_vertices(plan, position);
     let is_top = |&v: &usize| plan.is_via(v) && plan.joined_via(v, Side::Above).is_none();
     for top in (0..plan.vertices()).filter(is_top) {
         let strand = std::iter::successors(Some(top), |&v| plan.joined_via(v, Side::Below));
-        let bends = strand.filter(|&v| is_bend(plan, position, &height, v)).count();
+        let bends = strand.filter(|&v| is_bend(plan, position, v)).count();
         demand(bends <= MAX_BENDS, "bends", || format!("the cable at vertex {top} bends {bends} times"))?;
     }
     Ok(())
 }
 
 /// Whether the segments above and below a via do not lie on one straight line.
-fn is_bend(plan: &Plan, position: &[i64], height: &[i64], v: usize) -> bool {
+fn is_bend(plan: &Plan, position: &[i64], v: usize) -> bool {
     let (above, below) = (plan.neighbours(v, Side::Above)[0], plan.neighbours(v, Side::Below)[0]);
     let x = |v: usize| i128::from(position[v]);
-    let y = |v: usize| i128::from(height[v]);
+    let y = |v: usize| i128::from(plan.height(plan.level_of(v)));
     (x(v) - x(above)) * (y(below) - y(v)) != (x(below) - x(v)) * (y(v) - y(above))
 }
 

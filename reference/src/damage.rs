@@ -1,7 +1,7 @@
 //! Damaged plan texts. Some damage is done to what a text says, so that checks 2 to 6 meet it, some to its lines and
 //! bytes, most of which check 1 meets.
 
-use crate::plan::{Draft, Plan, Segment, Slope, Vertex};
+use crate::plan::{Draft, Plan, Segment, Vertex};
 use crate::random::Random;
 use crate::text;
 
@@ -28,23 +28,6 @@ pub(crate) fn damaged_rated(random: &mut Random, mut draft: Draft) -> Vec<u8> {
         return text::write_form(&draft);
     }
     damaged(random, draft)
-}
-
-/// The same of a draft with a slope, whose damage may be to the slope or to its line.
-pub(crate) fn damaged_sloped(random: &mut Random, mut draft: Draft) -> Vec<u8> {
-    match random.below(6) {
-        0 => {
-            change_slope(random, &mut draft);
-            text::write_form(&draft)
-        }
-        1 => {
-            let mut text = text::write_form(&draft);
-            damage_slope_line(random, &mut text);
-            text
-        }
-        2 => damaged_rated(random, draft),
-        _ => damaged(random, draft),
-    }
 }
 
 // ---------------------------------------------------------------------------------------------------------------------
@@ -149,17 +132,6 @@ fn change_rating(random: &mut Random, draft: &mut Draft) {
     }
 }
 
-/// Says one part of the slope, or both, at a limit or past it.
-fn change_slope(random: &mut Random, draft: &mut Draft) {
-    let Some(Slope { sideways, downward }) = &mut draft.slope else { return };
-    let part = random.pick(&[0, 0, 1, Plan::MAX_SLOPE, Plan::MAX_SLOPE + 1, 257, 99_999]);
-    match random.below(3) {
-        0 => *sideways = part,
-        1 => *downward = part,
-        _ => (*sideways, *downward) = (part, part),
-    }
-}
-
 /// Exchanges two segments, neighbours or any, or repeats one.
 fn disorder_segments(random: &mut Random, draft: &mut Draft) {
     if draft.segments.is_empty() {
@@ -215,12 +187,8 @@ fn cross(random: &mut Random, draft: &mut Draft) {
 // ---------------------------------------------------------------------------------------------------------------------
 // Lines and bytes
 
-fn lines_of(text: &[u8]) -> Vec<Vec<u8>> {
-    text.split_inclusive(|&byte| byte == b'\n').map(<[u8]>::to_vec).collect()
-}
-
 fn damage_line(random: &mut Random, text: &mut Vec<u8>) {
-    let mut lines = lines_of(text);
+    let mut lines: Vec<Vec<u8>> = text.split_inclusive(|&byte| byte == b'\n').map(<[u8]>::to_vec).collect();
     let i = random.below(lines.len());
     let j = random.below(lines.len());
     match random.below(8) {
@@ -231,41 +199,6 @@ fn damage_line(random: &mut Random, text: &mut Vec<u8>) {
         4 => lines.insert(i, b"\n".to_vec()),
         5 => lines.insert(i, b"(level)\n".to_vec()),
         _ => change_number(random, &mut lines[i]),
-    }
-    *text = lines.concat();
-}
-
-/// Lines that say no slope.
-const NO_SLOPES: [&str; 14] = [
-    "(slope)\n",
-    "(slope )\n",
-    "(slope 1)\n",
-    "(slope 1 )\n",
-    "(slope 1 1 1)\n",
-    "(slope 1 1 )\n",
-    "(slope  1 1)\n",
-    "(slope 1  1)\n",
-    "(slope 1,1)\n",
-    "(slope 1/1)\n",
-    "(slope none)\n",
-    "( slope 1 1)\n",
-    "(Slope 1 1)\n",
-    "(slope 1 1)",
-];
-
-/// Damage to the second line: it goes elsewhere, comes twice, or is in another form.
-fn damage_slope_line(random: &mut Random, text: &mut Vec<u8>) {
-    let mut lines = lines_of(text);
-    let slope = lines[1].clone();
-    match random.below(6) {
-        0 => {
-            lines.remove(1);
-            lines.insert(random.below(lines.len() + 1), slope);
-        }
-        1 => lines.insert(random.below(lines.len() + 1), slope),
-        2 => lines.insert(1, slope),
-        3 => lines[1] = random.pick(&NO_SLOPES).as_bytes().to_vec(),
-        _ => change_number(random, &mut lines[1]),
     }
     *text = lines.concat();
 }

@@ -1,5 +1,4 @@
-//! Plan texts at the edges of checks 1 to 6, each with the outcome that document 01 gives it, or document 02 where it has ratings or
-//! a slope.
+//! Plan texts at the edges of checks 1 to 6, each with the outcome that document 01 gives it, or document 02 where it has ratings.
 
 use crate::plan::Plan;
 use crate::refusal::{CROSSING, ENDS, FORM, LIMIT, RISING, VIA};
@@ -41,7 +40,6 @@ pub fn edges() -> Vec<Edge> {
     crossings(&mut edges);
     order(&mut edges);
     ratings(&mut edges);
-    slopes(&mut edges);
     edges
 }
 
@@ -483,148 +481,5 @@ fn rated_checks(edges: &mut Vec<Edge>) {
     ] {
         add(edges, refusals[0], names[0], rated(text(&CABLES, &straight[..5]), rating));
         add(edges, refusals[1], names[1], rated(text(&CABLES, &crossed), rating));
-    }
-}
-
-// ---------------------------------------------------------------------------------------------------------------------
-// Slopes (E6)
-
-/// One level of one box, with these lines after that of the plan.
-fn after_plan(lines: &str) -> String {
-    ONE.replace("(plan 1 1 1)\n", &format!("(plan 1 1 1)\n{lines}"))
-}
-
-/// P and Q within their limits, outside of them, and in every wrong form.
-fn slopes(edges: &mut Vec<Edge>) {
-    let parts = [
-        ("1", ACCEPTED),
-        ("2", ACCEPTED),
-        ("10", ACCEPTED),
-        ("99", ACCEPTED),
-        ("100", ACCEPTED),
-        ("0", LIMIT),
-        ("101", LIMIT),
-        ("256", LIMIT),
-        ("257", LIMIT),
-        ("65537", LIMIT),
-        ("99999", LIMIT),
-        ("", FORM),
-        ("01", FORM),
-        ("00", FORM),
-        ("000001", FORM),
-        ("100000", FORM),
-        ("4294967297", FORM),
-        ("-1", FORM),
-        ("+1", FORM),
-        ("1.0", FORM),
-        ("x", FORM),
-        ("1 ", FORM),
-        (" 1", FORM),
-        ("(1)", FORM),
-        ("\t1", FORM),
-    ];
-    for (part, refusal) in parts {
-        add(edges, refusal, &format!("P {part:?}"), after_plan(&format!("(slope {part} 7)\n")));
-        add(edges, refusal, &format!("Q {part:?}"), after_plan(&format!("(slope 7 {part})\n")));
-    }
-    for (both, refusal) in
-        [("1 1", ACCEPTED), ("100 100", ACCEPTED), ("0 0", LIMIT), ("101 101", LIMIT), ("01 01", FORM)]
-    {
-        add(edges, refusal, &format!("a slope of {both}"), after_plan(&format!("(slope {both})\n")));
-    }
-    slope_lines(edges);
-    sloped_checks(edges);
-    slanting_lines(edges);
-}
-
-/// A slope stands in the second line and nowhere else, once, and as it is shown.
-fn slope_lines(edges: &mut Vec<Edge>) {
-    let forms = [
-        "(slope)\n",
-        "(slope )\n",
-        "(slope 1)\n",
-        "(slope 1 )\n",
-        "(slope 1 1 1)\n",
-        "(slope 1,1)\n",
-        "(slope 1/1)\n",
-        "(slope none)\n",
-        "(Slope 1 1)\n",
-        "( slope 1 1)\n",
-        " (slope 1 1)\n",
-        "(slope 1 1) \n",
-        "(slope\t1 1)\n",
-        "(slope 1 1)\r\n",
-        "(slope 1 1))\n",
-        "(slope 1 1\n",
-        "(slope 1 1)",
-        "(slope 1 1) ",
-        "slope 1 1\n",
-        "(slopes 1 1)\n",
-        "(rise 1 1)\n",
-        "\n(slope 1 1)\n",
-        "(slope 1 1)\n\n",
-        "(slope 1 1)\n(slope 1 1)\n",
-        "(slope 1 1)\n(slope 2 1)\n",
-    ];
-    for form in forms {
-        add(edges, FORM, &format!("second line {form:?}"), after_plan(form));
-    }
-    let slope = "(slope 1 1)\n";
-    let whole = text(&["(box 1)", "(box 1)"], &[(0, 1)]);
-    let lines: Vec<&str> = whole.split_inclusive('\n').collect();
-    for place in 0..=lines.len() {
-        let with = |more: &str| [&lines[..place].concat(), more, &lines[place..].concat()].concat();
-        let refusal = if place == 1 { ACCEPTED } else { FORM };
-        add(edges, refusal, &format!("a slope as line {place}"), with(slope));
-        let again = with(slope).replacen("(plan 2 1 1)\n", "(plan 2 1 1)\n(slope 3 1)\n", 1);
-        add(edges, FORM, &format!("another slope at line {place}"), again);
-    }
-    add(edges, FORM, "a slope in the plan's line", "(plan 1 1 1 (slope 1 1))\n(level (box 1))\n(end)\n");
-    add(edges, FORM, "a slope of a level", "(plan 1 1 1)\n(level (slope 1 1))\n(end)\n");
-    add(edges, FORM, "only a plan and a slope", "(plan 1 1 1)\n(slope 1 1)\n");
-    add(edges, LIMIT, "a slope, and no level line", "(plan 1 1 1)\n(slope 1 1)\n(end)\n");
-}
-
-/// A bad slope, check 2, comes after 1 and before 3 to 6; a good one changes nothing about them.
-fn sloped_checks(edges: &mut Vec<Edge>) {
-    let sloped = |text: String, slope: &str| text.replacen(" 1 1)\n", &format!(" 1 1)\n(slope {slope})\n"), 1);
-    let (loose, crossed) = (&cables([2, 3], [4, 5], [6, 7])[..5], cables([2, 3], [5, 4], [6, 7]));
-    let texts = [
-        ("a wrong end", text(&BOXES, &[(0, 1)]), ENDS),
-        ("a segment twice", text(&BOXES, &[(0, 2), (0, 2)]), RISING),
-        ("a loose via", text(&CABLES, loose), VIA),
-        ("a crossing", text(&CABLES, &crossed), CROSSING),
-        ("no fault", text(&CABLES, &cables([2, 3], [4, 5], [6, 7])), ACCEPTED),
-    ];
-    for (name, text, refusal) in texts {
-        add(edges, refusal, &format!("a slope and {name}"), sloped(text.clone(), "1 1"));
-        add(edges, LIMIT, &format!("a bad slope and {name}"), sloped(text, "0 1"));
-    }
-    add(edges, FORM, "a bad slope before a wrong form", after_plan("(slope 0 101)\n").replace("(box 1)", "(box 01)"));
-    add(edges, LIMIT, "a slope and a gap of 0", after_plan("(slope 1 1)\n").replace("(plan 1 1 1)", "(plan 1 0 1)"));
-}
-
-/// Two segments that go 3 half steps sideways each: the rise is 3 Q / (2 P) steps, rounded up, or the spacing if that is more.
-fn slanting_lines(edges: &mut Vec<Edge>) {
-    let slopes = [
-        ("1 1", "1.5"),
-        ("3 2", "1"),
-        ("3 4", "2"),
-        ("3 100", "50"),
-        ("99 65", "just below 1"),
-        ("99 66", "1, in other numbers"),
-        ("99 67", "just above 1"),
-        ("100 66", "0.99"),
-        ("100 67", "1.005"),
-        ("1 100", "150"),
-        ("100 1", "0.015"),
-    ];
-    for spacing in [1, 2, 150, 10_000] {
-        for (slope, rise) in slopes {
-            let text = format!(
-                "(plan 2 1 {spacing})\n(slope {slope})\n(level (box 1))\n(level (box 1) (box 1))\n(seg 0 1)\n(seg 0 2)\n(end)\n"
-            );
-            add(edges, ACCEPTED, &format!("a rise of {rise}, slope {slope}, spacing {spacing}"), text);
-        }
     }
 }

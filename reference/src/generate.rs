@@ -2,19 +2,18 @@
 //!
 //! A plan has a given number of places on each level; long cables take some of them for their vias, boxes stand on the
 //! rest. The cables have one order from left to right, which all levels keep, so that inner segments do not cross; but in
-//! some kinds vias change places. Each kind also comes rated, the same plans, their segments with ratings (E5), and sloped, the
-//! same plans with a slope (E6).
+//! some kinds vias change places. Each kind also comes rated: the same plans, their segments with ratings (E5).
 
 use std::collections::BTreeSet;
 
-use crate::besides::Besides;
+use crate::damage;
 use crate::plan::{Draft, Plan, Segment, Vertex};
 use crate::random::Random;
-use crate::text;
+use crate::{ratings, text};
 
 /// The kinds of texts: all are acceptable, except most tangled, crossed and damaged ones. Tangled and crossed ones pass
 /// checks 1 to 5.
-pub const KINDS: [&str; 30] = [
+pub const KINDS: [&str; 20] = [
     "small",
     "medium",
     "wide",
@@ -35,21 +34,14 @@ pub const KINDS: [&str; 30] = [
     "rated-crossed",
     "rated-crossed-max",
     "rated-damaged",
-    "sloped-small",
-    "sloped-medium",
-    "sloped-wide",
-    "sloped-deep",
-    "sloped-vias",
-    "sloped-max",
-    "sloped-tangled",
-    "sloped-crossed",
-    "sloped-crossed-max",
-    "sloped-damaged",
 ];
+
+/// What the name of a kind with ratings starts with.
+const RATED: &str = "rated-";
 
 /// A random text of that kind; none if there is no such kind.
 pub fn generate(kind: &str, seed: u64) -> Option<Vec<u8>> {
-    let (besides, kind) = Besides::of_kind(kind);
+    let (kind, is_rated) = kind.strip_prefix(RATED).map_or((kind, false), |kind| (kind, true));
     let random = &mut Random::new(kind, seed);
     let shape = match kind {
         "small" => small(random),
@@ -61,15 +53,17 @@ pub fn generate(kind: &str, seed: u64) -> Option<Vec<u8>> {
         "tangled" => tangled(random),
         "crossed" => crossed(random),
         "crossed-max" => crossed_max(random, seed),
-        "damaged" => return Some(damaged(random, besides)),
+        "damaged" => return Some(damaged(random, is_rated)),
         _ => return None,
     };
     let mut draft = draft(random, &shape);
-    besides.add(random, &mut draft);
+    if is_rated {
+        ratings::rate(random, &mut draft);
+    }
     Some(text::write_form(&draft))
 }
 
-fn damaged(random: &mut Random, besides: Besides) -> Vec<u8> {
+fn damaged(random: &mut Random, is_rated: bool) -> Vec<u8> {
     let shape = match random.below(8) {
         0 => vias(random),
         1 => medium(random),
@@ -77,8 +71,11 @@ fn damaged(random: &mut Random, besides: Besides) -> Vec<u8> {
         _ => small(random),
     };
     let mut whole = draft(random, &shape);
-    besides.add(random, &mut whole);
-    besides.damaged(random, whole)
+    if is_rated {
+        ratings::rate(random, &mut whole);
+        return damage::damaged_rated(random, whole);
+    }
+    damage::damaged(random, whole)
 }
 
 // ---------------------------------------------------------------------------------------------------------------------
@@ -354,7 +351,6 @@ fn draft(random: &mut Random, shape: &Shape) -> Draft {
         levels: levels.len() as i64,
         gap: shape.gap,
         spacing: shape.spacing,
-        slope: None,
         sizes: shape.sizes.clone(),
         vertices: levels.iter().flatten().map(vertex).collect(),
         segments: segments.into_iter().map(Segment::new).collect(),

@@ -1,4 +1,4 @@
-//! Level diagrams for boat supply plans: a second reading of document 01, and of the first requests of document 02, E1 to E6.
+//! Level diagrams for boat supply plans: a second reading of document 01, and of the first requests of document 02, E1 to E5.
 //!
 //! From text to picture, one module for each part of the paper:
 //! - [`text`] reads a plan text (check 1) and writes it again; [`plan`] holds the plan and makes checks 2 to 6;
@@ -8,7 +8,6 @@
 //! - [`place_run`] places one run, with E4's start for a lone box and E5's ratings: [`half_steps`] is the definition, [`jumps`]
 //!   the fast way to the same outcome;
 //! - [`passes`] goes over the levels three times, places their runs and lists the placings;
-//! - [`heights`] says how far down each level is drawn (E6);
 //! - [`report`] prints the drawing, and reads a printed one; [`marks`] gives it as points for a screen;
 //! - [`picture`] gives it as an SVG document: [`names`] reads what boxes are called, [`label`] fits it into them;
 //! - [`sheet`] has the calls on a sheet with their refusals, [`stored`] what its record holds; [`script`] answers scripts of
@@ -24,7 +23,6 @@
 #![forbid(unsafe_code)]
 #![warn(missing_docs)]
 
-mod besides;
 pub mod cables;
 pub mod check;
 mod cursor;
@@ -32,7 +30,6 @@ mod damage;
 pub mod edges;
 pub mod generate;
 pub mod half_steps;
-pub mod heights;
 pub mod jumps;
 pub mod label;
 pub mod marks;
@@ -53,7 +50,6 @@ mod run_line;
 pub mod script;
 pub mod scripts;
 pub mod sheet;
-mod slopes;
 pub mod stored;
 pub mod tangled;
 pub mod text;

@@ -34,10 +34,8 @@ reference scripts COUNT SEED walk
                                  the same with walks along a level besides
 reference scripts COUNT SEED rated
                                  the same with ratings besides
-reference scripts COUNT SEED sloped
-                                 the same with slopes besides
 reference answers DIR START      compares the answers to every NAME.script whose name starts so with NAME.answers
-KIND: small medium wide deep vias max tangled crossed crossed-max damaged, or one of these after rated- or sloped-
+KIND: small medium wide deep vias max tangled crossed crossed-max damaged, or one of these after rated-
 ";
 
 /// Most characters in the line of a request that is listed.
@@ -81,7 +79,6 @@ fn run(words: &[&str]) -> io::Result<bool> {
         ["scripts", count, seed, "text"] => print(scripts::text_scripts(number(count)?, number(seed)?).as_bytes()),
         ["scripts", count, seed, "walk"] => print(scripts::walk_scripts(number(count)?, number(seed)?).as_bytes()),
         ["scripts", count, seed, "rated"] => print(scripts::rated_scripts(number(count)?, number(seed)?).as_bytes()),
-        ["scripts", count, seed, "sloped"] => print(scripts::sloped_scripts(number(count)?, number(seed)?).as_bytes()),
         ["answers", folder, start] => answers(Path::new(folder), start),
         _ => Err(wrong(USAGE)),
     }

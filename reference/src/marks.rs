@@ -1,6 +1,5 @@
 //! The marks of a drawing, for a screen.
 
-use crate::heights;
 use crate::passes::Drawing;
 use crate::plan::Plan;
 
@@ -37,8 +36,7 @@ impl Mark {
 
 /// All marks: vertices first, then segments.
 pub fn marks(plan: &Plan, drawing: &Drawing) -> Vec<Mark> {
-    let height = heights::of_vertices(plan, &drawing.position);
-    let point = |v: usize| Point { x: drawing.position[v] as f64 / 2.0, y: height[v] as f64 };
+    let point = |v: usize| Point { x: drawing.position[v] as f64 / 2.0, y: plan.height(plan.level_of(v)) as f64 };
     let vertex = |v: usize| {
         if plan.is_via(v) {
             Mark::Bend(point(v))

@@ -7,7 +7,7 @@ use crate::label::Label;
 use crate::names::{self, Names};
 use crate::passes::{self, Drawing};
 use crate::plan::{Plan, Segment};
-use crate::{heights, report, text};
+use crate::{report, text};
 
 /// The colours by class, for light and dark.
 const STYLE: &str = r#"<style>
@@ -74,8 +74,6 @@ pub fn document(plan: &Plan, drawing: &Drawing, names: &Names) -> Vec<u8> {
 struct View<'a> {
     plan: &'a Plan,
     drawing: &'a Drawing,
-    /// How far down each vertex stands, in steps.
-    height: Vec<i64>,
     /// The measure u, in steps: the lesser of the spacing and of the gap with the widest box.
     unit: i64,
 }
@@ -84,17 +82,15 @@ impl<'a> View<'a> {
     fn new(plan: &'a Plan, drawing: &'a Drawing) -> Self {
         let draft = plan.draft();
         let widest = draft.vertices.iter().map(|vertex| vertex.half_width).max().unwrap_or(0);
-        let height = heights::of_vertices(plan, &drawing.position);
-        View { plan, drawing, height, unit: draft.spacing.min(draft.gap + 2 * widest) }
+        View { plan, drawing, unit: draft.spacing.min(draft.gap + 2 * widest) }
     }
 
-    /// Left, top, width and height of what is shown, in thousandths: all marks, and half a unit around them. The last vertex stands on
-    /// the last level.
+    /// Left, top, width and height of what is shown, in thousandths: all marks, and half a unit around them.
     fn frame(&self) -> [i64; 4] {
         let vertices = || self.plan.draft().vertices.iter().zip(&self.drawing.position);
         let left = vertices().map(|(vertex, x)| x - 2 * vertex.half_width).min().unwrap_or(0);
         let right = vertices().map(|(vertex, x)| x + 2 * vertex.half_width).max().unwrap_or(0);
-        let bottom = self.height.last().unwrap_or(&0);
+        let bottom = self.plan.height(self.plan.levels() - 1);
         [
             500 * (left - self.unit),
             -500 * self.unit,
@@ -105,7 +101,7 @@ impl<'a> View<'a> {
 
     /// Where a vertex stands, in thousandths: a position is in half steps.
     fn point(&self, v: usize) -> (i64, i64) {
-        (500 * self.drawing.position[v], 1_000 * self.height[v])
+        (500 * self.drawing.position[v], 1_000 * self.plan.height(self.plan.level_of(v)))
     }
 
     /// A heavier line has a thicker pen; that of rating 1 is the group's.

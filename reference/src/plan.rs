@@ -65,16 +65,6 @@ impl Segment {
     }
 }
 
-/// The steepness that lines must have, as the plan's second line says it (E6): no segment goes farther sideways than P/Q of the way
-/// that it goes down.
-#[derive(Clone, Copy, Debug, PartialEq, Eq)]
-pub struct Slope {
-    /// P, the sideways part.
-    pub sideways: i64,
-    /// Q, the downward part.
-    pub downward: i64,
-}
-
 /// What a text in the right form says, before checks 2 to 6.
 #[derive(Clone, Debug, PartialEq, Eq)]
 pub struct Draft {
@@ -84,8 +74,6 @@ pub struct Draft {
     pub gap: i64,
     /// S, the level spacing in steps.
     pub spacing: i64,
-    /// P and Q, if the text has a line with a slope (E6).
-    pub slope: Option<Slope>,
     /// How many vertices each level line has.
     pub sizes: Vec<usize>,
     /// The vertices of all level lines in reading order.
@@ -166,8 +154,6 @@ impl Plan {
     pub const MAX_SEGMENTS: usize = 2_048;
     /// Greatest rating of a segment.
     pub const MAX_RATING: i64 = 100;
-    /// Greatest P and greatest Q of a slope.
-    pub const MAX_SLOPE: i64 = 100;
 
     /// The plan that the draft describes, if it passes checks 2 to 6. A draft that no text can say is refused with 1.
     pub fn new(draft: Draft) -> Result<Plan, Refusal> {
@@ -236,6 +222,11 @@ impl Plan {
     /// The level on which a vertex stands.
     pub fn level_of(&self, v: usize) -> usize {
         self.level_of[v]
+    }
+
+    /// How far down a level is drawn, in steps.
+    pub fn height(&self, level: usize) -> i64 {
+        self.draft.spacing * level as i64
     }
 
     /// Whether the vertex is a via.
@@ -310,12 +301,10 @@ fn check_limits(draft: &Draft) -> Result<(), Refusal> {
     let levels: RangeInclusive<i64> = 1..=Plan::MAX_LEVELS as i64;
     let half_widths = 1..=Plan::MAX_HALF_WIDTH;
     let ratings = Segment::UNRATED + 1..=Plan::MAX_RATING;
-    let slopes = 1..=Plan::MAX_SLOPE;
     let good = levels.contains(&draft.levels)
         && draft.sizes.len() as i64 == draft.levels
         && (1..=Plan::MAX_GAP).contains(&draft.gap)
         && (1..=Plan::MAX_SPACING).contains(&draft.spacing)
-        && draft.slope.is_none_or(|slope| slopes.contains(&slope.sideways) && slopes.contains(&slope.downward))
         && draft.vertices.iter().all(|vertex| vertex.is_via || half_widths.contains(&vertex.half_width))
         && draft.sizes.iter().all(|&size| size <= Plan::MAX_ON_LEVEL)
         && draft.vertices.len() <= Plan::MAX_VERTICES

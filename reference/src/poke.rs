@@ -1,7 +1,7 @@
 //! The command poke: alters the stored record of a sheet, so that scripts reach sheets handed in.
 
 use crate::sheet::{Sheet, Stage};
-use crate::stored::{StoredBox, StoredPlan, StoredSlope, StoredVertex};
+use crate::stored::{StoredBox, StoredPlan, StoredVertex};
 use crate::words::number;
 
 /// Alters the record as the words say; none, and nothing altered, if they are no poke. What is stored may be any number
@@ -13,8 +13,6 @@ pub(crate) fn poke(sheet: &mut Sheet, words: &[&str]) -> Option<()> {
         ["k", k] => plan.levels = number(k)?,
         ["g", g] => plan.gap = number(g)?,
         ["s", s] => plan.spacing = number(s)?,
-        ["slope", "none"] => plan.slope = StoredSlope::default(),
-        ["slope", p, q] => plan.slope = StoredSlope { sideways: number(p)?, downward: number(q)? },
         ["size", level, size] => *entry(&mut plan.sizes, level)? = number(size)?,
         ["vertex", i, kind, half_width] => *entry(&mut plan.vertices, i)? = vertex_in(kind, half_width)?,
         ["seg", i, a, b] => poke_segment(plan, i, [a, b, "1"])?,

@@ -1,13 +1,12 @@
 //! Random pokes: small and large damage to a sheet's record, each with the poke that repairs it.
 
 use std::fmt::Display;
-use std::iter;
 
 use crate::place_run::MAX_POSITION;
 use crate::plan::Plan;
 use crate::random::Random;
 use crate::sheet::{Sheet, Stage};
-use crate::stored::{StoredBox, StoredSlope, StoredVertex};
+use crate::stored::{StoredBox, StoredVertex};
 
 /// A poke, and the one that takes it back.
 pub(crate) struct Damage {
@@ -22,15 +21,10 @@ pub(crate) struct Pokes {
     pub tangled: bool,
     /// Those of ratings (E5). Without them a poke of a segment makes its rating 1, and so does its repair.
     pub rated: bool,
-    /// Those of slopes (E6).
-    pub sloped: bool,
 }
 
 /// One kind of damage, which may take several pokes.
 pub(crate) fn damage(random: &mut Random, sheet: &Sheet, pokes: Pokes) -> Vec<Damage> {
-    if pokes.sloped && random.once_in(6) {
-        return if random.once_in(3) { stretch(random, sheet) } else { vec![slope(random, sheet)] };
-    }
     if pokes.rated && random.once_in(8) {
         return rating(random, sheet);
     }
@@ -127,32 +121,6 @@ fn spacing(random: &mut Random, sheet: &Sheet) -> Damage {
     let old = sheet.plan.spacing;
     let new = near(random, old, &[0, 1, 500, 10_000, 10_001, 65_535]);
     change("s", new, old)
-}
-
-/// Another slope, within its limits or not, or none.
-fn slope(random: &mut Random, sheet: &Sheet) -> Damage {
-    let StoredSlope { sideways, downward } = sheet.plan.slope;
-    let others = [0, 1, 2, 7, 99, 100, 101, 255, 65_535, u64::MAX];
-    let new = match random.below(6) {
-        0 => StoredSlope::default(),
-        1 => StoredSlope { sideways: near(random, sideways, &others), downward },
-        2 => StoredSlope { sideways, downward: near(random, downward, &others) },
-        3 => StoredSlope { sideways: downward, downward: sideways },
-        _ => StoredSlope { sideways: 1 + random.below(100) as u64, downward: 1 + random.below(100) as u64 },
-    };
-    slope_change(sheet, new)
-}
-
-fn slope_change(sheet: &Sheet, new: StoredSlope) -> Damage {
-    change("slope", slope_words(new), slope_words(sheet.plan.slope))
-}
-
-/// Where both parts are 0, there is no slope.
-fn slope_words(StoredSlope { sideways, downward }: StoredSlope) -> String {
-    if (sideways, downward) == (0, 0) {
-        return "none".to_string();
-    }
-    format!("{sideways} {downward}")
 }
 
 fn size(random: &mut Random, sheet: &Sheet) -> Damage {
@@ -316,27 +284,6 @@ fn position(random: &mut Random, sheet: &Sheet) -> Damage {
     let (name, old) =
         if random.once_in(2) { ("pre", sheet.drawing.preliminary[v]) } else { ("pos", sheet.drawing.position[v]) };
     change(&format!("{name} {v}"), far(random, old), old)
-}
-
-/// A steep slope, and the vertices of a path down by turns about as far right and left as they may be.
-fn stretch(random: &mut Random, sheet: &Sheet) -> Vec<Damage> {
-    let slope = StoredSlope { sideways: random.pick(&[1, 1, 2, 3, 99]), downward: random.pick(&[1, 7, 99, 100, 100]) };
-    let turns = [MAX_POSITION - random.pick(&[0, 0, 1, 2, 3, 77]), -MAX_POSITION];
-    let first = if random.once_in(2) { 0 } else { index(random, counts(sheet.stage).1, Plan::MAX_SEGMENTS) };
-    let moved = |(v, new): (u64, i64)| {
-        let old = *sheet.drawing.position.get(usize::try_from(v).ok()?)?;
-        Some(change(&format!("pos {v}"), new, old))
-    };
-    let path = path_down(sheet, first).into_iter().zip(turns.into_iter().cycle());
-    [Some(slope_change(sheet, slope))].into_iter().chain(path.map(moved)).flatten().collect()
-}
-
-/// The ends of that segment, and from there on always the lower end of the first segment down.
-fn path_down(sheet: &Sheet, first: usize) -> Vec<u64> {
-    let segments = &sheet.plan.segments;
-    let next = |&v: &u64| segments.iter().find(|(upper, lower)| *upper == v && *lower > v).map(|&(_, lower)| lower);
-    let (upper, lower) = segments[first];
-    iter::once(upper).chain(iter::successors(Some(lower), next)).take(Plan::MAX_LEVELS).collect()
 }
 
 fn placing(random: &mut Random, sheet: &Sheet) -> Damage {

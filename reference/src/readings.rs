@@ -28,6 +28,6 @@ mod tests {
     fn every_kind() {
         let all = of_every_kind(vec![b"given".to_vec()], 2);
         assert_eq!(all.len(), edges().len() + 1 + 2 * KINDS.len());
-        assert_eq!(all.last(), generate("sloped-damaged", 1).as_ref());
+        assert_eq!(all.last(), generate("rated-damaged", 1).as_ref());
     }
 }

@@ -5,7 +5,7 @@ use crate::passes::{self, Drawing, Placing};
 use crate::plan::Plan;
 use crate::tangled::{self, Loaded};
 use crate::text::{self, push_line, push_number};
-use crate::{heights, Refusal};
+use crate::Refusal;
 
 /// What the counter program prints for a text: the report, or the one line of a refusal.
 pub fn answer(text: &[u8]) -> Vec<u8> {
@@ -42,15 +42,13 @@ pub fn remembered_lines(loaded: &Loaded, drawing: &Drawing) -> Vec<u8> {
     lines_by(&loaded.plan, &loaded.numbers, drawing)
 }
 
-/// All report lines, vertex v printed as `numbers[v]`; the numbers are all that there are, once each. Heights are those of the plan's
-/// own drawing, whatever the numbers.
+/// All report lines, vertex v printed as `numbers[v]`; the numbers are all that there are, once each.
 fn lines_by(plan: &Plan, numbers: &[usize], drawing: &Drawing) -> Vec<u8> {
     let mut report = Vec::with_capacity(64 + 32 * plan.vertices() + 24 * drawing.placed.len());
     push_line(&mut report, b"(drawing", &[plan.vertices() as i64, drawing.placings.len() as i64]);
-    let height = heights::of_vertices(plan, &drawing.position);
     for (number, v) in tangled::inverse(numbers).into_iter().enumerate() {
         let (preliminary, position) = (drawing.preliminary[v], drawing.position[v]);
-        push_line(&mut report, b"(at", &[printed(number), preliminary, position, height[v]]);
+        push_line(&mut report, b"(at", &[printed(number), preliminary, position, plan.height(plan.level_of(v))]);
     }
     for placing in &drawing.placings {
         push_placing(&mut report, placing, drawing.boxes(placing), numbers);
@@ -83,23 +81,20 @@ fn printed(number: usize) -> i64 {
 const MAX_DIGITS: usize = 18;
 
 /// The drawing of which this is the report, if it has the form of a report of this plan, vertices in order and each at
-/// the height that its level has with these positions. Positions and placings may be any.
+/// the height of its level. Positions and placings may be any.
 pub fn read(plan: &Plan, report: &[u8]) -> Option<Drawing> {
     let mut cursor = Cursor::new(report);
     let [vertices, placings] = read_numbers(&mut cursor, b"(drawing ")?;
     cursor.expect(b")\n")?;
     let mut drawing =
         Drawing { preliminary: Vec::new(), position: Vec::new(), placings: Vec::new(), placed: Vec::new() };
-    let mut heights = Vec::new();
     for v in 0..plan.vertices() {
         let [number, preliminary, position, height] = read_numbers(&mut cursor, b"(at ")?;
         cursor.expect(b")\n")?;
-        (number == printed(v)).then_some(())?;
         drawing.preliminary.push(preliminary);
         drawing.position.push(position);
-        heights.push(height);
+        (number == printed(v) && height == plan.height(plan.level_of(v))).then_some(())?;
     }
-    (heights == heights::of_vertices(plan, &drawing.position)).then_some(())?;
     while !cursor.take(b"(end)\n") {
         read_placing(&mut cursor, &mut drawing)?;
     }

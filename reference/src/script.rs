@@ -12,7 +12,7 @@
 //! marks S                      mark 0, mark 1, .. up to and with the refusal
 //! walk l TEXT                  ok clear N, ok crossed N: the walk along level l of the text, and how many it took
 //! placerun ..                  ok and the positions
-//! poke S ..                    ok; a poked segment has rating 1 if none is said, `slope none` and `slope 0 0` are the same
+//! poke S ..                    ok; a poked segment has rating 1 if none is said
 //! ```
 //!
 //! A refused call answers `refused N`, a line in any other form `unknown`. Words have single spaces between; TEXT goes to

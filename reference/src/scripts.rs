@@ -2,10 +2,9 @@
 //!
 //! A script is answered while it is made, so that its commands know how many lines, marks and entries there are to ask for
 //! or to alter. Scripts come with the commands of no request, of E1 (tangled loads, and pokes of what a sheet remembers), of
-//! E1 and E2 (also lines of the text as it was read), of E1 to E3 (also walks along a level), of E1 to E5 (also ratings, in
-//! texts, pokes and runs) or of E1 to E6 (also slopes, in texts and pokes). E4 has none of its own.
+//! E1 and E2 (also lines of the text as it was read), of E1 to E3 (also walks along a level) or of E1 to E5 (also ratings, in
+//! texts, pokes and runs). E4 has none of its own.
 
-use crate::besides::Besides;
 use crate::generate::generate;
 use crate::pokes::{self, Damage, Pokes};
 use crate::random::Random;
@@ -13,7 +12,7 @@ use crate::requests::Request;
 use crate::script::Script;
 use crate::sheet::Stage;
 use crate::words::escaped;
-use crate::{cables, run_line, text, walk_lines};
+use crate::{cables, ratings, run_line, text, walk_lines};
 
 /// Most bytes in the line of a load.
 const MOST_IN_LOAD: usize = 200_000;
@@ -135,44 +134,6 @@ const RATINGS: [&str; 16] = [
     "placerun r=2 old=0,0 counts=1,1 nbrs=5,5 dist=4 ratings=1,2",
 ];
 
-/// Lines with slopes that are no commands.
-const NO_SLOPES: [&str; 14] = [
-    "poke 1 slope",
-    "poke 1 slope ",
-    "poke 1 slope 1",
-    "poke 1 slope 1 ",
-    "poke 1 slope 1 1 1",
-    "poke 1 slope  1 1",
-    "poke 1 slope none none",
-    "poke 1 slope None",
-    "poke 1 slope none ",
-    "poke 1 slope -1 1",
-    "poke 1 slope 1 01",
-    "poke 1 slope x 1",
-    "poke 1 slope 1/1",
-    "poke 1 slope 1 18446744073709551616",
-];
-
-/// Commands with slopes at the edges of the form, and of check 2.
-const SLOPES: [&str; 16] = [
-    "poke 1 slope none",
-    "poke 1 slope 0 0",
-    "poke 1 slope 1 1",
-    "poke 1 slope 100 100",
-    "poke 1 slope 1 100",
-    "poke 1 slope 100 1",
-    "poke 1 slope 3 2",
-    "poke 1 slope 0 1",
-    "poke 1 slope 18446744073709551615 18446744073709551615",
-    "load 1 strict (plan 1 1 1)\\n(slope 1 1)\\n(level (box 1))\\n(end)\\n",
-    "load 1 tangled (plan 1 1 1)\\n\\x28slope 100 100)\\x0a(level (box 1))\\n(end)\\n",
-    "load 1 strict (plan 1 1 1)\\n(slope 0 1)\\n(level (box 1))\\n(end)\\n",
-    "load 1 tangled (plan 1 1 1)\\n(slope 1 101)\\n(level (box 1))\\n(end)\\n",
-    "load 1 strict (slope 1 1)\\n(plan 1 1 1)\\n(level (box 1))\\n(end)\\n",
-    "load 1 tangled (plan 1 1 1)\\n(level (box 1))\\n(slope 1 1)\\n(end)\\n",
-    "walk 1 (plan 2 1 1)\\n(slope 1 1)\\n(level (box 1))\\n(level (box 1))\\n(end)\\n",
-];
-
 /// Commands of later requests, each with the number of its request; until that has landed they are no commands either.
 const LATER: [(u32, &str); 14] = [
     (13, "draw 2"),
@@ -216,11 +177,6 @@ pub fn rated_scripts(count: u64, seed: u64) -> String {
     joined(count, seed, rated_script)
 }
 
-/// The same with the commands of E1 to E6.
-pub fn sloped_scripts(count: u64, seed: u64) -> String {
-    joined(count, seed, sloped_script)
-}
-
 fn joined(count: u64, seed: u64, script: fn(u64) -> String) -> String {
     let one = |seed: u64| format!("# script {seed}\nclear 1\n{}", script(seed));
     (0..count).map(|i| one(seed.wrapping_add(i))).collect()
@@ -249,11 +205,6 @@ pub fn walk_script(seed: u64) -> String {
 /// The script of a seed, with the commands of E1 to E5.
 pub fn rated_script(seed: u64) -> String {
     made(Random::new("rated script", seed), 5)
-}
-
-/// The script of a seed, with the commands of E1 to E6.
-pub fn sloped_script(seed: u64) -> String {
-    made(Random::new("sloped script", seed), 6)
 }
 
 fn made(random: Random, requests: u32) -> String {
@@ -310,8 +261,6 @@ impl Maker {
             14 | 15 => self.ask(),
             16..=18 => self.place_run(),
             19 => self.say("clear 1"),
-            20 if self.is_sloped() => self.say_one_of(&NO_SLOPES),
-            22 if self.is_sloped() => self.say_one_of(&SLOPES),
             20 if self.is_rated() => self.say_one_of(&NO_RATINGS),
             22 if self.is_rated() => self.say_one_of(&RATINGS),
             20 => self.say_one_of(&UNKNOWN),
@@ -324,22 +273,6 @@ impl Maker {
     /// Whether it is ratings' turn, which is every other time in scripts that have them.
     fn is_rated(&mut self) -> bool {
         self.requests >= 5 && self.random.once_in(2)
-    }
-
-    /// The same for slopes.
-    fn is_sloped(&mut self) -> bool {
-        self.requests >= 6 && self.random.once_in(2)
-    }
-
-    /// What the next text has besides.
-    fn besides(&mut self) -> Besides {
-        if self.is_sloped() {
-            Besides::Slope
-        } else if self.is_rated() {
-            Besides::Ratings
-        } else {
-            Besides::Nothing
-        }
     }
 
     fn say_one_of(&mut self, lines: &[&str]) {
@@ -361,7 +294,9 @@ impl Maker {
         if self.requests >= 3 && self.random.once_in(4) {
             let way = self.random.pick(&["strict", "tangled"]);
             let mut draft = cables::draft(&mut self.random, cables::FEW);
-            self.besides().add(&mut self.random, &mut draft);
+            if self.is_rated() {
+                ratings::rate(&mut self.random, &mut draft);
+            }
             self.load_text(way, &text::write_form(&draft));
         } else if self.requests >= 1 && !self.random.once_in(3) {
             let kinds = ["small", "vias", "tangled", "crossed", "crossed", "crossed", "damaged", "damaged"];
@@ -376,7 +311,7 @@ impl Maker {
 
     fn load_one_of(&mut self, way: &str, kinds: &[&str], large: &[&str]) {
         let kind = if self.random.once_in(50) { self.random.pick(large) } else { self.random.pick(kinds) };
-        let kind = self.besides().kind(kind);
+        let kind = if self.is_rated() { format!("rated-{kind}") } else { kind.to_string() };
         let seed = self.random.next();
         self.load_text(way, &generate(&kind, seed).unwrap_or_default());
     }
@@ -432,8 +367,8 @@ impl Maker {
     }
 
     fn walk(&mut self) {
-        let besides = self.besides();
-        walk_lines::lines(&mut self.random, besides).iter().for_each(|line| self.say(line));
+        let is_rated = self.is_rated();
+        walk_lines::lines(&mut self.random, is_rated).iter().for_each(|line| self.say(line));
     }
 
     /// A number that one of so many items has, or the next, or seldom any.
@@ -473,7 +408,7 @@ impl Maker {
     }
 
     fn damage(&mut self) {
-        let pokes = Pokes { tangled: self.requests >= 1, rated: self.requests >= 5, sloped: self.requests >= 6 };
+        let pokes = Pokes { tangled: self.requests >= 1, rated: self.requests >= 5 };
         for Damage { poke, repair } in pokes::damage(&mut self.random, &self.run.sheet, pokes) {
             self.say(&poke);
             self.repairs.push(repair);
@@ -487,19 +422,19 @@ mod tests {
     use crate::script;
 
     /// How many requests there are the commands of.
-    const LANDED: u32 = 6;
+    const LANDED: u32 = 5;
 
     #[test]
     fn lines_that_are_no_commands() {
         let later = LATER.iter().filter(|(request, _)| *request > LANDED).map(|(_, line)| line);
-        for line in UNKNOWN.iter().chain(&NO_RATINGS).chain(&NO_SLOPES).chain(later) {
+        for line in UNKNOWN.iter().chain(&NO_RATINGS).chain(later) {
             assert_eq!(Script::new().answers(line.as_bytes()), ["unknown"], "{line}");
         }
     }
 
     #[test]
     fn commands_at_the_edges_of_the_form() {
-        for line in EDGES.iter().chain(&RATINGS).chain(&SLOPES) {
+        for line in EDGES.iter().chain(&RATINGS) {
             assert_ne!(Script::new().answers(line.as_bytes()), ["unknown"], "{line}");
         }
     }
@@ -509,13 +444,11 @@ mod tests {
         for seed in 0..600 {
             let random = &mut Random::new("damage", seed);
             let mut run = Script::new();
-            let kind = ["crossed", "rated-crossed", "rated-crossed", "sloped-crossed"][(seed % 4) as usize];
-            let text = generate(kind, seed).expect("a kind");
+            let text = generate(if seed % 3 == 0 { "crossed" } else { "rated-crossed" }, seed).expect("a kind");
             run.sheet.load_tangled(&text).expect("a plan that may be tangled");
             run.sheet.draw().expect("a plan");
             let before = run.sheet.clone();
-            let pokes = Pokes { tangled: seed % 3 == 0, rated: seed % 4 > 0, sloped: seed % 2 > 0 };
-            let damage = pokes::damage(random, &run.sheet, pokes);
+            let damage = pokes::damage(random, &run.sheet, Pokes { tangled: seed % 2 == 0, rated: seed % 3 > 0 });
             for Damage { poke, .. } in &damage {
                 assert_eq!(run.answers(poke.as_bytes()), ["ok"], "{poke}");
             }
@@ -561,7 +494,6 @@ mod tests {
         meet_every_answer(&text_scripts(300, 0), &numbers);
         meet_every_answer(&walk_scripts(300, 0), &numbers);
         meet_every_answer(&rated_scripts(300, 0), &numbers);
-        meet_every_answer(&sloped_scripts(300, 0), &numbers);
     }
 
     fn meet_every_answer(script: &str, numbers: &[u32]) {
@@ -661,32 +593,5 @@ mod tests {
         assert!(counts.iter().all(|&count| count > 200), "{counts:?}");
         let answers = answers_to("placerun", &with);
         assert!(["ok ", "refused 8", "unknown"].iter().all(|start| answers.iter().any(|line| line.starts_with(start))));
-    }
-
-    /// Without E6 there is one poke of a slope among the commands of later requests, which says that there is none.
-    #[test]
-    fn slopes_in_scripts() {
-        let sloped_loads = |scripts: &str| scripts.lines().filter(|line| line.contains("\\n(slope ")).count();
-        let pokes = |scripts: &str| scripts.lines().filter(|line| line.starts_with("poke 1 slope")).count();
-        let none = |scripts: &str| scripts.lines().filter(|line| *line == "poke 1 slope none").count();
-        let before = [
-            scripts(300, 0),
-            tangled_scripts(300, 0),
-            text_scripts(300, 0),
-            walk_scripts(300, 0),
-            rated_scripts(300, 0),
-        ];
-        for without in before {
-            assert_eq!((sloped_loads(&without), pokes(&without)), (0, none(&without)));
-        }
-        let with = sloped_scripts(300, 0);
-        assert!(sloped_loads(&with) > 500 && pokes(&with) > 300, "{} {}", sloped_loads(&with), pokes(&with));
-        let answers = answers_to("poke 1 slope", &with);
-        assert!(["ok", "unknown"].iter().all(|answer| answers.iter().filter(|given| given == answer).count() > 20));
-        let height = |line: &String| line.strip_suffix(')')?.rsplit_once(' ')?.1.parse().ok();
-        let lines = answers_to("line", &with).into_iter().filter(|line| line.contains(" (at "));
-        let heights: Vec<i64> = lines.filter_map(|line| height(&line)).collect();
-        let great = heights.iter().filter(|&&height| height > 1 << 40).count();
-        assert!(great > 50, "{great}");
     }
 }

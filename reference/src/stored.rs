@@ -7,7 +7,7 @@
 
 use crate::passes::{Drawing, Placing};
 use crate::place_run::MAX_POSITION;
-use crate::plan::{Draft, Plan, Segment, Slope, Vertex};
+use crate::plan::{Draft, Plan, Segment, Vertex};
 use crate::text;
 
 /// Most placings in a list, and most boxes in all placings of a list.
@@ -22,15 +22,6 @@ pub struct StoredVertex {
     pub half_width: u64,
 }
 
-/// A slope as it is stored (E6); both parts are 0 where the plan has none.
-#[derive(Clone, Copy, Debug, Default, PartialEq, Eq)]
-pub struct StoredSlope {
-    /// P, the sideways part.
-    pub sideways: u64,
-    /// Q, the downward part.
-    pub downward: u64,
-}
-
 /// A plan in arrays.
 #[derive(Clone, Debug, PartialEq, Eq)]
 pub struct StoredPlan {
@@ -40,8 +31,6 @@ pub struct StoredPlan {
     pub gap: u64,
     /// S, the level spacing in steps.
     pub spacing: u64,
-    /// The slope, if the plan has one.
-    pub slope: StoredSlope,
     /// How many vertices stand on each level.
     pub sizes: [u64; Plan::MAX_LEVELS],
     /// Kind and half-width of each vertex.
@@ -52,21 +41,6 @@ pub struct StoredPlan {
     pub ratings: [u64; Plan::MAX_SEGMENTS],
 }
 
-impl StoredSlope {
-    fn of(Slope { sideways, downward }: Slope) -> Self {
-        StoredSlope { sideways: sideways.unsigned_abs(), downward: downward.unsigned_abs() }
-    }
-
-    /// What the plan's second line says, if it has one; none at all if a number is far beyond what a text can say.
-    fn data(self) -> Option<Option<Slope>> {
-        if self == StoredSlope::default() {
-            return Some(None);
-        }
-        let (sideways, downward) = (i64::try_from(self.sideways).ok()?, i64::try_from(self.downward).ok()?);
-        Some(Some(Slope { sideways, downward }))
-    }
-}
-
 impl StoredPlan {
     /// All 0.
     pub fn empty() -> Self {
@@ -74,7 +48,6 @@ impl StoredPlan {
             levels: 0,
             gap: 0,
             spacing: 0,
-            slope: StoredSlope::default(),
             sizes: [0; Plan::MAX_LEVELS],
             vertices: [StoredVertex::default(); Plan::MAX_VERTICES],
             segments: [(0, 0); Plan::MAX_SEGMENTS],
@@ -89,7 +62,6 @@ impl StoredPlan {
         stored.levels = draft.levels.unsigned_abs();
         stored.gap = draft.gap.unsigned_abs();
         stored.spacing = draft.spacing.unsigned_abs();
-        stored.slope = draft.slope.map_or_else(StoredSlope::default, StoredSlope::of);
         let vertex =
             |vertex: &Vertex| StoredVertex { is_via: vertex.is_via, half_width: vertex.half_width.unsigned_abs() };
         fill(&mut stored.sizes, draft.sizes.iter().map(|&size| size as u64));
@@ -124,7 +96,6 @@ impl StoredPlan {
             levels: i64::try_from(self.levels).ok()?,
             gap: i64::try_from(self.gap).ok()?,
             spacing: i64::try_from(self.spacing).ok()?,
-            slope: self.slope.data()?,
             sizes: first(&self.sizes, self.levels)?.iter().map(size).collect::<Option<_>>()?,
             vertices: first(&self.vertices, vertices)?.iter().map(vertex).collect::<Option<_>>()?,
             segments: rated.map(segment).collect::<Option<_>>()?,

@@ -2,14 +2,13 @@
 //!
 //! ```text
 //! (plan K G S)
-//! (slope P Q)               or no such line
 //! (level (box 3) (via))     one line per level, at least one vertex in each
 //! (seg A B)                 with a rating other than 1 (seg A B W)
 //! (end)
 //! ```
 
 use crate::cursor::Cursor;
-use crate::plan::{Draft, Plan, Segment, Slope, Vertex};
+use crate::plan::{Draft, Plan, Segment, Vertex};
 use crate::{refusal, Refusal};
 
 /// A text of more bytes is refused with 1.
@@ -47,7 +46,6 @@ pub fn read_form(text: &[u8]) -> Option<Draft> {
     cursor.at_end().then_some(draft)
 }
 
-/// The plan's line, and that of its slope if it comes next (E6: "as its second line").
 fn read_head(cursor: &mut Cursor) -> Option<Draft> {
     cursor.expect(b"(plan ")?;
     let levels = cursor.number(MAX_DIGITS)?;
@@ -56,17 +54,7 @@ fn read_head(cursor: &mut Cursor) -> Option<Draft> {
     cursor.expect(b" ")?;
     let spacing = cursor.number(MAX_DIGITS)?;
     cursor.expect(b")\n")?;
-    let slope = if cursor.take(b"(slope ") { Some(read_slope(cursor)?) } else { None };
-    Some(Draft { levels, gap, spacing, slope, sizes: Vec::new(), vertices: Vec::new(), segments: Vec::new() })
-}
-
-/// P and Q, and the line's end. The form allows any numbers.
-fn read_slope(cursor: &mut Cursor) -> Option<Slope> {
-    let sideways = cursor.number(MAX_DIGITS)?;
-    cursor.expect(b" ")?;
-    let downward = cursor.number(MAX_DIGITS)?;
-    cursor.expect(b")\n")?;
-    Some(Slope { sideways, downward })
+    Some(Draft { levels, gap, spacing, sizes: Vec::new(), vertices: Vec::new(), segments: Vec::new() })
 }
 
 /// The vertices of a level, at least one, and the line's end.
@@ -110,9 +98,6 @@ pub fn write_form(draft: &Draft) -> Vec<u8> {
     let mut text = Vec::with_capacity(16 * (draft.vertices.len() + draft.segments.len()));
     let mut vertices = draft.vertices.iter();
     push_line(&mut text, b"(plan", &[draft.levels, draft.gap, draft.spacing]);
-    if let Some(Slope { sideways, downward }) = draft.slope {
-        push_line(&mut text, b"(slope", &[sideways, downward]);
-    }
     for &size in &draft.sizes {
         text.extend_from_slice(b"(level");
         vertices.by_ref().take(size).for_each(|vertex| push_vertex(&mut text, vertex));

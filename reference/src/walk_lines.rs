@@ -1,12 +1,11 @@
 //! Random commands for the walk along a level (E3), see [`crate::script`].
 
-use crate::besides::Besides;
 use crate::generate::generate;
 use crate::plan::Plan;
 use crate::random::Random;
 use crate::walk::{walk, Walk};
 use crate::words::escaped;
-use crate::{cables, damage, text};
+use crate::{cables, damage, ratings, text};
 
 /// Most bytes in a text that is walked along level after level.
 const MOST_WITH_ALL_LEVELS: usize = 800;
@@ -51,14 +50,14 @@ const EDGES: [&str; 10] = [
 ];
 
 /// Walks along a level of a text, or along one after another; or a line at the edge of the form, or beyond. Texts have ratings
-/// (E5), a slope (E6) or neither.
-pub(crate) fn lines(random: &mut Random, besides: Besides) -> Vec<String> {
+/// (E5) or not.
+pub(crate) fn lines(random: &mut Random, is_rated: bool) -> Vec<String> {
     match random.below(12) {
         0 | 1 => return vec![random.pick(&NO_WALKS).to_string()],
         2 => return vec![random.pick(&EDGES).to_string()],
         _ => {}
     }
-    let plan_text = if besides == Besides::Nothing { plan_text(random) } else { text_with(random, besides) };
+    let plan_text = if is_rated { rated_text(random) } else { plan_text(random) };
     let words = escaped(&plan_text);
     let walked = if words.len() > MOST_IN_LINE {
         Vec::new()
@@ -114,19 +113,19 @@ fn plan_text(random: &mut Random) -> Vec<u8> {
     generate(kind, seed).unwrap_or_default()
 }
 
-/// The same with ratings or a slope.
-fn text_with(random: &mut Random, besides: Besides) -> Vec<u8> {
+/// The same with ratings.
+fn rated_text(random: &mut Random) -> Vec<u8> {
     match random.below(4) {
         0 => {
-            let kind = besides.kind(random.pick(&["vias", "tangled", "crossed", "damaged"]));
+            let kind = random.pick(&["rated-vias", "rated-tangled", "rated-crossed", "rated-damaged"]);
             let seed = random.next();
-            generate(&kind, seed).unwrap_or_default()
+            generate(kind, seed).unwrap_or_default()
         }
         choice => {
             let mut draft = cables::draft(random, cables::FEW);
-            besides.add(random, &mut draft);
+            ratings::rate(random, &mut draft);
             if choice == 1 {
-                besides.damaged(random, draft)
+                damage::damaged_rated(random, draft)
             } else {
                 text::write_form(&draft)
             }
@@ -153,8 +152,7 @@ mod tests {
     #[test]
     fn every_answer_is_met() {
         let random = &mut Random::new("walk lines", 0);
-        let all: Vec<String> =
-            (0..6_000).flat_map(|_| lines(random, Besides::Nothing)).flat_map(|line| answers(&line)).collect();
+        let all: Vec<String> = (0..6_000).flat_map(|_| lines(random, false)).flat_map(|line| answers(&line)).collect();
         let met = |answer: &str| all.iter().filter(|given| *given == answer).count();
         let taken = |answer: &str, least: u32, most: u32| (least..=most).map(|n| met(&format!("{answer} {n}"))).sum();
         let counts: [usize; 16] = [
@@ -179,16 +177,14 @@ mod tests {
         assert_eq!(counts.iter().sum::<usize>(), all.len());
     }
 
-    /// The walk minds neither ratings nor a slope; checks 1 and 2 do, and a segment twice is refused with 4 whatever its ratings.
+    /// The walk minds no ratings; check 2 does, and a segment twice is refused with 4 whatever its ratings.
     #[test]
-    fn walks_of_texts_with_ratings_or_a_slope() {
-        for (besides, word) in [(Besides::Ratings, "rated walk lines"), (Besides::Slope, "sloped walk lines")] {
-            let random = &mut Random::new(word, 0);
-            let lines: Vec<String> = (0..2_000).flat_map(|_| lines(random, besides)).collect();
-            let all: Vec<String> = lines.iter().flat_map(|line| answers(line)).collect();
-            let met = |start: &str| all.iter().filter(|given| given.starts_with(start)).count();
-            let counts = ["ok clear", "ok crossed", "refused 1", "refused 2", "refused 4", "refused 5"].map(met);
-            assert!(counts.iter().all(|&count| count >= 10), "{counts:?}");
-        }
+    fn walks_of_rated_texts() {
+        let random = &mut Random::new("rated walk lines", 0);
+        let lines: Vec<String> = (0..2_000).flat_map(|_| lines(random, true)).collect();
+        let all: Vec<String> = lines.iter().flat_map(|line| answers(line)).collect();
+        let met = |start: &str| all.iter().filter(|given| given.starts_with(start)).count();
+        let counts = ["ok clear", "ok crossed", "refused 1", "refused 2", "refused 4", "refused 5"].map(met);
+        assert!(counts.iter().all(|&count| count >= 10), "{counts:?}");
     }
 }

@@ -156,8 +156,6 @@ fn scripts_and_their_answers() {
     assert_eq!((code, String::from_utf8_lossy(&walks)), (WELL, reference::scripts::walk_scripts(3, 7).into()));
     let (code, rated) = run(&["scripts", "3", "7", "rated"], b"");
     assert_eq!((code, String::from_utf8_lossy(&rated)), (WELL, reference::scripts::rated_scripts(3, 7).into()));
-    let (code, sloped) = run(&["scripts", "3", "7", "sloped"], b"");
-    assert_eq!((code, String::from_utf8_lossy(&sloped)), (WELL, reference::scripts::sloped_scripts(3, 7).into()));
     let starts: Vec<&[u8]> =
         scripts.split(|&byte| byte == b'\n').filter(|line| line.starts_with(b"# script ")).collect();
     assert_eq!(starts, [b"# script 7", b"# script 8", b"# script 9"]);
@@ -190,7 +188,7 @@ fn requests_and_their_outcomes() {
 
 #[test]
 fn wrong_requests() {
-    let wrong: [&[&str]; 31] = [
+    let wrong: [&[&str]; 30] = [
         &[],
         &[""],
         &["draw"],
@@ -205,7 +203,6 @@ fn wrong_requests() {
         &["gen", "small", "99999999999999999999999999"],
         &["gen", "large", "1"],
         &["gen", "rated", "1"],
-        &["gen", "sloped", "1"],
         &["requests"],
         &["gen", "small", "1", "2"],
         &["vectors"],

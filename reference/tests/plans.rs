@@ -101,22 +101,6 @@ fn large_rated_plans() {
 }
 
 #[test]
-fn sloped_plans() {
-    judge_kind("sloped-small", 3_000);
-    judge_kind("sloped-medium", 500);
-    judge_kind("sloped-deep", 100);
-    judge_kind("sloped-vias", 500);
-    judge_kind("sloped-tangled", 500);
-    judge_kind("sloped-damaged", 1_500);
-}
-
-#[test]
-fn large_sloped_plans() {
-    judge_kind("sloped-wide", 50);
-    judge_kind("sloped-max", 10);
-}
-
-#[test]
 fn equal_seeds_give_equal_texts_and_other_kinds_give_none() {
     for kind in KINDS {
         assert_eq!(text_of(kind, 5), text_of(kind, 5));
@@ -129,19 +113,7 @@ fn equal_seeds_give_equal_texts_and_other_kinds_give_none() {
 
 #[test]
 fn whole_kinds_are_always_accepted() {
-    for kind in [
-        "small",
-        "medium",
-        "wide",
-        "deep",
-        "vias",
-        "max",
-        "rated-small",
-        "rated-vias",
-        "rated-max",
-        "sloped-small",
-        "sloped-max",
-    ] {
+    for kind in ["small", "medium", "wide", "deep", "vias", "max", "rated-small", "rated-vias", "rated-max"] {
         assert_eq!(plans(kind, 50).count(), 50, "{kind}");
     }
     let tangled = plans("tangled", 200).count();

@@ -10,7 +10,7 @@ use reference::passes::{self, Drawing};
 use reference::plan::{Draft, Plan, Segment};
 use reference::sheet::{Sheet, Stage};
 use reference::tangled::{self, inverse, renumbered, Loaded};
-use reference::{check, heights, marks, report, text};
+use reference::{check, marks, report, text};
 
 /// The text of a plan with these levels and segments.
 fn plan_text(levels: &[&str], segments: &[(usize, usize)]) -> Vec<u8> {
@@ -179,7 +179,7 @@ fn plans(kind: &'static str, seeds: u64) -> impl Iterator<Item = (String, Draft,
 }
 
 /// How many texts of each kind are tried.
-const TIMES: [(&str, u64); 11] = [
+const TIMES: [(&str, u64); 9] = [
     ("crossed", 2_000),
     ("crossed-max", 60),
     ("tangled", 1_000),
@@ -189,8 +189,6 @@ const TIMES: [(&str, u64); 11] = [
     ("rated-crossed", 1_000),
     ("rated-crossed-max", 20),
     ("rated-damaged", 500),
-    ("sloped-crossed", 500),
-    ("sloped-damaged", 300),
 ];
 
 fn each_plan(judge: impl Fn(&str, &Draft, &Loaded)) {
@@ -312,10 +310,9 @@ fn reports_are_in_the_numbers_of_the_text() {
 }
 
 fn renamed_report(Loaded { plan, numbers }: &Loaded, drawing: &Drawing) -> String {
-    let heights = heights::of_levels(plan, &drawing.position);
     let mut at: Vec<(usize, String)> = Vec::new();
     for (v, &number) in numbers.iter().enumerate() {
-        let height = heights[plan.level_of(v)];
+        let height = plan.draft().spacing * plan.level_of(v) as i64;
         at.push((number, format!("(at {number} {} {} {height})\n", drawing.preliminary[v], drawing.position[v])));
     }
     at.sort();

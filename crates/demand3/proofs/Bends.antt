@@ -72,7 +72,7 @@ no-bend : (p : PlanData) (xs : List ℤ) (u v w : ℕ) → position_of xs u ≡ 
 unfolding bendsBetween
 no-bend p xs u v w e f =
     let a = zero-dif (position_of xs v) (position_of xs u) (sym e) in let b = zero-dif (position_of xs w) (position_of xs v) (sym f) in
-    rw (a, b, zero-*ℤ (rise p xs v w), zero-*ℤ (rise p xs u v))
+    rw (a, b, zero-*ℤ (rise p v w), zero-*ℤ (rise p u v))
   where
     zero-dif : (a b : ℤ) → a ≡ b → a -ℤ b ≡ pos 0
     zero-dif a b e = eq-make (a -ℤ b) (pos 0) (omega (arith, dif a b, ap P e, ap N e))

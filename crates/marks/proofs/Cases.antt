@@ -6,7 +6,7 @@ use mathlib.Core.List.{List, [], ◌∷◌, map}
 use lib.IntN.{ℤ, pos, negsuc}
 use lib.Count.{count_trailing_zeros}
 use lib.Ieee.{Float, fin, mul, round, of_int, of_bits, of_fields, odd, size, units, span, climb}
-use Rattle.passes.proofs.Open.{passesOpen}
+use Rattle.plan.specs.Plan.{levelIn, levelOf, heightOf}
 use Rattle.marks.specs.Half.{point5, half_of, whole_of}
 use Rattle.marks.specs.Marks.{wholeMarkOf, mark_of, fiveOf}
 use Rattle.plan.proofs.Case1.{case1}
@@ -35,5 +35,5 @@ left = fin true 5 (negsuc 0)
 
 box-bend-line : map (λ n. fiveOf (mark_of case1 finals n)) (0 ∷ 2 ∷ 5 ∷ [])
     ≡ (n0 ∷ left ∷ n0 ∷ n3 ∷ n0 ∷ []) ∷ (n1 ∷ left ∷ n10 ∷ n0 ∷ n0 ∷ []) ∷ (n2 ∷ left ∷ n0 ∷ left ∷ n10 ∷ []) ∷ []
-unfolding passesOpen mark_of wholeMarkOf fiveOf half_of whole_of point5 mul of_int of_bits of_fields round odd units size span climb count_trailing_zeros
+unfolding mark_of wholeMarkOf fiveOf heightOf levelOf levelIn half_of whole_of point5 mul of_int of_bits of_fields round odd units size span climb count_trailing_zeros
 box-bend-line = refl

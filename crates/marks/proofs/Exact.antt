@@ -15,16 +15,16 @@ use lib.Ieee.{Float, nan, inf, fin, binary64, mul, round, of_int, of_bits, of_fi
 use lib.Ieee.Fits.{down_pos}
 use lib.Ieee.Exact.{HasValue, round_exact}
 use lib.Ieee.Back.{round_whole}
-use Rattle.ints.specs.Reach.{reach, allWithin}
-use Rattle.plan.specs.Plan.{PlanData, vertexCount, isVia, halfWidth}
+use Rattle.ints.specs.Reach.{reach}
+use Rattle.plan.specs.Plan.{PlanData, vertexCount, isVia, halfWidth, levelOf, heightOf}
 use Rattle.passes.specs.State.{position_of}
-use Rattle.passes.specs.Heights.{depth_of}
 use Rattle.marks.specs.declared.types.Mark.{Mark}
 use Rattle.marks.specs.declared.types.Mark.TheVariants.{Box, Bend, Line}
 use Rattle.marks.specs.Half.{point5, half_of, whole_of, maxWhole}
-use Rattle.marks.specs.Marks.{WholeMark, box, bend, line, upperEnd, lowerEnd, segmentMark, wholeMarkOf, point_of, inF64, mark_of, fiveOf}
+use Rattle.marks.specs.Marks.{WholeMark, box, bend, line, depth_of, upperEnd, lowerEnd, segmentMark, wholeMarkOf, point_of, inF64, mark_of, fiveOf}
 use Rattle.marks.specs.Exact.{IsHalf, IsWhole, ExactPoint, ExactMark, ExactFive}
-use Rattle.marks.proofs.Laws.{within-at}
+use Rattle.marks.specs.inner.Asked.{InReach}
+use Rattle.marks.proofs.Laws.{height-low, within-at}
 
 -- ---- the cast
 pub cast-holds : (x : ℤ) → nat_abs x ≤ 2 ^ 40 → T (in_float binary64 x)
@@ -106,16 +106,20 @@ either-fits true false x y w m h k = h
 either-fits false via x y w m h k = k
 
 -- those of a plan
-module _ (p : PlanData) (xs : List ℤ) (low : (v : ℕ) → depth_of p xs v ≤ maxWhole) (within : allWithin xs ≡ true) where
+module _ (p : PlanData) (xs : List ℤ) (h : InReach p.spacing p.sizes xs) where
+  low : (v : ℕ) → depth_of p v ≤ maxWhole
+  unfolding heightOf levelOf
+  low v = omega (arith, height-low h v)
+
   near : (v : ℕ) → nat_abs (position_of xs v) ≤ reach
-  near v = within-at xs v within
+  near v = within-at xs v h.within
 
   pub fits : (n : ℕ) → halfWidth p n ≤ maxWhole → Fits (wholeMarkOf p xs n)
   unfolding wholeMarkOf
   fits n w =
       let k = n - vertexCount p in
       let a = upperEnd p k in let b = lowerEnd p k in
-      either-fits (ltb n (vertexCount p)) (isVia p n) (position_of xs n) (depth_of p xs n) (halfWidth p n) (segmentMark p xs k) (near n, low n, w) (near a, low a, near b, low b)
+      either-fits (ltb n (vertexCount p)) (isVia p n) (position_of xs n) (depth_of p n) (halfWidth p n) (segmentMark p xs k) (near n, low n, w) (near a, low a, near b, low b)
 
   pub mark-exact : (n : ℕ) → halfWidth p n ≤ maxWhole → ExactMark (wholeMarkOf p xs n) (mark_of p xs n)
   unfolding mark_of

@@ -1,9 +1,8 @@
 -- The marks of a plan's drawing whose final positions are xs, in whole numbers and in f64. "Vertices come first, then segments."
 use Rattle.std.specs.Prelude.{cond, List, [], ◌∷◌, map, ℕ, ◌+◌, ◌-◌, ltb, length, get_or, ℤ, Float}
 use Rattle.ints.specs.Lists.{concat}
-use Rattle.plan.specs.Plan.{PlanData, numbers, vertexCount, isVia, halfWidth}
+use Rattle.plan.specs.Plan.{PlanData, numbers, vertexCount, isVia, halfWidth, levelOf, heightOf}
 use Rattle.passes.specs.State.{position_of}
-use Rattle.passes.specs.Heights.{depth_of}
 use Rattle.marks.specs.declared.types.Point.{Point}
 use Rattle.marks.specs.declared.types.Mark.{Mark}
 use Rattle.marks.specs.declared.types.Mark.TheVariants.{Box, Bend, Line}
@@ -15,9 +14,13 @@ pub data WholeMark : Type 0 where
   bend : ℤ → ℕ → WholeMark
   line : ℤ → ℕ → ℤ → ℕ → WholeMark
 
+-- The y of vertex v.
+abbrev pub depth_of : PlanData → ℕ → ℕ
+depth_of p v = heightOf p (levelOf p v)
+
 -- "a box has its centre and half-width, a bend (one per via) a point"
 abbrev pub vertexMark : PlanData → List ℤ → ℕ → WholeMark
-vertexMark p xs v = cond (isVia p v) (bend (position_of xs v) (depth_of p xs v)) (box (position_of xs v) (depth_of p xs v) (halfWidth p v))
+vertexMark p xs v = cond (isVia p v) (bend (position_of xs v) (depth_of p v)) (box (position_of xs v) (depth_of p v) (halfWidth p v))
 
 -- The ends of the k-th segment.
 abbrev pub upperEnd : PlanData → ℕ → ℕ
@@ -29,7 +32,7 @@ lowerEnd p k = get_or p.lowers k 0
 -- "a line two points": from the upper end to the lower.
 abbrev pub segmentMark : PlanData → List ℤ → ℕ → WholeMark
 segmentMark p xs k =
-    line (position_of xs (upperEnd p k)) (depth_of p xs (upperEnd p k)) (position_of xs (lowerEnd p k)) (depth_of p xs (lowerEnd p k))
+    line (position_of xs (upperEnd p k)) (depth_of p (upperEnd p k)) (position_of xs (lowerEnd p k)) (depth_of p (lowerEnd p k))
 
 -- The n-th mark, from 0, and how many there are.
 unfoldable pub wholeMarkOf : PlanData → List ℤ → ℕ → WholeMark

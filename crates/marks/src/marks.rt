@@ -1,9 +1,11 @@
 // One mark, out of a plan's arrays and the final positions.
 ghost use Rattle.std.specs.Prelude.{◌≡◌, cond, ◌<◌, length};
 ghost use Rattle.marks.specs.Half.{whole_of};
-ghost use Rattle.marks.specs.inner.Asked.{Standing, pointIn, lineIn, Asked, IsMark};
+ghost use Rattle.marks.specs.inner.Asked.{Standing, pointIn, lineIn, AskedAt, IsMarkAt, Asked, IsMark};
 
 use crate::types::{Mark, Point};
+use plan::data::Plan;
+use plan_checks::levels::heights;
 
 // Where vertex v stands.
 fn point_at(heights: &[u64], finals: &[i64], v: usize) -> Point
@@ -33,8 +35,8 @@ fn segment_mark(heights: &[u64], finals: &[i64], a: u32, b: u32) -> Mark
     Mark::Line(upper, lower)
 }
 
-// The n-th mark: that of vertex n, or past the vertices that of a segment. `heights` has the height of each vertex.
-pub fn mark(
+// The n-th mark, where the height of each vertex is known.
+pub fn mark_at(
     heights: &[u64],
     vias: &[bool],
     halves: &[u16],
@@ -43,8 +45,8 @@ pub fn mark(
     finals: &[i64],
     n: usize,
 ) -> Mark
-    requires { Asked heights.now vias.now halves.now uppers.now lowers.now finals.now n }
-    ensures { IsMark heights.now vias.now halves.now uppers.now lowers.now finals.now n result }
+    requires { AskedAt heights.now vias.now halves.now uppers.now lowers.now finals.now n }
+    ensures { IsMarkAt heights.now vias.now halves.now uppers.now lowers.now finals.now n result }
 {
     if n < vias.len() {
         let at = point_at(heights, finals, n);
@@ -52,4 +54,24 @@ pub fn mark(
     }
     let k = n - vias.len();
     segment_mark(heights, finals, uppers[k], lowers[k])
+}
+
+// The n-th mark: that of vertex n, or past the vertices that of a segment.
+pub fn mark(
+    spacing: u32,
+    sizes: &[u16],
+    vias: &[bool],
+    halves: &[u16],
+    uppers: &[u32],
+    lowers: &[u32],
+    finals: &[i64],
+    n: usize,
+) -> Mark
+    requires { Asked spacing sizes.now vias.now halves.now uppers.now lowers.now finals.now n }
+    ensures { IsMark spacing sizes.now vias.now halves.now uppers.now lowers.now finals.now n result }
+{
+    let mut height = [0u64; Plan::MAX_VERTICES];
+    let v = vias.len();
+    heights(spacing, sizes, &mut height[..v]);
+    mark_at(&height[..v], vias, halves, uppers, lowers, finals, n)
 }

@@ -2,10 +2,12 @@
 ghost use Rattle.std.specs.Prelude.{◌≡◌, [], ◌∷◌, ◌+◌, ◌*◌, ◌≤◌, length};
 ghost use Rattle.std.proofs.lemmas.List.Edits.{sets};
 ghost use Rattle.marks.specs.Marks.{fiveOf};
-ghost use Rattle.marks.specs.inner.Asked.{AskedAll, AreMarks};
+ghost use Rattle.marks.specs.inner.Asked.{AskedEach, AreMarksAt, AskedAll, AreMarks};
 
-use crate::marks::mark;
+use crate::marks::mark_at;
 use crate::types::{Mark, Point};
+use plan::data::Plan;
+use plan_checks::levels::heights;
 
 // Writes five numbers: a kind, a point, and two more.
 fn put_five(kind: f64, c: Point, d: f64, e: f64, at: usize, out: &mut [f64])
@@ -31,8 +33,8 @@ pub fn put_mark(m: Mark, at: usize, out: &mut [f64])
     }
 }
 
-// Writes all marks one after another, five numbers each. `heights` has the height of each vertex.
-pub fn put_marks(
+// Writes all marks one after another, five numbers each, where the height of each vertex is known.
+fn put_each(
     heights: &[u64],
     vias: &[bool],
     halves: &[u16],
@@ -41,14 +43,35 @@ pub fn put_marks(
     finals: &[i64],
     out: &mut [f64],
 )
-    requires { AskedAll heights.now vias.now halves.now uppers.now lowers.now finals.now × (5 * (length vias.now + length uppers.now) ≤ length out.old) }
-    ensures { AreMarks heights.now vias.now halves.now uppers.now lowers.now finals.now
+    requires { AskedEach heights.now vias.now halves.now uppers.now lowers.now finals.now × (5 * (length vias.now + length uppers.now) ≤ length out.old) }
+    ensures { AreMarksAt heights.now vias.now halves.now uppers.now lowers.now finals.now
         out.old out.new }
 {
     let mut n: usize = 0;
     while n < vias.len() + uppers.len() {
-        let m = mark(heights, vias, halves, uppers, lowers, finals, n);
+        let m = mark_at(heights, vias, halves, uppers, lowers, finals, n);
         put_mark(m, 5 * n, out);
         n += 1;
     }
+}
+
+// Writes all marks one after another, five numbers each.
+pub fn put_marks(
+    spacing: u32,
+    sizes: &[u16],
+    vias: &[bool],
+    halves: &[u16],
+    uppers: &[u32],
+    lowers: &[u32],
+    finals: &[i64],
+    out: &mut [f64],
+)
+    requires { AskedAll spacing sizes.now vias.now halves.now uppers.now lowers.now finals.now × (5 * (length vias.now + length uppers.now) ≤ length out.old) }
+    ensures { AreMarks spacing sizes.now vias.now halves.now uppers.now lowers.now finals.now
+        out.old out.new }
+{
+    let mut height = [0u64; Plan::MAX_VERTICES];
+    let v = vias.len();
+    heights(spacing, sizes, &mut height[..v]);
+    put_each(&height[..v], vias, halves, uppers, lowers, finals, out);
 }

@@ -4,7 +4,7 @@ use mathlib.Core.Bool.{true, false}
 use mathlib.Core.List.{List, [], ◌∷◌, map}
 use Prim.Native.Nat.{ℕ}
 use lib.IntN.{ℤ, pos, negsuc}
-use Rattle.plan.specs.Plan.{PlanData, data_of, evenly}
+use Rattle.plan.specs.Plan.{PlanData, data_of}
 use Rattle.passes.specs.Drawing.{BoxAt, Placing, drawingOf}
 use Rattle.passes.specs.Words.{bendsAt}
 use Rattle.passes.proofs.Open.{passesOpen}
@@ -40,7 +40,7 @@ case1-words = refl
 -- A settled run is not placed again in pass 2; distances are doubled after the sum; a bounded run becomes ready in pass 2.
 abbrev pub settled : PlanData
 settled =
-    data_of 5 1 (evenly 1)
+    data_of 5 1 1
     (2 ∷ 3 ∷ 3 ∷ 2 ∷ 2 ∷ [])
     (false ∷ false ∷ true ∷ false ∷ true ∷ true ∷ false ∷ true ∷ true ∷ true ∷ false ∷ false ∷ [])
     (1 ∷ 1 ∷ 0 ∷ 9 ∷ 0 ∷ 0 ∷ 1 ∷ 0 ∷ 0 ∷ 0 ∷ 1 ∷ 1 ∷ [])
@@ -68,7 +68,7 @@ settled-words = refl
 -- A bounded run that only pass 3 places; an empty run that is not settled keeps another from being ready.
 abbrev pub third-pass : PlanData
 third-pass =
-    data_of 5 1 (evenly 1)
+    data_of 5 1 1
     (1 ∷ 4 ∷ 4 ∷ 3 ∷ 1 ∷ [])
     (false ∷ true ∷ false ∷ true ∷ false ∷ true ∷ true ∷ true ∷ true ∷ true ∷ false ∷ true ∷ false ∷ [])
     (1 ∷ 0 ∷ 2 ∷ 0 ∷ 1 ∷ 0 ∷ 0 ∷ 0 ∷ 0 ∷ 0 ∷ 1 ∷ 0 ∷ 1 ∷ [])
@@ -98,7 +98,7 @@ third-pass-words = refl
 -- The nearest via with a via on the preceding level, where a nearer via has none.
 abbrev pub nearest : PlanData
 nearest =
-    data_of 4 1 (evenly 1)
+    data_of 4 1 1
     (1 ∷ 4 ∷ 4 ∷ 1 ∷ [])
     (false ∷ true ∷ true ∷ false ∷ true ∷ true ∷ false ∷ false ∷ true ∷ false ∷ [])
     (1 ∷ 0 ∷ 0 ∷ 1 ∷ 0 ∷ 0 ∷ 1 ∷ 1 ∷ 0 ∷ 1 ∷ [])
@@ -126,7 +126,7 @@ nearest-words = refl
 -- Pass 3 goes against the level above.
 abbrev pub above-third : PlanData
 above-third =
-    data_of 6 1 (evenly 1)
+    data_of 6 1 1
     (1 ∷ 3 ∷ 4 ∷ 4 ∷ 4 ∷ 1 ∷ [])
     (false ∷ false ∷ true ∷ false ∷ true ∷ false ∷ true ∷ true ∷ true ∷ true ∷ true ∷ true ∷ true ∷ true ∷ false ∷ true ∷ false ∷ [])
     (1 ∷ 1 ∷ 0 ∷ 1 ∷ 0 ∷ 1 ∷ 0 ∷ 0 ∷ 0 ∷ 0 ∷ 0 ∷ 0 ∷ 0 ∷ 0 ∷ 2 ∷ 0 ∷ 1 ∷ [])
@@ -158,7 +158,7 @@ above-third-words = refl
 -- Runs go from left to right.
 abbrev pub left-to-right : PlanData
 left-to-right =
-    data_of 3 2 (evenly 6687)
+    data_of 3 2 6687
     (1 ∷ 3 ∷ 3 ∷ [])
     (false ∷ false ∷ true ∷ false ∷ false ∷ false ∷ false ∷ [])
     (1 ∷ 1 ∷ 0 ∷ 1 ∷ 1 ∷ 1 ∷ 1 ∷ [])
@@ -189,7 +189,7 @@ left-to-right-words = refl
 -- A cable of one via whose two segments slant on one straight line does not bend.
 abbrev pub slanting : PlanData
 slanting =
-    data_of 3 1 (evenly 4)
+    data_of 3 1 4
     (3 ∷ 6 ∷ 3 ∷ [])
     (false ∷ false ∷ false ∷ true ∷ true ∷ false ∷ true ∷ true ∷ true ∷ false ∷ false ∷ false ∷ [])
     (1 ∷ 1 ∷ 1 ∷ 0 ∷ 0 ∷ 1 ∷ 0 ∷ 0 ∷ 0 ∷ 1 ∷ 1 ∷ 1 ∷ [])
@@ -222,7 +222,7 @@ slanting-bends = refl
 -- goes by the level below, above the last lamp; were all ratings 1, as in `light`, it would stand in the middle.
 abbrev feedsAndLamps : List ℕ → PlanData
 feedsAndLamps ratings =
-    data_of 3 1 (evenly 10)
+    data_of 3 1 10
     (3 ∷ 1 ∷ 3 ∷ [])
     (false ∷ false ∷ false ∷ false ∷ false ∷ false ∷ false ∷ [])
     (1 ∷ 1 ∷ 1 ∷ 1 ∷ 1 ∷ 1 ∷ 1 ∷ [])

@@ -29,5 +29,3 @@ pub mod Within
 pub mod Tally
 pub mod Listed
 pub mod DrawingWithin
-pub mod Heights
-pub mod HeightCases

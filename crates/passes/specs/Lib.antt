@@ -1,6 +1,5 @@
 pub mod Runs
 pub mod State
-pub mod Heights
 pub mod Ready
 pub mod Passes
 pub mod Drawing

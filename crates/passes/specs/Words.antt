@@ -4,14 +4,13 @@ use Rattle.std.proofs.Math.Option.{Option, none, some}
 use Rattle.std.specs.Int.Signed.{le_z}
 use Rattle.ints.specs.Ints.{P, gap}
 use Rattle.ints.specs.Reach.{allWithin}
-use Rattle.plan.specs.Plan.{PlanData, vertexCount, isVia, numbers, levelsOf, Siblings, siblingsOf}
+use Rattle.plan.specs.Plan.{PlanData, vertexCount, isVia, numbers, levelsOf, levelOf, heightOf, Siblings, siblingsOf}
 use Rattle.plan.specs.Segments.{Segment, Rated, ratedOf, above, below, innerSegments}
 use Rattle.plan.specs.Strands.{first_or, strandOf}
 use Rattle.plan.specs.Checks.{every}
 use Rattle.preliminary.specs.Positions.{preliminary}
 use Rattle.passes.specs.Runs.{Run, run_at, runsOf, isBounded, isOpen, members, asList}
 use Rattle.passes.specs.State.{Step, position_of, put, doubled}
-use Rattle.passes.specs.Heights.{depth_of}
 use Rattle.passes.specs.Ready.{equals, hasNoSlack, places}
 use Rattle.passes.specs.Drawing.{BoxAt, Placing, Drawing}
 
@@ -48,13 +47,13 @@ innerUpright p xs = every (isUpright xs) (innerSegments p)
 
 -- "A cable bends at a via where its segments above and below do not lie on one straight line": those from u down to v and
 -- from v down to w, by their sideways lengths, each times the other's height.
-abbrev pub rise : PlanData → List ℤ → ℕ → ℕ → ℤ
-rise p xs u v = pos (depth_of p xs v) -ℤ pos (depth_of p xs u)
+abbrev pub rise : PlanData → ℕ → ℕ → ℤ
+rise p u v = pos (heightOf p (levelOf p v)) -ℤ pos (heightOf p (levelOf p u))
 
 unfoldable pub bendsBetween : PlanData → List ℤ → ℕ → ℕ → ℕ → Bool
 bendsBetween p xs u v w =
-    let upper = (position_of xs v -ℤ position_of xs u) *ℤ rise p xs v w in
-    let lower = (position_of xs w -ℤ position_of xs v) *ℤ rise p xs u v in
+    let upper = (position_of xs v -ℤ position_of xs u) *ℤ rise p v w in
+    let lower = (position_of xs w -ℤ position_of xs v) *ℤ rise p u v in
     not (equals (upper -ℤ lower) 0)
 
 unfoldable pub bendsAt : PlanData → List ℤ → ℕ → Bool

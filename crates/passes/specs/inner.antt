@@ -1,4 +1,3 @@
 -- Words of inner contracts: what loops keep and which arrays hold what. No public promise rests on them.
 pub mod Runs
 pub mod Schedule
-pub mod Highest

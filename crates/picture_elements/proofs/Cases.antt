@@ -15,9 +15,3 @@ lines : map (λ w. line_of 7 w (line (negsuc 4) 0 (pos 6) 10)) (1 ∷ 2 ∷ 100 
     ∷ bytes "<line x1=\"-2.5\" y1=\"0\" x2=\"3\" y2=\"10\" stroke-width=\"0.833\"/>\n" ∷ []
 unfolding line_of penOf across down thousandths amount fraction places digits decimal
 lines = refl
-
--- To as low as a vertex can stand.
-lowest : line_of 1 1 (line (negsuc 1099511627775) 0 (pos 1099511627776) 6926923254988800)
-    ≡ bytes "<line x1=\"-549755813888\" y1=\"0\" x2=\"549755813888\" y2=\"6926923254988800\"/>\n"
-unfolding line_of penOf across down thousandths amount fraction places digits decimal
-lowest = refl

@@ -23,32 +23,32 @@ pen-short u w h =
     (λ e. omega arith)
     (λ e. omega (arith, amount-short 3 ((19 + w) * u) (omega (arith, pen-thin u w h))))
 
-pub line-short : (u w : ℕ) (x : ℤ) (y : ℕ) (a : ℤ) (b : ℕ) → Pen u w → Near x y → Near a b → length (line_of u w (line x y a b)) ≤ 122
+pub line-short : (u w : ℕ) (x : ℤ) (y : ℕ) (a : ℤ) (b : ℕ) → Pen u w → Near x y → Near a b → length (line_of u w (line x y a b)) ≤ 102
 unfolding line_of
 line-short u w x y a b g h k =
-    let p = across-near x (omega (arith, h.0)) in let q = down-short 15 y (omega (arith, h.1)) in
-    let r = across-near a (omega (arith, k.0)) in let s = down-short 15 b (omega (arith, k.1)) in
+    let p = across-near x (omega (arith, h.0)) in let q = down-short 5 y (omega (arith, h.1)) in
+    let r = across-near a (omega (arith, k.0)) in let s = down-short 5 b (omega (arith, k.1)) in
     let t = pen-short u w g in
     simp length-append (omega arith)
 
-pub bend-short : (u n : ℕ) (x : ℤ) (y : ℕ) → NearVertex u n x y → length (bendOf u n (bend x y)) ≤ 78
+pub bend-short : (u n : ℕ) (x : ℤ) (y : ℕ) → NearVertex u n x y → length (bendOf u n (bend x y)) ≤ 68
 unfolding bendOf
 bend-short u n x y h =
     let d = decimal-length 3 n (omega (arith, h.number)) in
-    let p = across-near x (omega (arith, h.point.0)) in let q = down-short 15 y (omega (arith, h.point.1)) in
+    let p = across-near x (omega (arith, h.point.0)) in let q = down-short 5 y (omega (arith, h.point.1)) in
     let r = amount-short 2 (35 * u) (omega (arith, h.measure)) in
     simp length-append (omega arith)
 
-pub rect-short : (u : ℕ) (x : ℤ) (y w : ℕ) → Near x y → u ≤ 10000 → w ≤ 200 → length (rectOf u x y w) ≤ 85
+pub rect-short : (u : ℕ) (x : ℤ) (y w : ℕ) → Near x y → u ≤ 10000 → w ≤ 200 → length (rectOf u x y w) ≤ 75
 unfolding rectOf
 rect-short u x y w h m k =
     let p = across-near (x -ℤ pos (2 * w)) (omega (arith, h.0, dif x (pos (2 * w)))) in
-    let q = thousandths-short 15 (pos (1000 * y) -ℤ pos (200 * u)) (omega (arith, h.1, dif (pos (1000 * y)) (pos (200 * u)))) in
+    let q = thousandths-short 5 (pos (1000 * y) -ℤ pos (200 * u)) (omega (arith, h.1, dif (pos (1000 * y)) (pos (200 * u)))) in
     let r = down-short 2 (2 * w) (omega arith) in
     let s = amount-short 3 (400 * u) (omega arith) in
     simp length-append (omega arith)
 
-pub box-short : (u : ℕ) (name : List ℕ) (n : ℕ) (x : ℤ) (y w : ℕ) → NearBox u n x y w → length (boxOf u name n (box x y w)) ≤ 403 + 10 * length name
+pub box-short : (u : ℕ) (name : List ℕ) (n : ℕ) (x : ℤ) (y w : ℕ) → NearBox u n x y w → length (boxOf u name n (box x y w)) ≤ 363 + 10 * length name
 unfolding boxOf
 box-short u name n x y w h =
     let v = h.vertex in

@@ -8,11 +8,10 @@ ghost use Rattle.picture_fit.specs.Fitted.{fitted, Leaves};
 
 use crate::types::PictureAnswer;
 use picture_marks::picture::put_picture;
-use plan::data::Spacing;
 use text_write::number::put_word;
 
 // No picture is longer.
-pub const MAX_PICTURE: usize = 1398504;
+pub const MAX_PICTURE: usize = 1306334;
 
 // A text at the front of a lent buffer.
 fn fit(text: &[u8], out: &mut [u8]) -> PictureAnswer
@@ -33,7 +32,7 @@ pub fn blank() -> [u8; MAX_PICTURE] {
 // a buffer of its own, and copied.
 pub fn fit_picture(
     gap: u32,
-    spacing: Spacing,
+    spacing: u32,
     sizes: &[u16],
     vias: &[bool],
     halves: &[u16],

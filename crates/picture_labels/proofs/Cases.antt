@@ -51,9 +51,3 @@ pub label-5 : label_of (negsuc 1099511627775) 630000 200 10000 9 (bytes "Incompr
     ++ bytes "<text x=\"-549755813888\" y=\"630000\" dy=\".95em\" font-size=\"50\">of &lt;b&gt;</text>")
 unfolding opened
 label-5 = refl
-
--- As low as a vertex can stand.
-pub label-6 : label_of (pos 1099511627776) 6926923254988800 1 1 1023 []
-    ≡ (bytes "<text x=\"549755813888\" y=\"6926923254988800\" dy=\".35em\" font-size=\"0.2\">1023</text>")
-unfolding opened
-label-6 = refl

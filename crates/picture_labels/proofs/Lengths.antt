@@ -18,7 +18,6 @@ use Rattle.picture_rows.specs.Rows.{Row}
 use Rattle.picture_rows.proofs.EscapeLaws.{escaped-short}
 use Rattle.picture_rows.proofs.Within.{long, rows_long}
 use Rattle.picture_labels.specs.Label.{titleOf, offset, start_of, elementOf, sign, letters, elements, numberSize, nameSize, columnsIn, rows_of, label_of}
-use Rattle.passes.specs.inner.Highest.{maxHeight}
 use Rattle.picture_labels.specs.inner.Limits.{InLimits}
 use Rattle.picture_labels.proofs.LabelLaws.{at-0, at_1, at-2, at-3, at-4, at_none, five}
 use Rattle.picture_labels.proofs.SizeLaws.{name-low, number-low, rows-three}
@@ -51,14 +50,14 @@ offset-short k = elim (ℕ_discrete k 0) [
   ]
 ]
 
-module _ (x : ℤ) (y : ℕ) (hx : ints.size x ≤ 2 ^ 40) (hy : y ≤ maxHeight) (size : ℕ) (hs : size ≤ 2000000) where
-  start-short : (k : ℕ) → length (start_of x y size k) ≤ 83
+module _ (x : ℤ) (y : ℕ) (hx : ints.size x ≤ 2 ^ 40) (hy : y ≤ 630000) (size : ℕ) (hs : size ≤ 2000000) where
+  start-short : (k : ℕ) → length (start_of x y size k) ≤ 73
   unfolding start_of
   start-short k =
       simp length-append
-      (omega (arith, across-short x (omega (arith, hx)), down-short 15 y (omega (arith, hy)), offset-short k, amount-short 3 size (omega (arith, hs))))
+      (omega (arith, across-short x (omega (arith, hx)), down-short 5 y (omega (arith, hy)), offset-short k, amount-short 3 size (omega (arith, hs))))
 
-  element-short : (k : ℕ) (w : List ℕ) → length (elementOf x y size k w) ≤ 90 + length w
+  element-short : (k : ℕ) (w : List ℕ) → length (elementOf x y size k w) ≤ 80 + length w
   unfolding elementOf
   element-short k w = simp length-append (omega (arith, start-short k))
 
@@ -67,7 +66,7 @@ module _ (x : ℤ) (y : ℕ) (hx : ints.size x ≤ 2 ^ 40) (hy : y ≤ maxHeight
       let s : length (cond r.cut sign []) ≤ 3 = if-ind r.cut sign [] (λ w. length w ≤ 3) (λ _. omega arith) (λ _. omega arith) in
       simp length-append (omega (arith, s, escaped-short r.front))
 
-  elements-short : (k : ℕ) (rs : List Row) → length (elements x y size k rs) ≤ 93 * length rs + 5 * long rs
+  elements-short : (k : ℕ) (rs : List Row) → length (elements x y size k rs) ≤ 83 * length rs + 5 * long rs
   unfolding elements sum
   elements-short k [] = omega arith
   elements-short k (r ∷ rs) =
@@ -79,7 +78,7 @@ name-long hw u name = rows_long (columnsIn hw (nameSize hw u name)) 3 name
 
 -- the greatest length of a label of a name without bytes
 abbrev pub maxLabel : ℕ
-maxLabel = 279
+maxLabel = 249
 
 pub label-short : (x : ℤ) (y hw u number : ℕ) (name : List ℕ) → InLimits x y hw u number → length (label_of x y hw u number name) ≤ maxLabel + 5 * length name
 unfolding label_of

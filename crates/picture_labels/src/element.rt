@@ -34,7 +34,7 @@ fn put_offset(out: &mut [u8], at: usize, k: u32) -> usize
 
 // What stands before the letters.
 pub fn put_start(out: &mut [u8], at: usize, x: i64, y: u64, size: u64, k: u32) -> usize
-    requires { (ints.size x ≤ 2 ^ 42) × (y ≤ 2 ^ 53) × Room (start_of x y size k) out.old at }
+    requires { (ints.size x ≤ 2 ^ 42) × (y ≤ 2 ^ 42) × Room (start_of x y size k) out.old at }
     ensures { Wrote (start_of x y size k) out.old at result out.new }
 {
     let a = put_across(out, at, b"<text x=\"", x);
@@ -67,7 +67,7 @@ pub fn put_row(
     front: &[u8],
     cut: bool,
 ) -> usize
-    requires { (ints.size x ≤ 2 ^ 42) × (y ≤ 2 ^ 53) × Room (elementOf x y size k (letters (row front.now cut))) out.old at }
+    requires { (ints.size x ≤ 2 ^ 42) × (y ≤ 2 ^ 42) × Room (elementOf x y size k (letters (row front.now cut))) out.old at }
     ensures { Wrote (elementOf x y size k (letters (row front.now cut))) out.old at result out.new }
 {
     let a = put_start(out, at, x, y, size, k);

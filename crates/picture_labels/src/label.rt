@@ -36,7 +36,7 @@ fn put_rows(
     name: &[u8],
     cols: usize,
 ) -> usize
-    requires { (ints.size x ≤ 2 ^ 42) × (y ≤ 2 ^ 53) × (first ≤ 3) × (0 < cols) × Room (elements x y size first (rows cols 3 name.now)) out.old from }
+    requires { (ints.size x ≤ 2 ^ 42) × (y ≤ 2 ^ 42) × (first ≤ 3) × (0 < cols) × Room (elements x y size first (rows cols 3 name.now)) out.old from }
     ensures { Wrote (elements x y size first (rows cols 3 name.now)) out.old from result out.new }
 {
     let mut at = from;

@@ -4,6 +4,7 @@ use mathlib.Core.Path.{◌≡◌, refl, sym, ◌∙◌, ap}
 use mathlib.Core.Bool.{Bool, true, false, cond}
 use mathlib.Core.List.{List, [], ◌∷◌, map}
 use Prim.Native.Nat.{ℕ, zero, suc, ◌+◌, ◌-◌, ◌*◌, ◌≤◌, ◌<◌}
+use native.Mathlib.Nat.{mul-le-mul}
 use native.Mathlib.Omega.{arith}
 use borrow.Author.Tests.{lt-ltb, le-ltb}
 use lib.ListN.{length, get_or}
@@ -11,15 +12,13 @@ use lib.IntN.{ℤ}
 use Rattle.ints.specs.Lists.{sum}
 use Rattle.ints.proofs.Lists.{getD-either}
 use Rattle.ints.proofs.Ratings.{rating-most, ratings-get}
-use Rattle.plan.specs.Plan.{PlanData, vertexCount, isVia, halfWidth, levelIn, levelOf, numbers}
+use Rattle.plan.specs.Plan.{PlanData, vertexCount, isVia, halfWidth, levelOf, heightOf, numbers}
 use Rattle.plan.specs.Acceptable.{acceptable}
 use Rattle.plan.proofs.LimitLaws.{Limits}
 use Rattle.plan.proofs.Sound.{sound}
+use Rattle.plan.proofs.LevelLaws.{level-high}
 use Rattle.passes.specs.State.{position_of}
-use Rattle.passes.specs.Heights.{heightOf, depth_of}
-use Rattle.passes.specs.inner.Highest.{maxHeight}
-use Rattle.passes.proofs.Heights.{depth-most, lowest-most}
-use Rattle.marks.specs.Marks.{box, bend, line, upperEnd, lowerEnd, wholeMarkOf}
+use Rattle.marks.specs.Marks.{box, bend, line, depth_of, upperEnd, lowerEnd, wholeMarkOf}
 use Rattle.picture_view.specs.Measure.{measure}
 use Rattle.picture_view.specs.View.{viewHeight}
 use Rattle.picture_elements.specs.Elements.{line_of, bendOf, boxOf}
@@ -47,12 +46,12 @@ box-if u name n false x y w = refl
 
 module _ (p : PlanData) (xs : List ℤ) where
   -- the mark of vertex n, and of the segment that comes k-th after the vertices
-  vertex-mark : (n : ℕ) → n < vertexCount p → wholeMarkOf p xs n ≡ cond (isVia p n) (bend (position_of xs n) (depth_of p xs n)) (box (position_of xs n) (depth_of p xs n) (halfWidth p n))
+  vertex-mark : (n : ℕ) → n < vertexCount p → wholeMarkOf p xs n ≡ cond (isVia p n) (bend (position_of xs n) (depth_of p n)) (box (position_of xs n) (depth_of p n) (halfWidth p n))
   unfolding wholeMarkOf
   vertex-mark n h = rw (lt-ltb n (vertexCount p) h)
 
   segment-mark : (k : ℕ) → wholeMarkOf p xs (vertexCount p + k)
-      ≡ line (position_of xs (upperEnd p k)) (depth_of p xs (upperEnd p k)) (position_of xs (lowerEnd p k)) (depth_of p xs (lowerEnd p k))
+      ≡ line (position_of xs (upperEnd p k)) (depth_of p (upperEnd p k)) (position_of xs (lowerEnd p k)) (depth_of p (lowerEnd p k))
   unfolding wholeMarkOf
   segment-mark k =
       let e : vertexCount p + k - vertexCount p ≡ k = omega arith in
@@ -74,13 +73,13 @@ module _ (p : PlanData) (xs : List ℤ) where
   unfolding boxOf
   no-box u name n h = ap (λ (k : ℕ). boxOf u name n (wholeMarkOf p xs k)) (sym (later n h)) ∙ rw (segment-mark (n - vertexCount p))
 
-  module _ (heights : List ℕ) (stands : (v : ℕ) → v < vertexCount p → depth_of p xs v ≡ get_or heights v 0) where
+  module _ (heights : List ℕ) (stands : (v : ℕ) → v < vertexCount p → depth_of p v ≡ get_or heights v 0) where
     lines_are : (upper : (k : ℕ) → k < length p.uppers → upperEnd p k < vertexCount p) (lower : (k : ℕ) → k < length p.uppers → lowerEnd p k < vertexCount p)
         → length p.ratings ≡ length p.uppers
         → (u : ℕ) → elements p xs (λ n m. line_of u (ratingAt p n) m) ≡ linesIn u heights p.uppers p.lowers p.ratings xs
     lines_are upper lower long u =
         let f : ℕ → List ℕ = λ n. line_of u (ratingAt p n) (wholeMarkOf p xs n) in
-        walked-last f (vertexCount p) (length p.uppers) (λ i h. rw (vertex-mark i h) (no_line u (ratingAt p i) (isVia p i) (position_of xs i) (depth_of p xs i) (halfWidth p i)))
+        walked-last f (vertexCount p) (length p.uppers) (λ i h. rw (vertex-mark i h) (no_line u (ratingAt p i) (isVia p i) (position_of xs i) (depth_of p i) (halfWidth p i)))
         ∙ walk_same f (segmentLine u heights p.uppers p.lowers p.ratings xs) (vertexCount p) 0 (length p.uppers) (λ i h. each i h)
       where
         each : (i : ℕ) → i < length p.uppers
@@ -114,7 +113,7 @@ module _ (p : PlanData) (xs : List ℤ) where
 
     -- ---- the whole document
     pub picture-is : acceptable p ≡ true → (names : List (List ℕ)) (name : ℕ → List ℕ) → ((v : ℕ) → v < vertexCount p → get_or names v [] ≡ name v)
-        → pictureOf p xs names ≡ documentIn (measure p) (viewHeight p xs) heights p.vias p.halves p.uppers p.lowers p.ratings xs name
+        → pictureOf p xs names ≡ documentIn (measure p) (viewHeight p) heights p.vias p.halves p.uppers p.lowers p.ratings xs name
     unfolding pictureOf
     picture-is ok names name same =
         let S = sound p ok in
@@ -129,11 +128,11 @@ pub line-pen : {u : ℕ} {heights uppers lowers ratings : List ℕ} {xs : List �
     → Pen u (get_or ratings k 0)
 line-pen {ratings = ratings} l k h = (l.measure, rating-most (get_or ratings k 0) (ratings-get ratings k l.in-range (omega (arith, l.rated))))
 
-measure-high : (p : PlanData) → measure p ≤ p.spacing.least
+measure-high : (p : PlanData) → measure p ≤ p.spacing
 unfolding measure
 measure-high p = omega arith
 
-measure-low : (p : PlanData) → 1 ≤ p.spacing.least → 1 ≤ p.gap → 1 ≤ measure p
+measure-low : (p : PlanData) → 1 ≤ p.spacing → 1 ≤ p.gap → 1 ≤ measure p
 unfolding measure
 measure-low p s g = omega arith
 
@@ -142,36 +141,26 @@ unfolding sum
 some-vertex [] h low = absurd (omega arith)
 some-vertex (n ∷ ns) h low = omega (arith, low 0 (omega arith))
 
-level-last : (sizes : List ℕ) → 1 ≤ length sizes → ((k : ℕ) → k < length sizes → 1 ≤ get_or sizes k 0) → levelIn sizes (sum sizes - 1) ≡ length sizes
-unfolding sum levelIn
-level-last [] h low = absurd (omega arith)
-level-last (n ∷ []) h low = rw (lt-ltb (n + 0 - 1) n (omega (arith, low 0 (omega arith))))
-level-last (n ∷ m ∷ ns) h low =
-    let more : (k : ℕ) → k < length (m ∷ ns) → 1 ≤ get_or (m ∷ ns) k 0 = λ k j. low (suc k) (omega arith) in
-    let some = some-vertex (m ∷ ns) (omega arith) more in
-    let e : n + sum (m ∷ ns) - 1 - n ≡ sum (m ∷ ns) - 1 = omega arith in
-    rw (le-ltb (n + sum (m ∷ ns) - 1) n (omega arith), e, level-last (m ∷ ns) (omega arith) more)
-
 module _ (p : PlanData) (xs : List ℤ) (a : DrawnPlan p xs) where
   abbrev limits : Limits p
   limits = (sound p a.plan).limits
 
-  pub some : 1 ≤ vertexCount p
-  some = let l = limits in omega (arith, l.sizes-sum, some-vertex p.sizes (omega (arith, l.levels-low, l.sizes-long)) l.sizes-low)
+  depth_low : (v : ℕ) → v < vertexCount p → depth_of p v ≤ 630000
+  unfolding heightOf levelOf
+  depth_low v h =
+      let few : levelOf p v - 1 ≤ 63 = omega (arith, level-high p.sizes v (omega (arith, limits.sizes-sum)), limits.sizes-long, limits.levels-high) in
+      let low : p.spacing * (levelOf p v - 1) ≤ 10000 * 63 = mul-le-mul limits.spacing-high few in
+      omega arith
 
-  -- the last vertex stands on the lowest level
-  pub lowest : depth_of p xs (vertexCount p - 1) ≡ heightOf p xs p.levels
-  unfolding levelOf
-  lowest =
-      let l = limits in
-      ap (heightOf p xs)
-      (ap (λ (n : ℕ). levelIn p.sizes (n - 1)) (sym l.sizes-sum) ∙ level-last p.sizes (omega (arith, l.levels-low, l.sizes-long)) l.sizes-low ∙ l.sizes-long)
+  pub view-low : viewHeight p ≤ 640000
+  unfolding heightOf
+  view-low =
+      let few : p.levels - 1 ≤ 63 = omega (arith, limits.levels-high) in
+      let low : p.spacing * (p.levels - 1) ≤ 10000 * 63 = mul-le-mul limits.spacing-high few in
+      omega (arith, measure-high p, limits.spacing-high)
 
-  pub view-low : viewHeight p xs ≤ maxHeight + 10000
-  view-low = omega (arith, lowest-most p xs limits a.within, measure-high p, limits.spacing-high)
-
-  pub document-stands : (heights : List ℕ) → length heights ≡ vertexCount p → ((v : ℕ) → v < vertexCount p → depth_of p xs v ≡ get_or heights v 0)
-      → DocumentStands (measure p) (viewHeight p xs) heights p.vias p.halves p.uppers p.lowers p.ratings xs
+  pub document-stands : (heights : List ℕ) → length heights ≡ vertexCount p → ((v : ℕ) → v < vertexCount p → depth_of p v ≡ get_or heights v 0)
+      → DocumentStands (measure p) (viewHeight p) heights p.vias p.halves p.uppers p.lowers p.ratings xs
   document-stands heights e stands =
       let S = sound p a.plan in
       let l = limits in
@@ -185,7 +174,7 @@ module _ (p : PlanData) (xs : List ℤ) (a : DrawnPlan p xs) where
       record {
         opening = record {
           edged = record {
-            some = omega (arith, a.positions, some);
+            some = omega (arith, a.positions, l.sizes-sum, some-vertex p.sizes (omega (arith, l.levels-low, l.sizes-long)) l.sizes-low);
             widths = omega (arith, a.positions, l.halves_long);
             narrow = l.halves-high;
             within = a.within;
@@ -211,8 +200,8 @@ module _ (p : PlanData) (xs : List ℤ) (a : DrawnPlan p xs) where
         };
       }
     where
-      low : (v : ℕ) → v < vertexCount p → get_or heights v 0 ≤ maxHeight
-      low v h = omega (arith, stands v h, depth-most p xs limits a.within v h)
+      low : (v : ℕ) → v < vertexCount p → get_or heights v 0 ≤ 630000
+      low v h = omega (arith, stands v h, depth_low v h)
 
 -- ---- a list of what a function gives
 given-from : {A : Type 0} (f : ℕ → A) (d : A) (a n v : ℕ) → v < n → get_or (map f (numbers a n)) v d ≡ f (a + v)

@@ -1,4 +1,4 @@
--- No picture is longer than 1,398,504 bytes: 2,048 lines of 122, 1,024 bends of 78, 1,024 boxes of 403, ten bytes for each of the names, and
+-- No picture is longer than 1,306,334 bytes: 2,048 lines of 102, 1,024 bends of 68, 1,024 boxes of 363, ten bytes for each of the names, and
 -- what stands around them. Assumes nothing.
 use mathlib.Core.Path.{◌≡◌, sym, ◌∙◌}
 use mathlib.Core.Bool.{Bool, false}
@@ -13,9 +13,8 @@ use Rattle.ints.proofs.Reach.{within-at}
 use Rattle.plan.specs.Plan.{PlanData, vertexCount, numbers}
 use Rattle.plan.proofs.Levels.{length-numbers}
 use Rattle.plan.proofs.Sound.{sound}
-use Rattle.marks.specs.Marks.{box, bend}
+use Rattle.marks.specs.Marks.{box, bend, depth_of}
 use Rattle.passes.specs.State.{position_of}
-use Rattle.passes.specs.Heights.{depth_of}
 use Rattle.picture_numbers.proofs.Lengths.{amount-short}
 use Rattle.picture_view.specs.Measure.{measure, leftmost, rightmost}
 use Rattle.picture_view.specs.View.{viewHeight}
@@ -40,10 +39,10 @@ near-vertex b v h =
     record { measure = b.measure; number = omega (arith, b.stands.few, b.kinds); point = near b.stands v (omega (arith, b.kinds)) }
 
 lines-short : (u : ℕ) (heights uppers lowers ratings : List ℕ) (xs : List ℤ) → LinesAsked u heights uppers lowers ratings xs
-    → length (linesIn u heights uppers lowers ratings xs) ≤ 122 * length uppers
-lines-short u heights uppers lowers ratings xs l = walk-short (segmentLine u heights uppers lowers ratings xs) 122 0 (length uppers) (λ i h. each i h)
+    → length (linesIn u heights uppers lowers ratings xs) ≤ 102 * length uppers
+lines-short u heights uppers lowers ratings xs l = walk-short (segmentLine u heights uppers lowers ratings xs) 102 0 (length uppers) (λ i h. each i h)
   where
-    each : (i : ℕ) → i < length uppers → length (segmentLine u heights uppers lowers ratings xs (0 + i)) ≤ 122
+    each : (i : ℕ) → i < length uppers → length (segmentLine u heights uppers lowers ratings xs (0 + i)) ≤ 102
     each i h =
         let z : 0 + i ≡ i = omega arith in
         let a = get_or uppers i 0 in
@@ -51,33 +50,33 @@ lines-short u heights uppers lowers ratings xs l = walk-short (segmentLine u hei
         rw z (line-short u (get_or ratings i 0) (position_of xs a) (get_or heights a 0) (position_of xs b) (get_or heights b 0) (line-pen l i h)
         (near l.stands a (l.upper i h)) (near l.stands b (l.lower i (omega (arith, l.ends)))))
 
-bends-short : (u : ℕ) (heights : List ℕ) (vias : List Bool) (xs : List ℤ) → BendsAsked u heights vias xs → length (bendsIn u heights vias xs) ≤ 78 * length vias
-bends-short u heights vias xs b = walk-short (vertexBend u heights vias xs) 78 0 (length vias) (λ i h. each i h)
+bends-short : (u : ℕ) (heights : List ℕ) (vias : List Bool) (xs : List ℤ) → BendsAsked u heights vias xs → length (bendsIn u heights vias xs) ≤ 68 * length vias
+bends-short u heights vias xs b = walk-short (vertexBend u heights vias xs) 68 0 (length vias) (λ i h. each i h)
   where
-    each : (i : ℕ) → i < length vias → length (vertexBend u heights vias xs (0 + i)) ≤ 78
+    each : (i : ℕ) → i < length vias → length (vertexBend u heights vias xs (0 + i)) ≤ 68
     each i h =
         let z : 0 + i ≡ i = omega arith in
         let x = position_of xs i in
         let y = get_or heights i 0 in
-        rw z (if-ind (get_or vias i false) (bendOf u i (bend x y)) [] (λ (l : List ℕ). length l ≤ 78) (λ e. bend-short u i x y (near-vertex b i h)) (λ e. omega arith))
+        rw z (if-ind (get_or vias i false) (bendOf u i (bend x y)) [] (λ (l : List ℕ). length l ≤ 68) (λ e. bend-short u i x y (near-vertex b i h)) (λ e. omega arith))
 
 boxes-short : (u : ℕ) (heights : List ℕ) (vias : List Bool) (halves : List ℕ) (xs : List ℤ) (names : List (List ℕ)) → BoxesStand u heights vias halves xs → length names ≡ length vias
-    → length (boxesIn u heights vias halves xs (λ v. get_or names v [])) ≤ 403 * length names + 10 * sum (map length names)
+    → length (boxesIn u heights vias halves xs (λ v. get_or names v [])) ≤ 363 * length names + 10 * sum (map length names)
 boxes-short u heights vias halves xs names b long =
-    rw (sym long) (walk-named (vertexBox u heights vias halves xs (λ v. get_or names v [])) 403 0 names (λ i h. each i (omega arith)))
+    rw (sym long) (walk-named (vertexBox u heights vias halves xs (λ v. get_or names v [])) 363 0 names (λ i h. each i (omega arith)))
   where
-    each : (i : ℕ) → i < length vias → length (vertexBox u heights vias halves xs (λ v. get_or names v []) (0 + i)) ≤ 403 + 10 * length (get_or names i [])
+    each : (i : ℕ) → i < length vias → length (vertexBox u heights vias halves xs (λ v. get_or names v []) (0 + i)) ≤ 363 + 10 * length (get_or names i [])
     each i h =
         let z : 0 + i ≡ i = omega arith in
         let x = position_of xs i in
         let y = get_or heights i 0 in
         let w = get_or halves i 0 in
         let name = get_or names i [] in
-        rw z (if-ind (get_or vias i false) [] (boxOf u name i (box x y w)) (λ (l : List ℕ). length l ≤ 403 + 10 * length name)
+        rw z (if-ind (get_or vias i false) [] (boxOf u name i (box x y w)) (λ (l : List ℕ). length l ≤ 363 + 10 * length name)
         (λ e. omega arith)
         (λ e. box-short u name i x y w (record { vertex = near-vertex b.bends i h; some = b.some; wide = b.wide i h e; narrow = b.narrow i })))
 
-opening-short : (u h : ℕ) (halves : List ℕ) (xs : List ℤ) → OpeningAsked u h halves xs → length (openingIn u h halves xs) ≤ 663
+opening-short : (u h : ℕ) (halves : List ℕ) (xs : List ℤ) → OpeningAsked u h halves xs → length (openingIn u h halves xs) ≤ 653
 opening-short u h halves xs o =
     let e = o.edged in
     let head = head-short (leftmost halves xs) (rightmost halves xs) u h (record {
@@ -103,12 +102,12 @@ document-short u h heights vias halves uppers lowers ratings xs names d long sho
 module _ (p : PlanData) (xs : List ℤ) (names : List (List ℕ)) where
   pub picture-short : DrawnPlan p xs → length names ≡ vertexCount p → sum (map length names) ≤ 65536 → length (pictureOf p xs names) ≤ maxPicture
   picture-short a long short =
-      let heights = map (depth_of p xs) (numbers 0 (vertexCount p)) in
-      let stands : (v : ℕ) → v < vertexCount p → depth_of p xs v ≡ get_or heights v 0 = λ v h. sym (given-at (depth_of p xs) 0 (vertexCount p) v h) in
+      let heights = map (depth_of p) (numbers 0 (vertexCount p)) in
+      let stands : (v : ℕ) → v < vertexCount p → depth_of p v ≡ get_or heights v 0 = λ v h. sym (given-at (depth_of p) 0 (vertexCount p) v h) in
       let l = (sound p a.plan).limits in
       rw (picture-is p xs heights stands a.plan names (λ v. get_or names v []) (λ v h. refl' v))
-      (document-short (measure p) (viewHeight p xs) heights p.vias p.halves p.uppers p.lowers p.ratings xs names
-      (document-stands p xs a heights (length-map (numbers 0 (vertexCount p)) (depth_of p xs) ∙ length-numbers 0 (vertexCount p)) stands) long short l.vertices l.segments)
+      (document-short (measure p) (viewHeight p) heights p.vias p.halves p.uppers p.lowers p.ratings xs names
+      (document-stands p xs a heights (length-map (numbers 0 (vertexCount p)) (depth_of p) ∙ length-numbers 0 (vertexCount p)) stands) long short l.vertices l.segments)
     where
       refl' : (v : ℕ) → get_or names v [] ≡ get_or names v []
       refl' v = cc

@@ -6,15 +6,15 @@ ghost use Rattle.picture_marks.specs.Picture.{pictureOf};
 ghost use Rattle.picture_marks.specs.inner.Asked.{namesIn, PictureAsked};
 
 use crate::document::put_document;
-use heights::heights;
 use picture_view::bounds::measure;
-use plan::data::{Plan, Spacing};
+use plan::data::Plan;
+use plan_checks::levels::heights;
 
 // Writes the whole document at the front of a lent buffer, and answers its length. The name of vertex v is the part of `names` from
-// `starts[v]` to `ends[v]`. The view's height is by the last vertex, which stands on the lowest level.
+// `starts[v]` to `ends[v]`.
 pub fn put_picture(
     gap: u32,
-    spacing: Spacing,
+    spacing: u32,
     sizes: &[u16],
     vias: &[bool],
     halves: &[u16],
@@ -36,9 +36,9 @@ pub fn put_picture(
 {
     let mut height = [0u64; Plan::MAX_VERTICES];
     let v = vias.len();
-    heights(spacing, sizes, uppers, lowers, finals, &mut height[..v]);
-    let u = measure(gap, spacing.least, halves);
-    let high = height[v - 1] + u as u64;
+    heights(spacing, sizes, &mut height[..v]);
+    let u = measure(gap, spacing, halves);
+    let high = spacing as u64 * (sizes.len() - 1) as u64 + u as u64;
     put_document(
         out,
         u,

@@ -45,7 +45,7 @@ unfolding thousandths
 thousandths-short j (pos n) h = let e : n + 0 ≡ n = omega arith in omega (arith, amount-short j n (rw e at h))
 thousandths-short j (negsuc n) h = let e : 0 + suc n ≡ suc n = omega arith in omega (arith, amount-short j (suc n) (rw e at h))
 
--- Every x and width of a picture is that of a position of at most 2^40 half steps or less, doubled: at most 18 bytes.
+-- Every number of a picture is that of a position of at most 2^40 half steps or less, doubled: at most 18 bytes.
 pub number_short : (n : ℤ) → size n ≤ 1000 * 2 ^ 42 → length (thousandths n) ≤ 18
 number_short n h = omega (arith, thousandths-short 12 n (omega arith))
 

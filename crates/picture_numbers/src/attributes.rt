@@ -19,7 +19,7 @@ pub fn put_across(out: &mut [u8], at: usize, word: &[u8], n: i64) -> usize
 
 // A number of steps.
 pub fn put_down(out: &mut [u8], at: usize, word: &[u8], n: u64) -> usize
-    requires { (n ≤ 2 ^ 53) × Room (word.now ++ down n) out.old at }
+    requires { (n ≤ 2 ^ 42) × Room (word.now ++ down n) out.old at }
     ensures { Wrote (word.now ++ down n) out.old at result out.new }
 {
     let next = put_word(out, at, word);

@@ -18,17 +18,22 @@ use Rattle.text.proofs.Words.{never}
 use Rattle.text_write.specs.Again.{refusedLine}
 use Rattle.text_write.specs.inner.Written.{Fronts}
 use Rattle.passes.specs.Drawing.{drawingOf}
+use Rattle.demand3.proofs.Theorem.{demand3}
+use Rattle.report_lines.proofs.Listed.{final-within}
 use Rattle.picture_names.specs.Names.{Names, named, bad, names_of}
 use Rattle.picture_names.proofs.Sizes.{names-sized}
 use Rattle.picture_marks.specs.Picture.{pictureOf}
-use Rattle.picture_marks.specs.inner.Asked.{maxPicture}
+use Rattle.picture_marks.specs.inner.Asked.{DrawnPlan, maxPicture}
 use Rattle.picture_marks.proofs.Lengths.{picture-short}
 use Rattle.picture_fit.specs.declared.types.PictureAnswer.{PictureAnswer}
 use Rattle.picture_fit.specs.declared.types.PictureAnswer.TheVariants.{Written, Refused, BadNames}
 use Rattle.picture_fit.specs.Fitted.{Left, refuses, fitted, Leaves}
 use Rattle.picture_text.specs.Text.{namedPicture, pictureIn}
 use Rattle.picture_text.specs.Printed.{namesRefusedLine, namedPrinted, printed}
-use Rattle.picture_text.proofs.TextLaws.{drawn}
+
+-- the drawing of every acceptable plan
+pub drawn : (p : PlanData) → acceptable p ≡ true → DrawnPlan p (drawingOf p).final
+drawn p ok = let d = demand3 p ok in record { plan = ok; positions = d.ends; within = final-within (drawingOf p) d.within }
 
 short : (names : List ℕ) (p : PlanData) (l : List (List ℕ)) → acceptable p ≡ true → names_of p.vias names ≡ named l → length (pictureOf p (drawingOf p).final l) ≤ maxPicture
 short names p l ok e = let s = names-sized p.vias names e in picture-short p (drawingOf p).final l (drawn p ok) s.count s.short

@@ -1,6 +1,6 @@
 -- What becomes of a text, as the programs meet it, and what the picture of a plan asks for.
 use mathlib.Core.Path.{◌≡◌, refl, sym, ◌∙◌, ap}
-use mathlib.Core.Bool.{Bool, true}
+use mathlib.Core.Bool.{Bool}
 use mathlib.Core.List.{List, [], map}
 use Prim.Native.Nat.{ℕ, ◌≤◌}
 use native.Mathlib.Omega.{arith}
@@ -8,12 +8,10 @@ use lib.ListN.{length, length-map}
 use lib.Seq.{ext_get_or}
 use Rattle.ints.specs.Lists.{sum}
 use Rattle.plan.specs.Plan.{PlanData, numbers}
-use Rattle.plan.specs.Acceptable.{acceptable}
 use Rattle.plan.proofs.Levels.{length-numbers}
 use Rattle.passes.specs.Drawing.{drawingOf}
-use Rattle.demand3.proofs.Theorem.{demand3}
-use Rattle.report_lines.proofs.Listed.{final-within}
 use Rattle.text.specs.Reading.{accepted, refused}
+use Rattle.text_marks.proofs.Shown.{marks-asked}
 use Rattle.text.proofs.Words.{never}
 use Rattle.picture_names.specs.Names.{Names, named, bad, names_of, answer_of}
 use Rattle.picture_names.specs.declared.types.NamesAnswer.{NamesAnswer}
@@ -21,7 +19,7 @@ use Rattle.picture_names.specs.declared.types.NamesAnswer.TheVariants.{Good, Bad
 use Rattle.picture_names.specs.inner.Indexed.{name_at, HoldsNames, Indexed}
 use Rattle.picture_names.proofs.Sizes.{names-sized}
 use Rattle.picture_marks.specs.Picture.{pictureOf}
-use Rattle.picture_marks.specs.inner.Asked.{namesIn, DrawnPlan, PictureAsked}
+use Rattle.picture_marks.specs.inner.Asked.{namesIn, PictureAsked}
 use Rattle.picture_marks.proofs.ByLists.{given-at}
 use Rattle.picture_fit.specs.declared.types.PictureAnswer.{PictureAnswer}
 use Rattle.picture_fit.specs.declared.types.PictureAnswer.TheVariants.{Refused, BadNames}
@@ -56,10 +54,6 @@ names-are text starts ends l n e h =
     long = length-map (numbers 0 n) (name_at text starts ends) ∙ length-numbers 0 n
 
 -- ---- what the picture of a plan asks for
--- the drawing of every acceptable plan
-pub drawn : (p : PlanData) → acceptable p ≡ true → DrawnPlan p (drawingOf p).final
-drawn p ok = let d = demand3 p ok in record { plan = ok; positions = d.ends; within = final-within (drawingOf p) d.within }
-
 module _ (p : PlanData) (text starts ends : List ℕ) (h : NamedPlan p text starts ends) where
   pub names-is : namesIn text starts ends (length p.vias) ≡ h.names
   names-is = names-are text starts ends h.names (length p.vias) (names-sized p.vias text h.good).count h.holds
@@ -69,9 +63,10 @@ module _ (p : PlanData) (text starts ends : List ℕ) (h : NamedPlan p text star
 
   pub picture-asked : PictureAsked p (drawingOf p).final text starts ends
   picture-asked =
+      let m = marks-asked p h.plan in
       let n = (names-sized p.vias text h.good).count in
       record {
-        drawn = drawn p h.plan;
+        drawn = record { plan = h.plan; positions = m.agreeing.positions; within = m.near.within };
         names = record {
           starts-long = h.starts-long;
           ends-long = h.ends-long;

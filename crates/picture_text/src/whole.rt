@@ -11,7 +11,7 @@ use picture_fit::fit::fit_picture;
 use picture_fit::types::PictureAnswer;
 use picture_names::index::index_names;
 use picture_names::types::NamesAnswer;
-use plan::data::{Plan, Spacing};
+use plan::data::Plan;
 use plan::numbers::wide;
 use text_marks::drawn::draw_positions;
 use text_read::read_into;
@@ -19,7 +19,7 @@ use text_read::read_into;
 // The picture of a plan that was read, with names that stand where the arrays say.
 fn picture_named(
     gap: u32,
-    spacing: Spacing,
+    spacing: u32,
     sizes: &[u16],
     vias: &[bool],
     halves: &[u16],
@@ -69,7 +69,7 @@ fn picture_named(
 // The picture of a plan that was read, with the names of a text.
 fn picture_plan(
     gap: u32,
-    spacing: Spacing,
+    spacing: u32,
     sizes: &[u16],
     vias: &[bool],
     halves: &[u16],

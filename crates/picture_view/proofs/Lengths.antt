@@ -13,11 +13,11 @@ pub style-long : length style ≡ 467
 unfolding style
 style-long = refl
 
-pub head-short : (lo hi : ℤ) (u h : ℕ) → Ends lo hi u h → length (head_of lo hi u h) ≤ 155
+pub head-short : (lo hi : ℤ) (u h : ℕ) → Ends lo hi u h → length (head_of lo hi u h) ≤ 145
 unfolding head_of
 head-short lo hi u h e =
     let a = across-short (viewLeft lo u) (omega (arith, e.left, e.measure, dif lo (pos u))) in
     let b = across-near (viewTop u) (omega (arith, e.measure, dif (pos 0) (pos u))) in
     let c = across-short (viewWidth lo hi u) (omega (arith, e.left, e.right, e.measure, dif hi lo, sum (hi -ℤ lo) (pos (2 * u)))) in
-    let d = down-short 15 h (omega (arith, e.high)) in
+    let d = down-short 5 h (omega (arith, e.high)) in
     simp length-append (omega arith)

@@ -3,20 +3,19 @@ use mathlib.Core.Path.{◌≡◌}
 use mathlib.Core.Bool.{Bool, true, false, cond}
 use mathlib.Core.List.{List}
 use Prim.Native.Nat.{ℕ, ◌+◌, ◌-◌, ◌*◌, ◌≤◌, ◌<◌}
+use native.Mathlib.Nat.{mul-le-mul}
 use native.Mathlib.Omega.{arith}
 use borrow.Author.Tests.{lt-ltb, le-ltb}
 use lib.ListN.{length}
 use lib.IntN.{ℤ, pos, ◌+ℤ◌, ◌-ℤ◌, ◌*ℤ◌}
 use Rattle.ints.specs.Ints.{P, N, ◌⊑◌}
 use Rattle.ints.proofs.Laws.{sum, dif, cases}
-use Rattle.plan.specs.Plan.{PlanData, vertexCount, isVia, halfWidth, levelOf}
+use Rattle.plan.specs.Plan.{PlanData, vertexCount, isVia, halfWidth, levelOf, heightOf}
 use Rattle.plan.specs.Acceptable.{acceptable}
 use Rattle.plan.proofs.Sound.{sound}
-use Rattle.plan.proofs.LevelLaws.{level-high}
+use Rattle.plan.proofs.LevelLaws.{level-low, level-high}
 use Rattle.passes.specs.State.{position_of}
-use Rattle.passes.specs.Heights.{heightOf, depth_of}
-use Rattle.passes.proofs.Heights.{heights-grow, depth-rises}
-use Rattle.marks.specs.Marks.{box, bend, line, upperEnd, lowerEnd, wholeMarkOf, markCount}
+use Rattle.marks.specs.Marks.{box, bend, line, depth_of, upperEnd, lowerEnd, wholeMarkOf, markCount}
 use Rattle.picture_numbers.proofs.Times.{times-P, times-N}
 use Rattle.picture_view.specs.Measure.{measure, leftmost, rightmost}
 use Rattle.picture_view.specs.View.{viewLeft, viewTop, viewWidth}
@@ -46,24 +45,27 @@ module _ (p : PlanData) (xs : List ℤ) where
   top_in : (Y : ℤ) → N Y ≤ P Y + 500 * u → topEnd p ⊑ Y
   top_in Y h = let s = viewTop u in omega (arith, times-P s, times-N s, dif (pos 0) (pos u))
 
-  bottom-in : (Y : ℤ) → P Y ≤ N Y + 1000 * heightOf p xs p.levels + 500 * u → Y ⊑ (topEnd p +ℤ height p xs)
-  bottom-in Y h = let s = viewTop u in omega (arith, times-P s, times-N s, dif (pos 0) (pos u), sum (topEnd p) (height p xs))
+  bottom-in : (Y : ℤ) → P Y ≤ N Y + 1000 * heightOf p p.levels + 500 * u → Y ⊑ (topEnd p +ℤ height p)
+  bottom-in Y h = let s = viewTop u in omega (arith, times-P s, times-N s, dif (pos 0) (pos u), sum (topEnd p) (height p))
 
   module _ (ok : acceptable p ≡ true) (e : length xs ≡ vertexCount p) where
     -- a vertex stands no lower than the lowest level
-    high : (v : ℕ) → v < vertexCount p → depth_of p xs v ≤ heightOf p xs p.levels
-    unfolding levelOf
+    high : (v : ℕ) → v < vertexCount p → depth_of p v ≤ heightOf p p.levels
+    unfolding heightOf levelOf
     high v h =
         let l = (sound p ok).limits in
-        heights-grow p xs (levelOf p v - 1) (p.levels - 1) (omega (arith, level-high p.sizes v (omega (arith, l.sizes-sum)), l.sizes-long))
+        mul-le-mul (le_refl p.spacing) (omega (arith, level-high p.sizes v (omega (arith, l.sizes-sum)), l.sizes-long))
+      where
+        le_refl : (n : ℕ) → n ≤ n
+        le_refl n = omega arith
 
     -- the rectangle of half-width a and half-height b around vertex v
     around : (v a b : ℕ) → v < vertexCount p → a ≤ 1000 * halfWidth p v + 500 * u → b ≤ 500 * u
-        → AllInside p xs (pos 500 *ℤ position_of xs v) (pos (1000 * depth_of p xs v)) a b
+        → AllInside p xs (pos 500 *ℤ position_of xs v) (pos (1000 * depth_of p v)) a b
     around v a b h wide tall =
         let x = position_of xs v in
         let X = pos 500 *ℤ x in
-        let Y = pos (1000 * depth_of p xs v) in
+        let Y = pos (1000 * depth_of p v) in
         let w = 2 * halfWidth p v in
         let l = leftmost-each p.halves xs v (omega arith) in
         let r = rightmost-each p.halves xs v (omega arith) in
@@ -84,7 +86,7 @@ module _ (p : PlanData) (xs : List ℤ) where
         }
 
     -- where vertex v stands
-    point : (v : ℕ) → v < vertexCount p → Inside p xs (pos 500 *ℤ position_of xs v) (pos (1000 * depth_of p xs v))
+    point : (v : ℕ) → v < vertexCount p → Inside p xs (pos 500 *ℤ position_of xs v) (pos (1000 * depth_of p v))
     point v h =
         let x = position_of xs v in
         let w = 2 * halfWidth p v in
@@ -93,17 +95,17 @@ module _ (p : PlanData) (xs : List ℤ) where
         record {
           from-left = left_in (pos 500 *ℤ x) (omega (arith, times-P x, times-N x, dif x (pos w)));
           to-right = right-in (pos 500 *ℤ x) (omega (arith, times-P x, times-N x, sum x (pos w)));
-          from-top = top_in (pos (1000 * depth_of p xs v)) (omega arith);
-          to-bottom = bottom-in (pos (1000 * depth_of p xs v)) (omega (arith, high v h));
+          from-top = top_in (pos (1000 * depth_of p v)) (omega arith);
+          to-bottom = bottom-in (pos (1000 * depth_of p v)) (omega (arith, high v h));
         }
 
     -- ---- every mark
-    vertex : (v : ℕ) (via : Bool) → v < vertexCount p → Shows p xs (cond via (bend (position_of xs v) (depth_of p xs v)) (box (position_of xs v) (depth_of p xs v) (halfWidth p v)))
+    vertex : (v : ℕ) (via : Bool) → v < vertexCount p → Shows p xs (cond via (bend (position_of xs v) (depth_of p v)) (box (position_of xs v) (depth_of p v) (halfWidth p v)))
     vertex v true h = around v (35 * u) (35 * u) h (omega arith) (omega arith)
     vertex v false h = around v (1000 * halfWidth p v) (200 * u) h (omega arith) (omega arith)
 
     segment : (k : ℕ) → k < length p.uppers
-        → Shows p xs (line (position_of xs (upperEnd p k)) (depth_of p xs (upperEnd p k)) (position_of xs (lowerEnd p k)) (depth_of p xs (lowerEnd p k)))
+        → Shows p xs (line (position_of xs (upperEnd p k)) (depth_of p (upperEnd p k)) (position_of xs (lowerEnd p k)) (depth_of p (lowerEnd p k)))
     segment k h =
         let S = sound p ok in
         (point (upperEnd p k) (S.ends.upper k h), point (lowerEnd p k) (S.ends.lower k (omega (arith, S.limits.ends-long))))
@@ -116,7 +118,16 @@ module _ (p : PlanData) (xs : List ℤ) where
         (λ m. rw (lt-ltb n (vertexCount p) m) (vertex n (isVia p n) m))
 
 -- ---- boxes of two levels: the lower edge of the one above, and the upper edge of the one below
-pub boxes-apart : (p : PlanData) (xs : List ℤ) (v w : ℕ) → 1 ≤ p.spacing.least → levelOf p v < levelOf p w
-    → 1000 * depth_of p xs v + 200 * measure p + 200 * measure p < 1000 * depth_of p xs w
-unfolding measure
-boxes-apart p xs v w s h = omega (arith, depth-rises p xs v w h)
+pub boxes-apart : (p : PlanData) (v w : ℕ) → 1 ≤ p.spacing → levelOf p v < levelOf p w
+    → 1000 * depth_of p v + 200 * measure p + 200 * measure p < 1000 * depth_of p w
+unfolding measure heightOf levelOf
+boxes-apart p v w s h =
+    let l = level-low p.sizes v in
+    let step : p.spacing * (levelOf p v - 1 + 1) ≤ p.spacing * (levelOf p w - 1) = mul-le-mul (le_refl p.spacing) (omega arith) in
+    omega (arith, mul-add-one p.spacing (levelOf p v - 1))
+  where
+    le_refl : (n : ℕ) → n ≤ n
+    le_refl n = omega arith
+
+    mul-add-one : (a b : ℕ) → a * (b + 1) ≡ a * b + a
+    mul-add-one a b = omega arith

@@ -16,15 +16,15 @@ width p xs = pos 500 *ℤ viewWidth (leftmost p.halves xs) (rightmost p.halves x
 abbrev pub topEnd : PlanData → ℤ
 topEnd p = pos 500 *ℤ viewTop (measure p)
 
-abbrev pub height : PlanData → List ℤ → ℤ
-height p xs = pos (1000 * viewHeight p xs)
+abbrev pub height : PlanData → ℤ
+height p = pos (1000 * viewHeight p)
 
 -- A point, in thousandths, lies inside the view.
 pub record Inside (p : PlanData) (xs : List ℤ) (x y : ℤ) : Type 0 where
   pub from-left : leftEnd p xs ⊑ x
   pub to-right : x ⊑ (leftEnd p xs +ℤ width p xs)
   pub from-top : topEnd p ⊑ y
-  pub to-bottom : y ⊑ (topEnd p +ℤ height p xs)
+  pub to-bottom : y ⊑ (topEnd p +ℤ height p)
 
 -- So does the rectangle of half-width a and half-height b around it.
 pub record AllInside (p : PlanData) (xs : List ℤ) (x y : ℤ) (a b : ℕ) : Type 0 where

@@ -7,7 +7,7 @@ use Rattle.passes.specs.State.{position_of}
 
 -- "u = the lesser of S and G + 2 W, in steps; W the greatest half-width".
 unfoldable pub measure : PlanData → ℕ
-measure p = min p.spacing.least (p.gap + 2 * greatest p.halves)
+measure p = min p.spacing (p.gap + 2 * greatest p.halves)
 
 -- The edges of vertex v in half steps. A via has half-width 0.
 abbrev pub leftEdge : List ℕ → List ℤ → ℕ → ℤ

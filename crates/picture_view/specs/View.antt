@@ -1,7 +1,6 @@
 -- The first lines of a picture: what part of the plane is shown, and the constant style.
 use Rattle.std.specs.Prelude.{List, ◌++◌, ℕ, ◌+◌, ◌*◌, ℤ, pos, ◌+ℤ◌, ◌-ℤ◌}
-use Rattle.plan.specs.Plan.{PlanData}
-use Rattle.passes.specs.Heights.{heightOf}
+use Rattle.plan.specs.Plan.{PlanData, heightOf}
 use Rattle.text.specs.Bytes.{bytes}
 use Rattle.picture_numbers.specs.Thousandths.{across, down}
 use Rattle.picture_view.specs.Measure.{measure, leftmost, rightmost}
@@ -22,12 +21,12 @@ head_of lo hi u h =
     bytes "<svg xmlns=\"http://www.w3.org/2000/svg\" version=\"1.1\" class=\"drawing\" viewBox=\"" ++ across (viewLeft lo u)
     ++ bytes " " ++ across (viewTop u) ++ bytes " " ++ across (viewWidth lo hi u) ++ bytes " " ++ down h ++ bytes "\">\n"
 
--- "H = the lowest level's y, and u".
-abbrev pub viewHeight : PlanData → List ℤ → ℕ
-viewHeight p xs = heightOf p xs p.levels + measure p
+-- "H = (K − 1) S + u": the lowest level's y, and u.
+abbrev pub viewHeight : PlanData → ℕ
+viewHeight p = heightOf p p.levels + measure p
 
 abbrev pub pictureHead : PlanData → List ℤ → List ℕ
-pictureHead p xs = head_of (leftmost p.halves xs) (rightmost p.halves xs) (measure p) (viewHeight p xs)
+pictureHead p xs = head_of (leftmost p.halves xs) (rightmost p.halves xs) (measure p) (viewHeight p)
 
 -- Colours and letters, by day and by night.
 unfoldable pub style : List ℕ

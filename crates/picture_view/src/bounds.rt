@@ -33,12 +33,12 @@ fn shorter(a: u32, b: u32) -> u32
     if a < b { a } else { b }
 }
 
-// u, the lesser of the level spacing and the gap with twice the greatest half-width.
-pub fn measure(gap: u32, least: u32, halves: &[u16]) -> u32
+// u, the lesser of the spacing and the gap with twice the greatest half-width.
+pub fn measure(gap: u32, spacing: u32, halves: &[u16]) -> u32
     requires { gap ≤ 100 }
-    ensures { result ≡ min least (gap + 2 * greatest halves.now) }
+    ensures { result ≡ min spacing (gap + 2 * greatest halves.now) }
 {
-    shorter(least, gap + 2 * greatest_half(halves) as u32)
+    shorter(spacing, gap + 2 * greatest_half(halves) as u32)
 }
 
 // The left edge of a vertex, in half steps.

@@ -1,11 +1,11 @@
 -- Case 1's plan.
 use mathlib.Core.Bool.{true, false}
 use mathlib.Core.List.{[], ◌∷◌}
-use Rattle.plan.specs.Plan.{PlanData, data_of, evenly}
+use Rattle.plan.specs.Plan.{PlanData, data_of}
 
 abbrev pub case1 : PlanData
 case1 =
-    data_of 3 2 (evenly 10)
+    data_of 3 2 10
     (2 ∷ 2 ∷ 1 ∷ [])
     (false ∷ false ∷ true ∷ false ∷ false ∷ [])
     (3 ∷ 3 ∷ 0 ∷ 3 ∷ 3 ∷ [])

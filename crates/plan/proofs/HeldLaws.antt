@@ -9,18 +9,17 @@ use Rattle.plan.specs.Limits.{maxLevels, maxGap, maxHalfWidth, maxVertices, maxS
 use Rattle.plan.specs.Plan.{PlanData, vertexCount, data_of}
 use Rattle.plan.specs.inner.Graph.{Below}
 use Rattle.plan.specs.Acceptable.{acceptable}
-use Rattle.plan.specs.declared.data.Spacing.{Spacing}
 use Rattle.plan.specs.inner.Held.{heldPlan, HoldsPlan}
 use Rattle.plan.proofs.Sound.{sound}
 
 -- ---- a plan by its lists
 module _ {p : PlanData} {gap : ℕ} {sizes : List ℕ} {vias : List Bool} {halves uppers lowers ratings : List ℕ} where
-  pub held-is : (spacing : Spacing) → HoldsPlan p gap sizes vias halves uppers lowers → p.spacing ≡ spacing → p.ratings ≡ ratings
+  pub held-is : (spacing : ℕ) → HoldsPlan p gap sizes vias halves uppers lowers → p.spacing ≡ spacing → p.ratings ≡ ratings
       → p ≡ heldPlan gap spacing sizes vias halves uppers lowers ratings
   held-is spacing l s r =
       λ i. data_of (l.levelsAre i) (l.gapIs i) (s i) (l.sizesAre i) (l.viasAre i) (l.halvesAre i) (l.uppersAre i) (l.lowersAre i) (r i)
 
-pub holds-held : {gap : ℕ} {spacing : Spacing} {sizes : List ℕ} {vias : List Bool} {halves uppers lowers ratings : List ℕ}
+pub holds-held : {gap spacing : ℕ} {sizes : List ℕ} {vias : List Bool} {halves uppers lowers ratings : List ℕ}
     → acceptable (heldPlan gap spacing sizes vias halves uppers lowers ratings) ≡ true
     → HoldsPlan (heldPlan gap spacing sizes vias halves uppers lowers ratings) gap sizes vias halves uppers lowers
 holds-held ok = record { levelsAre = refl; gapIs = refl; sizesAre = refl; viasAre = refl; halvesAre = refl; uppersAre = refl; lowersAre = refl; ok = ok }

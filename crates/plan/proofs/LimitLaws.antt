@@ -1,6 +1,6 @@
 -- The limits of a plan: the tests of `limitsHold` one by one, and what they say, as plain facts. Assumes nothing.
 use mathlib.Core.Path.{◌≡◌, refl, sym, ap}
-use mathlib.Core.Bool.{Bool, true, false, ◌&&◌, false≢true, true≢false}
+use mathlib.Core.Bool.{Bool, true, false, false≢true, true≢false}
 use mathlib.Core.List.{List, [], ◌∷◌}
 use Prim.Native.Nat.{ℕ, zero, suc, ◌≤◌, ◌<◌}
 use native.Mathlib.Omega.{arith}
@@ -11,19 +11,17 @@ use Rattle.ints.proofs.Laws.{cases}
 use Rattle.ints.specs.Lists.{sum}
 use Rattle.ints.specs.Ratings.{allRatings}
 use Rattle.plan.specs.Plan.{PlanData, vertexCount, isVia, halfWidth}
-use Rattle.plan.specs.Limits.{within, maxLevels, maxGap, maxSpacing, maxHalfWidth, maxOnLevel, maxVertices, maxSegments, maxSlope}
+use Rattle.plan.specs.Limits.{within, maxLevels, maxGap, maxSpacing, maxHalfWidth, maxOnLevel, maxVertices, maxSegments}
 use Rattle.plan.specs.Checks.{every}
 use Rattle.plan.specs.inner.Graph.{InLimits}
-use Rattle.plan.specs.declared.data.Spacing.{Spacing}
-use Rattle.plan.specs.Acceptable.{halfHolds, halvesHold, hasSlope, slopeInLimit, slopeHolds, limitsHold}
-use Rattle.ints.proofs.Tests.{test, and_left, and_right, cond-left, cond-right, conj-at, ◌and◌}
+use Rattle.plan.specs.Acceptable.{halfHolds, halvesHold, limitsHold}
+use Rattle.ints.proofs.Tests.{and_left, and_right, cond-left, cond-right, conj-at, ◌and◌}
 
 -- ---- test by test
 pub record LimitTests (p : PlanData) : Type 0 where
   pub levels : within 1 maxLevels p.levels ≡ true
   pub gap : within 1 maxGap p.gap ≡ true
-  pub spacing : within 1 maxSpacing p.spacing.least ≡ true
-  pub slope : slopeHolds p.spacing ≡ true
+  pub spacing : within 1 maxSpacing p.spacing ≡ true
   pub counted : length p.sizes ≡ p.levels
   pub sizes : every (within 1 maxOnLevel) p.sizes ≡ true
   pub summed : sum p.sizes ≡ length p.vias
@@ -37,7 +35,7 @@ pub record LimitTests (p : PlanData) : Type 0 where
 -- the tests of `limitsHold` after the first
 abbrev furtherLimits : PlanData → List Bool
 furtherLimits p =
-    within 1 maxGap p.gap ∷ within 1 maxSpacing p.spacing.least ∷ slopeHolds p.spacing
+    within 1 maxGap p.gap ∷ within 1 maxSpacing p.spacing
     ∷ eqb (length p.sizes) p.levels ∷ every (within 1 maxOnLevel) p.sizes ∷ eqb (sum p.sizes) (vertexCount p)
     ∷ leb (vertexCount p) maxVertices ∷ halvesHold p.vias p.halves
     ∷ eqb (length p.lowers) (length p.uppers) ∷ leb (length p.uppers) maxSegments
@@ -51,22 +49,21 @@ limit-tests p h =
       levels = test 0;
       gap = test 1;
       spacing = test 2;
-      slope = test 3;
-      counted = eqb-true (length p.sizes) p.levels (test 4);
-      sizes = test 5;
-      summed = eqb-true (sum p.sizes) (vertexCount p) (test 6);
-      vertices = leb-true (vertexCount p) maxVertices (test 7);
-      halves = test 8;
-      ends = eqb-true (length p.lowers) (length p.uppers) (test 9);
-      segments = leb-true (length p.uppers) maxSegments (test 10);
-      rated = eqb-true (length p.ratings) (length p.uppers) (test 11);
-      ratings = test 12;
+      counted = eqb-true (length p.sizes) p.levels (test 3);
+      sizes = test 4;
+      summed = eqb-true (sum p.sizes) (vertexCount p) (test 5);
+      vertices = leb-true (vertexCount p) maxVertices (test 6);
+      halves = test 7;
+      ends = eqb-true (length p.lowers) (length p.uppers) (test 8);
+      segments = leb-true (length p.uppers) maxSegments (test 9);
+      rated = eqb-true (length p.ratings) (length p.uppers) (test 10);
+      ratings = test 11;
     }
 
 pub limits-hold : (p : PlanData) → LimitTests p → limitsHold p ≡ true
 unfolding limitsHold
 limits-hold p h =
-    h.levels and h.gap and h.spacing and h.slope
+    h.levels and h.gap and h.spacing
     and eq-eqb (length p.sizes) p.levels h.counted and h.sizes and eq-eqb (sum p.sizes) (vertexCount p) h.summed
     and le-leb (vertexCount p) maxVertices h.vertices and h.halves
     and eq-eqb (length p.lowers) (length p.uppers) h.ends and le-leb (length p.uppers) maxSegments h.segments
@@ -111,38 +108,13 @@ half-box : (b : Bool) (h : ℕ) → halfHolds b h ≡ true → b ≡ false → 1
 half-box true h e t = absurd (true≢false t)
 half-box false h e t = within-least 1 maxHalfWidth h e
 
--- a slope within its limit, or none
-pub record Sloped (s : Spacing) : Type 0 where
-  pub sideways-high : s.sideways ≤ maxSlope
-  pub downward-high : s.downward ≤ maxSlope
-  pub sideways-low : (s.sideways ≡ 0 → s.downward ≡ 0)
-
-sloped : (s : Spacing) → slopeHolds s ≡ true → Sloped s
-unfolding slopeHolds
-sloped s h =
-    test (eqb s.sideways 0 && eqb s.downward 0)
-    (λ e.
-    let p : s.sideways ≡ 0 = eqb-true s.sideways 0 (and_left (eqb s.sideways 0) (eqb s.downward 0) e) in
-    let q : s.downward ≡ 0 = eqb-true s.downward 0 (and_right (eqb s.sideways 0) (eqb s.downward 0) e) in
-    record { sideways-high = omega arith; downward-high = omega arith; sideways-low = λ _. q })
-    (λ e.
-    let both : slopeInLimit s.sideways s.downward ≡ true = rw e at h in
-    let p = and_left (within 1 maxSlope s.sideways) (within 1 maxSlope s.downward) both in
-    let q = and_right (within 1 maxSlope s.sideways) (within 1 maxSlope s.downward) both in
-    record {
-      sideways-high = within-most 1 maxSlope s.sideways p;
-      downward-high = within-most 1 maxSlope s.downward q;
-      sideways-low = λ z. absurd (omega (arith, within-least 1 maxSlope s.sideways p));
-    })
-
 pub record Limits (p : PlanData) : Type 0 where
   pub levels-low : 1 ≤ p.levels
   pub levels-high : p.levels ≤ maxLevels
   pub gap-low : 1 ≤ p.gap
   pub gap-high : p.gap ≤ maxGap
-  pub spacing-low : 1 ≤ p.spacing.least
-  pub spacing-high : p.spacing.least ≤ maxSpacing
-  pub slope : Sloped p.spacing
+  pub spacing-low : 1 ≤ p.spacing
+  pub spacing-high : p.spacing ≤ maxSpacing
   pub sizes-long : length p.sizes ≡ p.levels
   pub sizes-low : (k : ℕ) → k < length p.sizes → 1 ≤ get_or p.sizes k 0
   pub sizes-high : (k : ℕ) → get_or p.sizes k 0 ≤ maxOnLevel
@@ -170,9 +142,8 @@ limits p q =
       levels-high = high;
       gap-low = within-least 1 maxGap p.gap t.gap;
       gap-high = within-most 1 maxGap p.gap t.gap;
-      spacing-low = within-least 1 maxSpacing p.spacing.least t.spacing;
-      spacing-high = within-most 1 maxSpacing p.spacing.least t.spacing;
-      slope = sloped p.spacing t.slope;
+      spacing-low = within-least 1 maxSpacing p.spacing t.spacing;
+      spacing-high = within-most 1 maxSpacing p.spacing t.spacing;
       sizes-long = t.counted;
       sizes-low = λ k h. within-least 1 maxOnLevel (get_or p.sizes k 0) (size-within p.sizes k t.sizes h);
       sizes-high = λ k. cases (length p.sizes) k (λ h. omega (arith, get_or-eq_default p.sizes 0 h))

@@ -1,11 +1,10 @@
 -- Which plan data are those of a text that passes checks 1 to 6.
-use Rattle.std.specs.Prelude.{Bool, true, false, cond, not, ◌&&◌, List, [], ◌∷◌, ℕ, eqb, leb, length}
+use Rattle.std.specs.Prelude.{Bool, true, false, cond, ◌&&◌, List, [], ◌∷◌, ℕ, eqb, leb, length}
 use Rattle.ints.specs.Lists.{sum}
 use Rattle.ints.specs.Ratings.{allRatings}
 use Rattle.ints.specs.Refusals.{noneRefuses}
 use Rattle.plan.specs.Plan.{PlanData, vertexCount}
-use Rattle.plan.specs.declared.data.Spacing.{Spacing}
-use Rattle.plan.specs.Limits.{within, maxLevels, maxGap, maxSpacing, maxHalfWidth, maxOnLevel, maxVertices, maxSegments, maxSlope}
+use Rattle.plan.specs.Limits.{within, maxLevels, maxGap, maxSpacing, maxHalfWidth, maxOnLevel, maxVertices, maxSegments}
 use Rattle.plan.specs.Checks.{every, checksOf}
 
 -- Each vertex has its half-width: a box one within the limit, a via 0.
@@ -21,23 +20,13 @@ halvesHold (v ∷ vs) (h ∷ hs) =
     let more = halvesHold vs hs in
     cond (halfHolds v h) more false
 
--- Whether there is a slope, and if so whether it is within the limit: "P and Q from 1 to 100" (document 02, E6).
-abbrev pub hasSlope : Spacing → Bool
-hasSlope s = not (eqb s.sideways 0 && eqb s.downward 0)
-
-abbrev pub slopeInLimit : ℕ → ℕ → Bool
-slopeInLimit p q = within 1 maxSlope p && within 1 maxSlope q
-
-unfoldable pub slopeHolds : Spacing → Bool
-slopeHolds s = cond (hasSlope s) (slopeInLimit s.sideways s.downward) true
-
 -- Every number and count is within its limit, and the counts agree.
 unfoldable pub limitsHold : PlanData → Bool
 limitsHold p =
     let sizes = every (within 1 maxOnLevel) p.sizes in
     let halves = halvesHold p.vias p.halves in
-    within 1 maxLevels p.levels && within 1 maxGap p.gap && within 1 maxSpacing p.spacing.least
-    && slopeHolds p.spacing && eqb (length p.sizes) p.levels && sizes && eqb (sum p.sizes) (vertexCount p)
+    within 1 maxLevels p.levels && within 1 maxGap p.gap && within 1 maxSpacing p.spacing
+    && eqb (length p.sizes) p.levels && sizes && eqb (sum p.sizes) (vertexCount p)
     && leb (vertexCount p) maxVertices && halves
     && eqb (length p.lowers) (length p.uppers) && leb (length p.uppers) maxSegments
     && eqb (length p.ratings) (length p.uppers) && allRatings p.ratings

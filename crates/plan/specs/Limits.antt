@@ -25,7 +25,3 @@ maxVertices = 1024
 
 abbrev pub maxSegments : ℕ
 maxSegments = 2048
-
--- "P and Q from 1 to 100" (document 02, E6)
-abbrev pub maxSlope : ℕ
-maxSlope = 100

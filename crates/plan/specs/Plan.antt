@@ -2,19 +2,14 @@
 -- the top. The lists are as long as their data.
 use Rattle.std.specs.Prelude.{Bool, false, cond, List, [], ◌∷◌, ◌++◌, ℕ, zero, suc, ◌+◌, ◌-◌, ◌*◌, ltb, eqb, length, get_or}
 use Rattle.std.proofs.Math.Option.{Option, none, some}
-use Rattle.plan.specs.declared.data.Spacing.{Spacing}
-
--- The spacing S of levels without a slope.
-abbrev pub evenly : ℕ → Spacing
-evenly s = record { least = s; sideways = 0; downward = 0 }
 
 pub record PlanData : Type 0 where
   -- K, the number of levels
   pub levels : ℕ
   -- G, the gap in steps
   pub gap : ℕ
-  -- S, the level spacing in steps, and the slope P over Q, 0 and 0 where none is written
-  pub spacing : Spacing
+  -- S, the level spacing in steps
+  pub spacing : ℕ
   -- how many vertices stand on each level, from the top
   pub sizes : List ℕ
   -- of each vertex, whether it is a via
@@ -28,7 +23,7 @@ pub record PlanData : Type 0 where
   pub ratings : List ℕ
 
 -- The data with these parts.
-abbrev pub data_of : ℕ → ℕ → Spacing → List ℕ → List Bool → List ℕ → List ℕ → List ℕ → List ℕ → PlanData
+abbrev pub data_of : ℕ → ℕ → ℕ → List ℕ → List Bool → List ℕ → List ℕ → List ℕ → List ℕ → PlanData
 data_of levels gap spacing sizes vias halves uppers lowers ratings = record {
   levels = levels;
   gap = gap;
@@ -77,6 +72,10 @@ levelIn (n ∷ ns) v =
 
 unfoldable pub levelOf : PlanData → ℕ → ℕ
 levelOf p v = levelIn p.sizes v
+
+-- "Level l has y = S × (l − 1) steps."
+unfoldable pub heightOf : PlanData → ℕ → ℕ
+heightOf p l = p.spacing * (l - 1)
 
 -- "The distance of siblings v, w is halfwidth(v) + G + halfwidth(w) steps."
 abbrev pub distance : PlanData → ℕ → ℕ → ℕ

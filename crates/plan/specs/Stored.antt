@@ -2,9 +2,8 @@
 -- beyond them, and beyond the first K level sizes, is no part of the plan.
 use Rattle.std.specs.Prelude.{Bool, false, List, ℕ, take, replicate}
 use Rattle.plan.specs.declared.data.Plan.{Plan}
-use Rattle.plan.specs.declared.data.Spacing.{Spacing}
 use Rattle.plan.specs.Limits.{maxLevels, maxVertices, maxSegments}
-use Rattle.plan.specs.Plan.{PlanData, data_of, evenly}
+use Rattle.plan.specs.Plan.{PlanData, data_of}
 
 -- The data of a stored plan with v vertices and e segments.
 abbrev pub planData : Plan → ℕ → ℕ → PlanData
@@ -14,7 +13,7 @@ planData p v e =
     (take e p.ratings)
 
 -- The stored plan with these parts.
-abbrev pub storedPlan : ℕ → ℕ → Spacing → List ℕ → List Bool → List ℕ → List ℕ → List ℕ → List ℕ → Plan
+abbrev pub storedPlan : ℕ → ℕ → ℕ → List ℕ → List Bool → List ℕ → List ℕ → List ℕ → List ℕ → Plan
 storedPlan levels gap spacing sizes vias halves uppers lowers ratings = record {
   levels = levels;
   gap = gap;
@@ -30,5 +29,5 @@ storedPlan levels gap spacing sizes vias halves uppers lowers ratings = record {
 -- The stored plan that is 0 throughout.
 unfoldable pub emptyPlan : Plan
 emptyPlan =
-    storedPlan 0 0 (evenly 0) (replicate maxLevels 0) (replicate maxVertices false) (replicate maxVertices 0) (replicate maxSegments 0)
+    storedPlan 0 0 0 (replicate maxLevels 0) (replicate maxVertices false) (replicate maxVertices 0) (replicate maxSegments 0)
     (replicate maxSegments 0) (replicate maxSegments 0)

@@ -2,15 +2,6 @@
 ghost use Rattle.std.specs.Prelude.{◌≡◌};
 ghost use Rattle.plan.specs.Stored.{storedPlan, emptyPlan};
 
-// How far apart levels stand: S, the least rise from a level to the next in steps, and the slope P over Q, sideways over downward
-// length, that no segment may pass; 0 and 0 without one.
-#[derive(Drop)]
-pub struct Spacing {
-    pub least: u32,
-    pub sideways: u32,
-    pub downward: u32,
-}
-
 // The vertices are numbered from 0 in reading order. Of each level `sizes` has how many vertices stand on it; of each vertex
 // `vias` has whether it is a via and `halves` its half-width; of each segment `uppers` and `lowers` have its ends A and B,
 // `ratings` its rating.
@@ -19,7 +10,7 @@ pub struct Spacing {
 pub struct Plan {
     pub levels: u32,
     pub gap: u32,
-    pub spacing: Spacing,
+    pub spacing: u32,
     pub sizes: [u16; Plan::MAX_LEVELS],
     pub vias: [bool; Plan::MAX_VERTICES],
     pub halves: [u16; Plan::MAX_VERTICES],
@@ -45,13 +36,11 @@ impl Plan {
 
     pub const MAX_RATING: u32 = 100;
 
-    pub const MAX_SLOPE: u32 = 100;
-
     // The plan with these parts.
     pub fn new(
         levels: u32,
         gap: u32,
-        spacing: Spacing,
+        spacing: u32,
         sizes: [u16; Plan::MAX_LEVELS],
         vias: [bool; Plan::MAX_VERTICES],
         halves: [u16; Plan::MAX_VERTICES],
@@ -81,11 +70,7 @@ impl Plan {
         Plan::new(
             0,
             0,
-            Spacing {
-                least: 0,
-                sideways: 0,
-                downward: 0,
-            },
+            0,
             [0; Plan::MAX_LEVELS],
             [false; Plan::MAX_VERTICES],
             [0; Plan::MAX_VERTICES],

@@ -1,9 +1,11 @@
-// The level of every vertex, once for all segments.
-ghost use Rattle.std.specs.Prelude.{◌≡◌, ◌-◌, ◌≤◌, min, length};
-ghost use Rattle.plan.specs.Limits.{maxLevels};
+// The level of every vertex, once for all segments, and its height, once for all lines and marks.
+ghost use Rattle.std.specs.Prelude.{◌≡◌, ◌+◌, ◌-◌, ◌≤◌, min, length};
+ghost use Rattle.plan.specs.Limits.{maxLevels, maxVertices};
 ghost use Rattle.plan.specs.inner.Graph.{filled, Levelled};
+ghost use Rattle.plan_checks.specs.inner.Heights.{levelHeight, HeightsOf, AreLevels, Raised};
 
 use ints::wide;
+use plan::data::Plan;
 
 fn lesser(a: usize, b: usize) -> usize
     ensures { result ≡ min a b }
@@ -37,4 +39,35 @@ pub fn levels(sizes: &[u16], level: &mut [u16])
         i += 1;
     }
     fill(level, from, level.len(), (i + 1) as u16);
+}
+
+// "Level l has y = S × (l − 1) steps."
+fn level_height(spacing: u32, l: u16) -> u64
+    requires { (1 ≤ l) × (l ≤ maxLevels + 1) }
+    ensures { result ≡ levelHeight spacing l }
+{
+    spacing as u64 * (l - 1) as u64
+}
+
+// Writes the height of each of these levels.
+fn raise(spacing: u32, level: &[u16], out: &mut [u64])
+    requires { AreLevels level.now × (length level.now ≡ length out.old) }
+    ensures { Raised spacing level.now out.new }
+{
+    let mut v: usize = 0;
+    while v < out.len() {
+        out[v] = level_height(spacing, level[v]);
+        v += 1;
+    }
+}
+
+// Writes the height of each vertex, in steps below the top level.
+pub fn heights(spacing: u32, sizes: &[u16], out: &mut [u64])
+    requires { (length sizes.now ≤ maxLevels) × (length out.old ≤ maxVertices) }
+    ensures { HeightsOf spacing sizes.now out.new }
+{
+    let mut level = [0u16; Plan::MAX_VERTICES];
+    let n = out.len();
+    levels(sizes, &mut level[..n]);
+    raise(spacing, &level[..n], out);
 }

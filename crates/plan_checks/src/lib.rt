@@ -1,4 +1,4 @@
-// Checks 3 to 6 in their order; the level of every vertex.
+// Checks 3 to 6 in their order; the level and the height of every vertex.
 pub mod checks;
 pub mod levels;
 pub mod vias;

@@ -163,7 +163,6 @@ module _ (p : PlanData) (m : List ℕ) where
         levels = t.levels;
         gap = t.gap;
         spacing = t.spacing;
-        slope = t.slope;
         counted = t.counted;
         sizes = t.sizes;
         summed = t.summed ∙ sym (length-map m (λ v. isVia p v) ∙ o.long);

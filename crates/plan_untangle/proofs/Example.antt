@@ -6,14 +6,14 @@ use mathlib.Core.List.{[], ◌∷◌}
 use Rattle.sorting.specs.Sort.{insertBy, sortBy}
 use Rattle.ints.specs.Lists.{chosen}
 use Rattle.sorting.specs.Share.{refill, shareOut}
-use Rattle.plan.specs.Plan.{PlanData, data_of, evenly, numbers, levelIn, levelOf}
+use Rattle.plan.specs.Plan.{PlanData, data_of, numbers, levelIn, levelOf}
 use Rattle.plan.specs.Segments.{segmentsFrom, segmentsOf, ratedFrom, ratedOf, aboveIn, above}
 use Rattle.plan_renumber.specs.Renumber.{place_in, movedSegments, renumbered}
 use Rattle.plan_untangle.specs.Order.{orderTo, order, untangled}
 
 abbrev tangled : PlanData
 tangled =
-    data_of 5 1 (evenly 1) (2 ∷ 2 ∷ 2 ∷ 2 ∷ 2 ∷ []) (false ∷ false ∷ true ∷ true ∷ true ∷ true ∷ true ∷ true ∷ false ∷ false ∷ [])
+    data_of 5 1 1 (2 ∷ 2 ∷ 2 ∷ 2 ∷ 2 ∷ []) (false ∷ false ∷ true ∷ true ∷ true ∷ true ∷ true ∷ true ∷ false ∷ false ∷ [])
     (1 ∷ 1 ∷ 0 ∷ 0 ∷ 0 ∷ 0 ∷ 0 ∷ 0 ∷ 2 ∷ 3 ∷ []) (0 ∷ 1 ∷ 2 ∷ 3 ∷ 4 ∷ 5 ∷ 6 ∷ 7 ∷ []) (2 ∷ 3 ∷ 5 ∷ 4 ∷ 6 ∷ 7 ∷ 8 ∷ 9 ∷ [])
     (1 ∷ 2 ∷ 3 ∷ 4 ∷ 5 ∷ 6 ∷ 7 ∷ 100 ∷ [])
 

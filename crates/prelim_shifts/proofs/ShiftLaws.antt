@@ -13,7 +13,7 @@ use Rattle.ints.specs.Lists.{over}
 use lib.IntN.{ℤ, pos, ◌-ℤ◌}
 use Rattle.ints.specs.Ints.{size, SizedTo}
 use Rattle.ints.proofs.Laws.{cases, dif, if-ind}
-use Rattle.plan.specs.Plan.{PlanData, data_of, evenly, Siblings, numbers}
+use Rattle.plan.specs.Plan.{PlanData, data_of, Siblings, numbers}
 use Rattle.plan.specs.Segments.{Segment, segmentsFrom, segmentsOf}
 use Rattle.plan.proofs.CountLaws.{by-same}
 use Rattle.prelim_classes.specs.inner.Links.{chain, positions, among, pairsBy}
@@ -144,7 +144,7 @@ offset-sized c classes xs a b s =
 -- ---- the shift of a class, by its chains
 -- the plan that has these lists and nothing else
 abbrev onlyThese : ℕ → List ℕ → List ℕ → List ℕ → PlanData
-onlyThese gap halves uppers lowers = data_of 0 gap (evenly 0) [] [] halves uppers lowers []
+onlyThese gap halves uppers lowers = data_of 0 gap 0 [] [] halves uppers lowers []
 
 module _ (gap : ℕ) (halves order right uppers lowers classes pairHead pairLink segmentHead segmentLink memberHead memberLink : List ℕ)
     (s : Shiftable gap halves order right uppers lowers classes) (l : Linked order right uppers lowers classes pairHead pairLink segmentHead segmentLink memberHead memberLink)

@@ -3,7 +3,7 @@ use mathlib.Core.Path.{◌≡◌, refl}
 use mathlib.Core.Bool.{true, false}
 use mathlib.Core.List.{[], ◌∷◌}
 use lib.IntN.{pos, negsuc}
-use Rattle.plan.specs.Plan.{PlanData, data_of, evenly}
+use Rattle.plan.specs.Plan.{PlanData, data_of}
 use Rattle.plan.specs.Acceptable.{acceptable}
 use Rattle.preliminary.specs.Positions.{preliminary}
 use Rattle.preliminary.proofs.Open.{preliminaryOpen}
@@ -22,7 +22,7 @@ case1-positions = refl
 -- The ⌈s/2⌉-th smallest in a shift, whatever the ratings: by them the first neighbour would be the middle one.
 abbrev pub shifted : PlanData
 shifted =
-    data_of 2 1 (evenly 10000)
+    data_of 2 1 10000
     (3 ∷ 1 ∷ [])
     (false ∷ false ∷ false ∷ false ∷ [])
     (199 ∷ 1 ∷ 200 ∷ 199 ∷ [])
@@ -37,7 +37,7 @@ shifted-positions = refl
 -- and to higher ones (down from 5 to 7, up from 6 to 3) would each change the middle.
 abbrev pub lower_only : PlanData
 lower_only =
-    data_of 5 1 (evenly 1)
+    data_of 5 1 1
     (2 ∷ 1 ∷ 2 ∷ 2 ∷ 1 ∷ [])
     (false ∷ false ∷ true ∷ false ∷ true ∷ true ∷ false ∷ false ∷ [])
     (1 ∷ 1 ∷ 0 ∷ 1 ∷ 0 ∷ 0 ∷ 1 ∷ 1 ∷ [])

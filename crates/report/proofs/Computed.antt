@@ -25,16 +25,6 @@ cases = record {
   rating1 = refl;
   rating0 = refl;
   heavy-lead = refl;
-  slope1 = refl;
-  slope100 = refl;
-  sideways0 = refl;
-  downward0 = refl;
-  sideways101 = refl;
-  downward101 = refl;
-  slope-first = refl;
-  slope-third = refl;
-  slanting-lead = refl;
-  rounded-up = refl;
   outer-crossing = refl;
   inner-crossing = refl;
 }

@@ -15,7 +15,7 @@ use Rattle.ints.proofs.Reach.{within-get, within-each}
 use Rattle.ints.proofs.Lists.{map-getD}
 use Rattle.ints.proofs.Members.{map-stays}
 use Rattle.ints.proofs.Tests.{conj-at, ◌and◌}
-use Rattle.plan.specs.Plan.{PlanData, vertexCount, numbers}
+use Rattle.plan.specs.Plan.{PlanData, vertexCount, numbers, levelOf, heightOf}
 use Rattle.plan.proofs.All.{All, all_nil, all_cons, all_map}
 use Rattle.plan.proofs.Levels.{length-numbers, get-numbers}
 use Rattle.plan.proofs.Sound.{numbers-mem}
@@ -23,9 +23,7 @@ use Rattle.plan_renumber.specs.Renumber.{place_in, inverse}
 use Rattle.plan_renumber.proofs.Places.{inverse-long, inverse-at, new-old, place-number, map_at}
 use Rattle.plan_renumber.proofs.Own.{Own}
 use Rattle.passes.specs.State.{position_of}
-use Rattle.passes.specs.Heights.{heightOf, heightsOf}
 use Rattle.passes.specs.Drawing.{BoxAt, Placing, Drawing}
-use Rattle.passes.proofs.Heights.{heights-at}
 use Rattle.passes.specs.Words.{boxesListed, maxListed, drawingWithin}
 use Rattle.report.specs.Lines.{atLine, atLineOf}
 use Rattle.report.specs.Numbers.{positionsBy, boxBy, placingBy, inNumbers}
@@ -71,12 +69,7 @@ numbers-within m d e =
     and (ap (λ (n : ℕ). leb n maxListed) (length-map d.placings (placingBy m)) ∙ part 3)
     and (ap (λ (n : ℕ). leb n maxListed) (boxes-many m d.placings) ∙ part 4)
 
--- ---- heights: a vertex and its number are on one level
-module _ {p : PlanData} {m : List ℕ} (o : Own p m) where
-  pub height-by : (xs : List ℤ) (v : ℕ) → v < vertexCount p → get_or (heightsOf p xs) (get_or m v 0) 0 ≡ get_or (heightsOf p xs) v 0
-  height-by xs v h = heights-at p xs (get_or m v 0) (o.once.below v h) ∙ ap (heightOf p xs) (o.level v h) ∙ sym (heights-at p xs v h)
-
--- ---- the line of a vertex: it has the vertex's number, its positions and its height
+-- ---- the line of a vertex: it has the vertex's number, its positions and the height of its level
 module _ {p : PlanData} {m : List ℕ} (o : Own p m) where
   position-by : (xs : List ℤ) (v : ℕ) → v < vertexCount p → position_of (positionsBy m xs) (get_or m v 0) ≡ position_of xs v
   position-by xs v h =
@@ -85,11 +78,10 @@ module _ {p : PlanData} {m : List ℕ} (o : Own p m) where
       map-getD (position_of xs) (inverse m) (get_or m v 0) 0 (pos 0) (omega (arith, inverse-long n m o.once))
       ∙ ap (position_of xs) (inverse-at n m o.once (get_or m v 0) k ∙ new-old n m o.once v h)
 
-  pub at-line-by : (xs : List ℤ) (d : Drawing) (v : ℕ) → v < vertexCount p
-      → atLineOf (heightsOf p xs) (inNumbers m d) (get_or m v 0)
-      ≡ atLine (get_or m v 0) (position_of d.preliminary v) (position_of d.final v) (get_or (heightsOf p xs) v 0)
+  pub at-line-by : (d : Drawing) (v : ℕ) → v < vertexCount p
+      → atLineOf p (inNumbers m d) (get_or m v 0) ≡ atLine (get_or m v 0) (position_of d.preliminary v) (position_of d.final v) (heightOf p (levelOf p v))
   unfolding atLineOf
-  at-line-by xs d v h = rw (position-by d.preliminary v h, position-by d.final v h, height-by o xs v h)
+  at-line-by d v h = rw (position-by d.preliminary v h, position-by d.final v h, o.level v h)
 
 -- ---- the numbers themselves
 all-stays : {A : Type 0} (f : A → A) {xs : List A} → All (λ x. f x ≡ x) xs → map f xs ≡ xs

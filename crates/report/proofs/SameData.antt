@@ -5,10 +5,9 @@ use mathlib.Core.List.{List, [], ◌∷◌}
 use Prim.Native.Nat.{ℕ}
 use borrow.Author.Tests.{eqb-true, eq-eqb}
 use lib.Dec.{eqb}
-use Rattle.plan.specs.declared.data.Spacing.{Spacing}
 use Rattle.plan.specs.Plan.{PlanData}
 use Rattle.ints.proofs.Tests.{conj-at, test, ◌and◌}
-use Rattle.report.specs.Refusal13.{same_numbers, sameKinds, sameSpacing, sameData}
+use Rattle.report.specs.Refusal13.{same_numbers, sameKinds, sameData}
 use Rattle.text.proofs.Words.{never}
 
 pub numbers-equal : (ms ns : List ℕ) → same_numbers ms ns ≡ true → ms ≡ ns
@@ -41,22 +40,10 @@ kinds-same [] = refl
 kinds-same (true ∷ ns) = kinds-same ns
 kinds-same (false ∷ ns) = kinds-same ns
 
-spacing-equal : (s t : Spacing) → sameSpacing s t ≡ true → s ≡ t
-spacing-equal s t e =
-    let test = conj-at (eqb s.least t.least) (eqb s.sideways t.sideways ∷ eqb s.downward t.downward ∷ []) e in
-    λ i. record {
-      least = eqb-true s.least t.least (test 0) i;
-      sideways = eqb-true s.sideways t.sideways (test 1) i;
-      downward = eqb-true s.downward t.downward (test 2) i;
-    }
-
-spacing-same : (s : Spacing) → sameSpacing s s ≡ true
-spacing-same s = eq-eqb s.least s.least refl and eq-eqb s.sideways s.sideways refl and eq-eqb s.downward s.downward refl
-
 -- the tests of `sameData` after the first
 abbrev furtherSame : PlanData → PlanData → List Bool
 furtherSame p q =
-    eqb p.gap q.gap ∷ sameSpacing p.spacing q.spacing
+    eqb p.gap q.gap ∷ eqb p.spacing q.spacing
     ∷ same_numbers p.sizes q.sizes ∷ sameKinds p.vias q.vias ∷ same_numbers p.halves q.halves
     ∷ same_numbers p.uppers q.uppers ∷ same_numbers p.lowers q.lowers ∷ same_numbers p.ratings q.ratings ∷ []
 
@@ -67,7 +54,7 @@ data-equal p q e =
     λ i. record {
       levels = eqb-true p.levels q.levels (test 0) i;
       gap = eqb-true p.gap q.gap (test 1) i;
-      spacing = spacing-equal p.spacing q.spacing (test 2) i;
+      spacing = eqb-true p.spacing q.spacing (test 2) i;
       sizes = numbers-equal p.sizes q.sizes (test 3) i;
       vias = kinds-equal p.vias q.vias (test 4) i;
       halves = numbers-equal p.halves q.halves (test 5) i;
@@ -79,6 +66,6 @@ data-equal p q e =
 pub data-same : (p : PlanData) → sameData p p ≡ true
 unfolding sameData
 data-same p =
-    eq-eqb p.levels p.levels refl and eq-eqb p.gap p.gap refl and spacing-same p.spacing
+    eq-eqb p.levels p.levels refl and eq-eqb p.gap p.gap refl and eq-eqb p.spacing p.spacing refl
     and numbers-same p.sizes and kinds-same p.vias and numbers-same p.halves
     and numbers-same p.uppers and numbers-same p.lowers and numbers-same p.ratings

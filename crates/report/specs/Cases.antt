@@ -1,5 +1,5 @@
--- Document 01's cases 1 to 9 and its edges, cases 1 and 3 as document 02's E4 has them, and edges of E5's ratings and E6's slopes, as
--- statements about the definitions.
+-- Document 01's cases 1 to 9 and its edges, cases 1 and 3 as document 02's E4 has them, and edges of E5's ratings, as statements about
+-- the definitions.
 use Rattle.std.specs.Prelude.{◌≡◌, Bool, true, false, List, [], ◌∷◌, ◌++◌, map, ℕ, zero, suc, ℤ, pos, negsuc}
 use Prim.Native.String.{String}
 use Rattle.run.specs.Run.{free, at, Lead, Box}
@@ -30,10 +30,6 @@ level n = bytes "(plan 1 1 1)\n(level" ++ boxes n ++ bytes ")\n(end)\n"
 -- Two boxes joined by a segment with this rating.
 abbrev pub rated : String → List ℕ
 rated w = bytes "(plan 2 1 1)\n(level (box 1))\n(level (box 1))\n(seg 0 1 " ++ bytes w ++ bytes ")\n(end)\n"
-
--- Two boxes joined by a segment, under a slope.
-abbrev pub sloped : String → String → List ℕ
-sloped p q = bytes "(plan 2 1 1)\n(slope " ++ bytes p ++ bytes " " ++ bytes q ++ bytes ")\n(level (box 1))\n(level (box 1))\n(seg 0 1)\n(end)\n"
 
 pub record Cases : Type 0 where
   pub case1 :
@@ -67,24 +63,6 @@ pub record Cases : Type 0 where
   pub heavy-lead :
       printed (bytes "(plan 2 1 1)\n(level (box 1) (box 1))\n(level (box 1))\n(seg 0 2 2)\n(seg 1 2)\n(end)\n")
       ≡ bytes "(drawing 3 4)\n(at 0 -3 -3 0)\n(at 1 3 3 0)\n(at 2 0 -3 1)\n(place 1 1 (0 -3) (1 3))\n(place 1 2 (2 -3))\n(place 2 2 (2 -3))\n(place 2 1 (0 -3) (1 3))\n(end)\n"
-  -- "P and Q from 1 to 100, else check 2 refuses it."
-  pub slope1 : isAccepted (reading (sloped "1" "1")) ≡ true
-  pub slope100 : isAccepted (reading (sloped "100" "100")) ≡ true
-  pub sideways0 : reading (sloped "0" "1") ≡ refused 2
-  pub downward0 : reading (sloped "1" "0") ≡ refused 2
-  pub sideways101 : reading (sloped "101" "1") ≡ refused 2
-  pub downward101 : reading (sloped "1" "101") ≡ refused 2
-  -- "as its second line", neither first nor third
-  pub slope-first : reading (bytes "(slope 1 1)\n(plan 2 1 1)\n(level (box 1))\n(level (box 1))\n(seg 0 1)\n(end)\n") ≡ refused 1
-  pub slope-third : reading (bytes "(plan 2 1 1)\n(level (box 1))\n(slope 1 1)\n(level (box 1))\n(seg 0 1)\n(end)\n") ≡ refused 1
-  -- A slope of 1 over 1: box 2, below 0 as above, stands 3 steps to the left of 1, so 3 steps below it, not 1.
-  pub slanting-lead :
-      printed (bytes "(plan 2 1 1)\n(slope 1 1)\n(level (box 1) (box 1))\n(level (box 1))\n(seg 0 2 2)\n(seg 1 2)\n(end)\n")
-      ≡ bytes "(drawing 3 4)\n(at 0 -3 -3 0)\n(at 1 3 3 0)\n(at 2 0 -3 3)\n(place 1 1 (0 -3) (1 3))\n(place 1 2 (2 -3))\n(place 2 2 (2 -3))\n(place 2 1 (0 -3) (1 3))\n(end)\n"
-  -- Of 2 over 1: one and a half steps would do, 2 is "the least whole number of steps".
-  pub rounded-up :
-      printed (bytes "(plan 2 1 1)\n(slope 2 1)\n(level (box 1) (box 1))\n(level (box 1))\n(seg 0 2 2)\n(seg 1 2)\n(end)\n")
-      ≡ bytes "(drawing 3 4)\n(at 0 -3 -3 0)\n(at 1 3 3 0)\n(at 2 0 -3 2)\n(place 1 1 (0 -3) (1 3))\n(place 1 2 (2 -3))\n(place 2 2 (2 -3))\n(place 2 1 (0 -3) (1 3))\n(end)\n"
   -- "a crossing at a box's end of a cable accepted, between vias refused 6"
   pub outer-crossing :
       isAccepted (reading (bytes "(plan 3 1 1)\n(level (box 1) (box 1))\n(level (via) (via))\n(level (box 1) (box 1))\n(seg 0 3)\n(seg 1 2)\n(seg 2 4)\n(seg 3 5)\n(end)\n"))

@@ -1,10 +1,9 @@
 -- The report's lines, each with its LF, as lists of bytes.
-use Rattle.std.specs.Prelude.{List, [], ◌∷◌, ◌++◌, map, ℕ, length, get_or, ℤ}
+use Rattle.std.specs.Prelude.{List, [], ◌∷◌, ◌++◌, map, ℕ, length, ℤ}
+use Rattle.plan.specs.Plan.{PlanData, vertexCount, numbers, levelOf, heightOf}
 use Rattle.text.specs.Bytes.{bytes}
 use Rattle.text.specs.Decimal.{decimal, signed}
-use Rattle.plan.specs.Plan.{PlanData, numbers}
 use Rattle.passes.specs.State.{position_of}
-use Rattle.passes.specs.Heights.{heightsOf}
 use Rattle.passes.specs.Drawing.{BoxAt, Placing, Drawing}
 
 -- "(drawing V P)": vertices and placings.
@@ -16,9 +15,8 @@ unfoldable pub atLine : ℕ → ℤ → ℤ → ℕ → List ℕ
 atLine n p x y =
     bytes "(at " ++ decimal n ++ bytes " " ++ signed p ++ bytes " " ++ signed x ++ bytes " " ++ decimal y ++ bytes ")\n"
 
--- That of vertex v; ys has the height of each.
-unfoldable pub atLineOf : List ℕ → Drawing → ℕ → List ℕ
-atLineOf ys d v = atLine v (position_of d.preliminary v) (position_of d.final v) (get_or ys v 0)
+unfoldable pub atLineOf : PlanData → Drawing → ℕ → List ℕ
+atLineOf p d v = atLine v (position_of d.preliminary v) (position_of d.final v) (heightOf p (levelOf p v))
 
 -- "(place q l (n x) ..)": "pass, level, each box with its position after".
 unfoldable pub boxWords : List BoxAt → List ℕ
@@ -32,12 +30,8 @@ placeLine q = bytes "(place " ++ decimal q.pass ++ bytes " " ++ decimal q.level 
 abbrev pub endLine : List ℕ
 endLine = bytes "(end)\n"
 
--- All lines of a drawing whose vertices stand at the heights ys, in order.
-unfoldable pub reportLines : List ℕ → Drawing → List (List ℕ)
-reportLines ys d =
-    drawingLine (length ys) (length d.placings)
-    ∷ map (atLineOf ys d) (numbers 0 (length ys)) ++ map placeLine d.placings ++ (endLine ∷ [])
-
--- All lines of a plan's drawing.
-abbrev pub drawingLines : PlanData → Drawing → List (List ℕ)
-drawingLines p d = reportLines (heightsOf p d.final) d
+-- All lines of a drawing, in order.
+unfoldable pub reportLines : PlanData → Drawing → List (List ℕ)
+reportLines p d =
+    drawingLine (vertexCount p) (length d.placings)
+    ∷ map (atLineOf p d) (numbers 0 (vertexCount p)) ++ map placeLine d.placings ++ (endLine ∷ [])

@@ -1,13 +1,10 @@
 -- A drawing in remembered numbers: "The sheet remembers each vertex's number in the text. Report lines use those numbers, at-lines in
 -- their order, placings left to right." A list m has the number of each vertex; the report is that of the drawing in these numbers.
--- Heights are those of the drawing; a vertex and its number are on one level, so each number has the height of its vertex.
+-- A vertex and its number are on one level, so heights are those of the numbers.
 use Rattle.std.specs.Prelude.{List, map, ℕ, get_or, ℤ}
 use Rattle.plan_renumber.specs.Renumber.{inverse}
-use Rattle.plan.specs.Plan.{PlanData}
 use Rattle.passes.specs.State.{position_of}
-use Rattle.passes.specs.Heights.{heightsOf}
 use Rattle.passes.specs.Drawing.{BoxAt, Placing, Drawing}
-use Rattle.report.specs.Lines.{reportLines}
 
 -- "at-lines in their order": the n-th position is that of the vertex remembered as n.
 abbrev pub positionsBy : List ℕ → List ℤ → List ℤ
@@ -27,6 +24,3 @@ inNumbers m d = record {
   final = positionsBy m d.final;
   placings = map (placingBy m) d.placings;
 }
-
-abbrev pub numberedLines : PlanData → List ℕ → Drawing → List (List ℕ)
-numberedLines p m d = reportLines (heightsOf p d.final) (inNumbers m d)

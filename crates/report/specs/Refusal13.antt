@@ -3,7 +3,6 @@
 -- more than 2,048 placings or boxes in the placings." A sheet may have been handed in with any contents.
 use Rattle.std.specs.Prelude.{Bool, true, false, cond, ◌&&◌, List, [], ◌∷◌, map, ℕ, eqb, leb, length, take}
 use Rattle.ints.specs.Lists.{sum}
-use Rattle.plan.specs.declared.data.Spacing.{Spacing}
 use Rattle.plan.specs.Plan.{PlanData}
 use Rattle.plan.specs.Limits.{maxVertices, maxSegments, within}
 use Rattle.plan.specs.Stored.{planData}
@@ -33,12 +32,9 @@ sameKinds (m ∷ ms) [] = false
 sameKinds (true ∷ ms) (n ∷ ns) = cond n (sameKinds ms ns) false
 sameKinds (false ∷ ms) (n ∷ ns) = cond n false (sameKinds ms ns)
 
-abbrev pub sameSpacing : Spacing → Spacing → Bool
-sameSpacing s t = eqb s.least t.least && eqb s.sideways t.sideways && eqb s.downward t.downward
-
 unfoldable pub sameData : PlanData → PlanData → Bool
 sameData p q =
-    eqb p.levels q.levels && eqb p.gap q.gap && sameSpacing p.spacing q.spacing
+    eqb p.levels q.levels && eqb p.gap q.gap && eqb p.spacing q.spacing
     && same_numbers p.sizes q.sizes && sameKinds p.vias q.vias && same_numbers p.halves q.halves
     && same_numbers p.uppers q.uppers && same_numbers p.lowers q.lowers && same_numbers p.ratings q.ratings
 

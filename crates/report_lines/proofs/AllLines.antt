@@ -1,38 +1,46 @@
 -- The lines of a report one after another: the next line and those after it, and the whole from its parts.
 use mathlib.Core.Path.{◌≡◌, refl, sym}
+use mathlib.Core.Bool.{false}
 use mathlib.Core.List.{List, [], ◌∷◌, ◌++◌, append-nil}
-use Prim.Native.Nat.{ℕ, suc, ◌+◌, ◌-◌, ◌≤◌, ◌<◌}
+use Prim.Native.Nat.{ℕ, zero, suc, ◌+◌, ◌-◌, ◌≤◌, ◌<◌}
 use native.Mathlib.Omega.{arith}
-use lib.ListN.{length, get_or, drop, drop_of_length-le}
+use lib.ListN.{length, get_or, drop, length-replicate, drop_of_length-le}
 use lib.Seq.{drop-drop}
 use lib.IntN.{ℤ}
 use Rattle.ints.specs.Lists.{sum, concat}
-use Rattle.plan.specs.Plan.{numbers}
+use Rattle.plan.specs.Plan.{numbers, levelOf, heightOf}
+use Rattle.plan_checks.specs.inner.Heights.{heightAt, HeightsOf}
 use Rattle.text_write.specs.inner.Written.{Room, Wrote, Fronts}
 use Rattle.text_write.proofs.Written.{front_of}
 use Rattle.ints.proofs.Lists.{concat-append, concat-one, sum-on}
 use Rattle.passes.specs.Stored.{placingsFrom}
 use Rattle.report.specs.Lines.{drawingLine, atLineOf, placeLine, endLine}
-use Rattle.report_lines.specs.inner.Stored.{vertexLine, vertexLines, allVertexLines, VertexRoom, VerticesRoom, placingOf, PlacingRoom, placeLines, PlacingsRoom, drawingFrom, reportOf, ReportRoom}
+use Rattle.report_lines.specs.inner.Stored.{planPart, heightIn, vertexLine, vertexLines, allVertexLines, VertexRoom, VerticesRoom, AtLinesRoom, placingOf, PlacingRoom, placeLines, PlacingsRoom, drawingFrom, reportOf, ReportRoom}
 use Rattle.report_lines.proofs.Partly.{Partly, nothing_yet, next-room, next-written, all-written}
 use Rattle.report_lines.proofs.Listed.{placings-count, placings-next, part-within, listed-within}
 use Rattle.report_lines.proofs.ByNumber.{atLines, placeLines as placeLinesOf, lines_from, positions-of}
 
 -- ---- vertices
-module _ (heights : List ℕ) (preliminary finals : List ℤ) where
-  module _ (n : ℕ) where
-    pub next-vertex : n < length preliminary → vertexLines heights preliminary finals n (length preliminary - n)
-        ≡ vertexLine heights preliminary finals n ++ vertexLines heights preliminary finals (n + 1) (length preliminary - (n + 1))
+module _ (preliminary finals : List ℤ) where
+  module _ (height : ℕ → ℕ) (n : ℕ) where
+    pub next-vertex : n < length preliminary → vertexLines preliminary finals height n (length preliminary - n)
+        ≡ vertexLine preliminary finals n (height n) ++ vertexLines preliminary finals height (n + 1) (length preliminary - (n + 1))
     unfolding numbers concat
     next-vertex h = let e : length preliminary - n ≡ suc (length preliminary - (n + 1)) = omega arith in rw e
 
-    pub no-vertex : length preliminary ≤ n → vertexLines heights preliminary finals n (length preliminary - n) ≡ []
+    pub no-vertex : length preliminary ≤ n → vertexLines preliminary finals height n (length preliminary - n) ≡ []
     unfolding numbers concat
     no-vertex h = let e : length preliminary - n ≡ 0 = omega arith in rw e
 
-  pub no-vertex-yet : (o : List ℕ) (from : ℕ)
-      → Partly (allVertexLines heights preliminary finals) (vertexLines heights preliminary finals 0 (length preliminary - 0)) o from from o
-  no-vertex-yet o from = let e : length preliminary - 0 ≡ length preliminary = omega arith in rw e (nothing_yet (allVertexLines heights preliminary finals) o from)
+  pub no-vertex-yet : (height : ℕ → ℕ) (o : List ℕ) (from : ℕ) → Partly (allVertexLines preliminary finals height) (vertexLines preliminary finals height 0 (length preliminary - 0)) o from from o
+  no-vertex-yet height o from = let e : length preliminary - 0 ≡ length preliminary = omega arith in rw e (nothing_yet (allVertexLines preliminary finals height) o from)
+
+  -- heights matter only of the vertices
+  same-heights : (f g : ℕ → ℕ) (all n count : ℕ) → n + count ≤ all → ((v : ℕ) → v < all → f v ≡ g v) → vertexLines preliminary finals f n count ≡ vertexLines preliminary finals g n count
+  unfolding numbers concat
+  same-heights f g all n zero h e = refl
+  same-heights f g all n (suc count) h e =
+      rw (e n (omega arith), same-heights f g all (n + 1) count (omega arith) e)
 
 -- ---- placings
 module _ (passes levels counts vertices : List ℕ) (positions : List ℤ) where
@@ -55,41 +63,51 @@ module _ (passes levels counts vertices : List ℕ) (positions : List ℤ) where
   no-placing k start h = rw (drop_of_length-le passes h)
 
 -- ---- the whole
-module _ (heights : List ℕ) (preliminary finals : List ℤ) (passes levels counts vertices : List ℕ) (positions : List ℤ) where
-  pub report-from : length heights ≡ length preliminary → length levels ≡ length passes → length counts ≡ length passes
-      → reportOf heights preliminary finals passes levels counts vertices positions ≡ drawingLine (length preliminary) (length passes)
-      ++ (allVertexLines heights preliminary finals ++ (placeLines (placingsFrom passes levels counts vertices positions) ++ endLine))
-  unfolding concat atLineOf
-  report-from t e f =
+module _ (spacing : ℕ) (sizes : List ℕ) (preliminary finals : List ℤ) (passes levels counts vertices : List ℕ) (positions : List ℤ) where
+  pub report-from : length levels ≡ length passes → length counts ≡ length passes
+      → reportOf spacing sizes preliminary finals passes levels counts vertices positions ≡ drawingLine (length preliminary) (length passes)
+      ++ (allVertexLines preliminary finals (heightAt spacing sizes) ++ (placeLines (placingsFrom passes levels counts vertices positions) ++ endLine))
+  unfolding concat atLineOf levelOf heightOf
+  report-from e f =
+      let p = planPart spacing sizes (length preliminary) in
       let d = drawingFrom preliminary finals passes levels counts vertices positions in
       rw (
-        lines_from heights d,
-        concat-append (atLines heights d) (placeLinesOf heights d ++ endLine ∷ []),
-        concat-append (placeLinesOf heights d) (endLine ∷ []),
+        lines_from p d,
+        concat-append (atLines p d) (placeLinesOf p d ++ endLine ∷ []),
+        concat-append (placeLinesOf p d) (endLine ∷ []),
         concat-one endLine,
-        t,
+        length-replicate (length preliminary) false,
         placings-count passes levels counts vertices positions e f,
       )
 
 -- ---- as the code meets them
 module _ {heights : List ℕ} {preliminary finals : List ℤ} {o out : List ℕ} {from at : ℕ} (r : VerticesRoom heights preliminary finals o from) (n : ℕ) (l : n < length preliminary)
-    (h : Partly (allVertexLines heights preliminary finals) (vertexLines heights preliminary finals n (length preliminary - n)) o from at out) where
+    (h : Partly (allVertexLines preliminary finals (heightIn heights)) (vertexLines preliminary finals (heightIn heights) n (length preliminary - n)) o from at out) where
   abbrev more : List ℕ
-  more = vertexLines heights preliminary finals (n + 1) (length preliminary - (n + 1))
+  more = vertexLines preliminary finals (heightIn heights) (n + 1) (length preliminary - (n + 1))
 
-  is-next : vertexLines heights preliminary finals n (length preliminary - n) ≡ vertexLine heights preliminary finals n ++ more
-  is-next = next-vertex heights preliminary finals n l
+  is-next : vertexLines preliminary finals (heightIn heights) n (length preliminary - n) ≡ vertexLine preliminary finals n (heightIn heights n) ++ more
+  is-next = next-vertex preliminary finals (heightIn heights) n l
 
   pub vertex-room : VertexRoom heights preliminary finals n out at
   vertex-room = record {
     vertex = l;
     table = r.table;
     positions = r.positions;
-    room = next-room (vertexLine heights preliminary finals n) more is-next h r.room;
+    room = next-room (vertexLine preliminary finals n (heightIn heights n)) more is-next h r.room;
   }
 
-  pub vertex-written : {to : ℕ} {next : List ℕ} → Wrote (vertexLine heights preliminary finals n) out at to next → Partly (allVertexLines heights preliminary finals) more o from to next
-  vertex-written w = next-written (vertexLine heights preliminary finals n) more is-next h w
+  pub vertex-written : {to : ℕ} {next : List ℕ} → Wrote (vertexLine preliminary finals n (heightIn heights n)) out at to next
+      → Partly (allVertexLines preliminary finals (heightIn heights)) more o from to next
+  vertex-written w = next-written (vertexLine preliminary finals n (heightIn heights n)) more is-next h w
+
+module _ {spacing : ℕ} {sizes : List ℕ} {preliminary finals : List ℤ} {o : List ℕ} {at : ℕ} (r : AtLinesRoom spacing sizes preliminary finals o at) (heights : List ℕ)
+    (e : length heights ≡ length preliminary) (t : HeightsOf spacing sizes heights) where
+  pub lines_same : allVertexLines preliminary finals (heightIn heights) ≡ allVertexLines preliminary finals (heightAt spacing sizes)
+  lines_same = same-heights preliminary finals (heightIn heights) (heightAt spacing sizes) (length preliminary) 0 (length preliminary) (omega arith) (λ v h. t.each v (omega arith))
+
+  pub vertices-room : VerticesRoom heights preliminary finals o at
+  vertices-room = record { table = e; positions = r.lists.positions; room = rw lines_same r.room }
 
 module _ {passes levels counts vertices : List ℕ} {positions : List ℤ} {o out : List ℕ} {from at : ℕ} (r : PlacingsRoom passes levels counts vertices positions o from) (k start : ℕ) (l : k < length passes)
     (e : start + sum (drop k counts) ≡ sum counts)
@@ -114,22 +132,22 @@ module _ {passes levels counts vertices : List ℕ} {positions : List ℤ} {o ou
   placing-written w = next-written (placeLine (placingOf passes levels counts vertices positions k start)) (leftFrom passes levels counts vertices positions (k + 1) (start + get_or counts k 0))
       (next-placing passes levels counts vertices positions k start r.ofLevels r.ofCounts l) h w
 
-module _ {heights : List ℕ} {preliminary finals : List ℤ} {passes levels counts vertices : List ℕ} {positions : List ℤ} {o : List ℕ}
-    (r : ReportRoom heights preliminary finals passes levels counts vertices positions o) where
+module _ {spacing : ℕ} {sizes : List ℕ} {preliminary finals : List ℤ} {passes levels counts vertices : List ℕ} {positions : List ℤ} {o : List ℕ}
+    (r : ReportRoom spacing sizes preliminary finals passes levels counts vertices positions o) where
   abbrev text : List ℕ
-  text = reportOf heights preliminary finals passes levels counts vertices positions
+  text = reportOf spacing sizes preliminary finals passes levels counts vertices positions
 
   abbrev first : List ℕ
   first = drawingLine (length preliminary) (length passes)
 
   abbrev atText : List ℕ
-  atText = allVertexLines heights preliminary finals
+  atText = allVertexLines preliminary finals (heightAt spacing sizes)
 
   abbrev placeText : List ℕ
   placeText = placeLines (placingsFrom passes levels counts vertices positions)
 
   whole : text ≡ first ++ (atText ++ (placeText ++ endLine))
-  whole = report-from heights preliminary finals passes levels counts vertices positions r.table r.stored.ofLevels r.stored.ofCounts
+  whole = report-from spacing sizes preliminary finals passes levels counts vertices positions r.stored.ofLevels r.stored.ofCounts
 
   pub drawing-room : Room first o 0
   drawing-room = next-room first (atText ++ (placeText ++ endLine)) whole (nothing_yet text o 0) r.room
@@ -138,10 +156,9 @@ module _ {heights : List ℕ} {preliminary finals : List ℤ} {passes levels cou
     after_first : Partly text (atText ++ (placeText ++ endLine)) o 0 m p
     after_first = next-written first (atText ++ (placeText ++ endLine)) whole (nothing_yet text o 0) h
 
-    pub at_room : VerticesRoom heights preliminary finals p m
+    pub at_room : AtLinesRoom spacing sizes preliminary finals p m
     at_room = record {
-      table = r.table;
-      positions = positions-of r.stored;
+      lists = record { positions = positions-of r.stored; few = r.few; inLimit = r.inLimit };
       room = next-room atText (placeText ++ endLine) refl after_first r.room;
     }
 

@@ -2,16 +2,18 @@
 use mathlib.Core.Path.{◌≡◌}
 use mathlib.Core.Bool.{true}
 use mathlib.Core.List.{List, [], ◌∷◌, ◌++◌, map, map-append}
-use Prim.Native.Nat.{ℕ, suc, ◌+◌, ◌*◌, ◌≤◌, ◌<◌}
+use Prim.Native.Nat.{ℕ, suc, ◌+◌, ◌-◌, ◌*◌, ◌≤◌, ◌<◌}
+use native.Mathlib.Nat.{mul-le-mul_left, mul-le-mul_right}
 use native.Mathlib.Omega.{arith}
-use lib.ListN.{length, get_or, length-append, get_or-eq_default}
+use lib.ListN.{length, length-append, get_or-eq_default}
 use lib.IntN.{ℤ, pos, negsuc}
 use Rattle.ints.specs.Ints.{size}
 use Rattle.ints.specs.Lists.{concat}
 use Rattle.ints.proofs.Laws.{cases}
 use Rattle.ints.proofs.Reach.{within-size, within-get, within-at}
 use Rattle.plan.specs.Limits.{maxVertices}
-use Rattle.plan.specs.Plan.{numbers}
+use Rattle.plan.specs.Plan.{PlanData, vertexCount, numbers, levelIn, levelOf, heightOf}
+use Rattle.plan.proofs.LevelLaws.{level-most}
 use Rattle.text.specs.Decimal.{signed}
 use Rattle.text.proofs.DecimalLaws.{decimal-length}
 use Rattle.ints.proofs.Lists.{concat-append}
@@ -19,7 +21,6 @@ use Rattle.passes.specs.State.{position_of}
 use Rattle.passes.specs.Drawing.{BoxAt, Placing, Drawing}
 use Rattle.ints.specs.Reach.{reach, isWithin}
 use Rattle.passes.specs.Words.{boxesListed, maxListed}
-use Rattle.passes.specs.inner.Highest.{maxHeight}
 use Rattle.report.specs.Lines.{drawingLine, atLine, atLineOf, boxWords, placeLine, endLine, reportLines}
 use Rattle.plan.proofs.All.{All, all_nil, all_cons, all_map, all_append, all_left, all_right, all-get, all-of-get}
 use Rattle.plan.proofs.Levels.{all-numbers}
@@ -42,13 +43,13 @@ drawing-short v k a b =
     let lk = decimal-length 3 k (omega arith) in
     simp length-append (omega arith)
 
-at-short : (n : ℕ) (p x : ℤ) (y : ℕ) → n < maxVertices → size p ≤ reach → size x ≤ reach → y ≤ maxHeight → length (atLine n p x y) ≤ 57
+at-short : (n : ℕ) (p x : ℤ) (y : ℕ) → n < maxVertices → size p ≤ reach → size x ≤ reach → y ≤ 640000 → length (atLine n p x y) ≤ 47
 unfolding atLine
 at-short n p x y a b c d =
     let ln = decimal-length 3 n (omega arith) in
     let lp = signed-short p b in
     let lx = signed-short x c in
-    let ly = decimal-length 15 y (omega arith) in
+    let ly = decimal-length 5 y (omega arith) in
     simp length-append (omega arith)
 
 abbrev Within : List BoxAt → Type 0
@@ -70,7 +71,7 @@ place_short m q s w =
     simp length-append (omega (arith, boxes-short m q.boxes s.vertices w))
 
 -- ---- the parts of a report
-concat-short : (ws : List (List ℕ)) → All (λ (w : List ℕ). length w ≤ 57) ws → length (concat ws) ≤ 57 * length ws
+concat-short : (ws : List (List ℕ)) → All (λ (w : List ℕ). length w ≤ 47) ws → length (concat ws) ≤ 47 * length ws
 unfolding concat
 concat-short [] all_nil = omega arith
 concat-short (w ∷ ws) (all_cons h hs) = simp length-append (omega (arith, concat-short ws hs))
@@ -95,36 +96,42 @@ places-short m (q ∷ qs) (all_cons s ss) w =
     let more = map (λ (b : BoxAt). b.position) (boxesListed qs) in
     simp length-append (omega (arith, place_short m q s (all_left ps more both), places-short m qs ss (all_right ps more both)))
 
-module _ {ys : List ℕ} {d : Drawing} (s : Printable ys d) where
-  each_at : All (λ (w : List ℕ). length w ≤ 57) (map (atLineOf ys d) (numbers 0 (length ys)))
+module _ {p : PlanData} {d : Drawing} (s : Printable p d) where
+  height-small : (v : ℕ) → heightOf p (levelOf p v) ≤ 640000
+  unfolding levelOf heightOf
+  height-small v =
+      let few : levelIn p.sizes v - 1 ≤ 64 = omega (arith, level-most p.sizes v, s.levels) in
+      omega (arith, mul-le-mul_left p.spacing few, mul-le-mul_right 64 s.spacing)
+
+  each_at : All (λ (w : List ℕ). length w ≤ 47) (map (atLineOf p d) (numbers 0 (vertexCount p)))
   unfolding atLineOf
-  each_at = all-mapped (atLineOf ys d) (all-numbers 0 (length ys) (λ v l h.
-      at-short v (position_of d.preliminary v) (position_of d.final v) (get_or ys v 0) (omega (arith, s.vertices))
-      (within-at d.preliminary v (preliminary-within d s.within)) (within-at d.final v (final-within d s.within)) (s.low v (omega arith))))
+  each_at = all-mapped (atLineOf p d) (all-numbers 0 (vertexCount p) (λ v l h.
+      at-short v (position_of d.preliminary v) (position_of d.final v) (heightOf p (levelOf p v)) (omega (arith, s.vertices))
+      (within-at d.preliminary v (preliminary-within d s.within)) (within-at d.final v (final-within d s.within)) (height-small v)))
 
   boxes-in : Within (boxesListed d.placings)
   boxes-in = let xs = map (λ (b : BoxAt). b.position) (boxesListed d.placings) in
       all-of-get xs (pos 0) (λ i l. within-get xs i (boxes-within d s.within))
 
   -- ---- every line, and the whole
-  each_line : All (λ (w : List ℕ). length w ≤ maxLine) (reportLines ys d)
+  each_line : All (λ (w : List ℕ). length w ≤ maxLine) (reportLines p d)
   unfolding reportLines
   each_line =
-      let first : length (drawingLine (length ys) (length d.placings)) ≤ maxLine =
-      omega (arith, drawing-short (length ys) (length d.placings) s.vertices (few-placings d s.within)) in
+      let first : length (drawingLine (vertexCount p) (length d.placings)) ≤ maxLine =
+      omega (arith, drawing-short (vertexCount p) (length d.placings) s.vertices (few-placings d s.within)) in
       let last : length endLine ≤ maxLine = omega arith in
       all_append (all_append (all_cons first (all_map (λ w h. omega arith) each_at)) (each-place s.vertices d.placings s.placings boxes-in)) (all_cons last all_nil)
 
-  pub line-short : (n : ℕ) → length (line_of ys d n) ≤ maxLine
-  line-short n = cases (length (reportLines ys d)) n
-      (λ l. rw (get_or-eq_default (reportLines ys d) [] l) (omega arith))
-      (λ l. all-get (reportLines ys d) [] each_line n l)
+  pub line-short : (n : ℕ) → length (line_of p d n) ≤ maxLine
+  line-short n = cases (length (reportLines p d)) n
+      (λ l. rw (get_or-eq_default (reportLines p d) [] l) (omega arith))
+      (λ l. all-get (reportLines p d) [] each_line n l)
 
-  pub report-short : length (concat (reportLines ys d)) ≤ maxReport
+  pub report-short : length (concat (reportLines p d)) ≤ maxReport
   unfolding concat
   report-short =
-      let first = drawing-short (length ys) (length d.placings) s.vertices (few-placings d s.within) in
-      let ats = concat-short (atLines ys d) each_at in
+      let first = drawing-short (vertexCount p) (length d.placings) s.vertices (few-placings d s.within) in
+      let ats = concat-short (atLines p d) each_at in
       let places = places-short s.vertices d.placings s.placings boxes-in in
-      rw (lines_from ys d, concat-append (atLines ys d) (map placeLine d.placings ++ endLine ∷ []), concat-append (map placeLine d.placings) (endLine ∷ []))
-      (simp length-append (omega (arith, first, ats, places, at-lines ys d, few-placings d s.within, few-boxes d s.within, s.vertices)))
+      rw (lines_from p d, concat-append (atLines p d) (map placeLine d.placings ++ endLine ∷ []), concat-append (map placeLine d.placings) (endLine ∷ []))
+      (simp length-append (omega (arith, first, ats, places, at-lines p d, few-placings d s.within, few-boxes d s.within, s.vertices)))

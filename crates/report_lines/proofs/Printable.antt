@@ -7,11 +7,11 @@ use Prim.Native.Nat.{ℕ, ◌≤◌, ◌<◌}
 use native.Mathlib.Omega.{arith}
 use borrow.Author.Tests.{eqb-true}
 use lib.Dec.{eqb, leb}
-use lib.ListN.{length, get_or, take, length-map}
+use lib.ListN.{length, take, length-map}
 use lib.IntN.{ℤ}
 use Rattle.ints.specs.Lists.{sum}
 use Rattle.ints.proofs.Tests.{conj-at, test}
-use Rattle.plan.specs.Limits.{maxLevels, maxOnLevel, maxVertices}
+use Rattle.plan.specs.Limits.{maxLevels, maxSpacing, maxOnLevel, maxVertices}
 use Rattle.plan.specs.Plan.{PlanData, vertexCount, numbers}
 use Rattle.plan.specs.Checks.{every, any}
 use Rattle.plan.specs.Acceptable.{acceptable}
@@ -23,33 +23,31 @@ use Rattle.plan.proofs.Levels.{length-numbers, all-numbers}
 use Rattle.text.proofs.Words.{never}
 use Rattle.plan_renumber.specs.inner.Words.{Once}
 use Rattle.passes.specs.Runs.{runsOf}
-use Rattle.passes.specs.Heights.{heightsOf}
 use Rattle.passes.specs.Drawing.{BoxAt, Placing, Drawing}
 use Rattle.passes.specs.Words.{boxesListed, drawingWithin}
 use Rattle.passes.proofs.Sound.{Sound, sound}
 use Rattle.passes.proofs.RunsOn.{bounds}
 use Rattle.passes.proofs.Due.{plan-runs}
-use Rattle.passes.specs.inner.Highest.{maxHeight}
-use Rattle.passes.proofs.Heights.{heights-long, heights-low}
 use Rattle.report.specs.Numbers.{boxBy, placingBy, inNumbers}
 use Rattle.report.specs.Refusal13.{same_numbers, isPass, isOfRun, isRunOfPlan, isDrawing}
 use Rattle.report.proofs.Numbers.{numbers-within, numbers-same}
 use Rattle.report.proofs.SameData.{numbers-equal}
 use Rattle.report_lines.specs.inner.Stored.{drawingFrom, Stored}
-use Rattle.report_lines.proofs.Listed.{vertices-listed, final-within}
+use Rattle.report_lines.proofs.Listed.{vertices-listed}
 
--- A placing of a plan with n vertices, and a drawing whose vertices stand at the heights ys, within the limits. Its boxes need be no run.
+-- A placing of a plan with n vertices, and a drawing, within the limits. Its boxes need be no run.
 pub record PrintablePlacing (n : ℕ) (q : Placing) : Type 0 where
   pub pass : q.pass ≤ 3
   pub level : q.level ≤ maxLevels
   pub boxes : length q.boxes ≤ maxOnLevel
   pub vertices : All (λ (b : BoxAt). b.vertex < n) q.boxes
 
-pub record Printable (ys : List ℕ) (d : Drawing) : Type 0 where
-  pub vertices : length ys ≤ maxVertices
-  pub low : (v : ℕ) → v < length ys → get_or ys v 0 ≤ maxHeight
+pub record Printable (p : PlanData) (d : Drawing) : Type 0 where
+  pub vertices : vertexCount p ≤ maxVertices
+  pub spacing : p.spacing ≤ maxSpacing
+  pub levels : length p.sizes ≤ maxLevels
   pub within : drawingWithin d ≡ true
-  pub placings : All (PrintablePlacing (length ys)) d.placings
+  pub placings : All (PrintablePlacing (vertexCount p)) d.placings
 
 -- ---- lists
 pub all-mapped : {A B : Type 0} {Q : B → Type 0} (f : A → B) {xs : List A} → All (λ x. Q (f x)) xs → All Q (map f xs)
@@ -88,18 +86,17 @@ of-run {p} so q e f =
           (rw same (all-numbers i.first i.count (λ w h k. omega (arith, b.right, b.all, so.total))));
     })
 
-pub printable : (p : PlanData) (d : Drawing) → acceptable p ≡ true → isDrawing p d ≡ true → Printable (heightsOf p d.final) d
+pub printable : (p : PlanData) (d : Drawing) → acceptable p ≡ true → isDrawing p d ≡ true → Printable p d
 unfolding isDrawing
 printable p d a e =
     let so = sound p a in
-    let long = heights-long p d.final in
     let part = conj-at (drawingWithin d) (every isPass d.placings ∷ every (isRunOfPlan p) d.placings ∷ []) e in
-    let runs = all_both (every-all isPass d.placings (part 1)) (every-all (isRunOfPlan p) d.placings (part 2)) in
     record {
-      vertices = omega (arith, long, so.vertices);
-      low = λ v h. heights-low p d.final (sound-plan p a).limits (final-within d (part 0)) v (omega (arith, long));
+      vertices = so.vertices;
+      spacing = (sound-plan p a).limits.spacing-high;
+      levels = omega (arith, so.sizes, so.levels);
       within = part 0;
-      placings = rw long (all_map (λ q h. of-run so q h.0 h.1) runs);
+      placings = all_map (λ q h. of-run so q h.0 h.1) (all_both (every-all isPass d.placings (part 1)) (every-all (isRunOfPlan p) d.placings (part 2)));
     }
 
 -- ---- in remembered numbers
@@ -112,20 +109,19 @@ module _ {n : ℕ} {m : List ℕ} (o : Once n m) where
     vertices = all-mapped (boxBy m) (all_map (λ b l. o.below b.vertex l) h.vertices);
   }
 
-pub printable-by : {n : ℕ} {ys : List ℕ} {d : Drawing} {m : List ℕ} → length ys ≡ n → Once n m → Printable ys d → Printable ys (inNumbers m d)
-printable-by {n} {ys} {d} {m} e o h =
-    let once : Once (length ys) m = rw e o in
-    record {
-      vertices = h.vertices;
-      low = h.low;
-      within = numbers-within m d h.within;
-      placings = all-mapped (placingBy m) (all_map (placing-by once) h.placings);
-    }
+pub printable-by : {p : PlanData} {d : Drawing} {m : List ℕ} → Once (vertexCount p) m → Printable p d → Printable p (inNumbers m d)
+printable-by {p} {d} {m} o h = record {
+  vertices = h.vertices;
+  spacing = h.spacing;
+  levels = h.levels;
+  within = numbers-within m d h.within;
+  placings = all-mapped (placingBy m) (all_map (placing-by o) h.placings);
+}
 
 -- each vertex has its own number
-pub stays_by : (p : PlanData) (d : Drawing) → Printable (heightsOf p d.final) d → length d.preliminary ≡ vertexCount p → length d.final ≡ vertexCount p
+pub stays_by : (p : PlanData) (d : Drawing) → Printable p d → length d.preliminary ≡ vertexCount p → length d.final ≡ vertexCount p
     → inNumbers (numbers 0 (vertexCount p)) d ≡ d
-stays_by p d h e f = numbers-same (vertexCount p) d e f (all_map (λ q k. rw (heights-long p d.final) at k.vertices) h.placings)
+stays_by p d h e f = numbers-same (vertexCount p) d e f (all_map (λ q k. k.vertices) h.placings)
 
 -- ---- the boxes of all placings
 boxes-of : {n : ℕ} (qs : List Placing) → All (PrintablePlacing n) qs → All (λ (b : BoxAt). b.vertex < n) (boxesListed qs)
@@ -133,10 +129,10 @@ unfolding boxesListed
 boxes-of [] all_nil = all_nil
 boxes-of (q ∷ qs) (all_cons h hs) = all_append h.vertices (boxes-of qs hs)
 
-pub boxes-below : {ys : List ℕ} {preliminary finals : List ℤ} {passes levels counts vertices : List ℕ} {positions : List ℤ}
-    → Stored preliminary finals passes levels counts vertices positions → Printable ys (drawingFrom preliminary finals passes levels counts vertices positions)
-    → Below (length ys) (take (sum counts) vertices)
-boxes-below {ys} {preliminary} {finals} {passes} {levels} {counts} {vertices} {positions} s h =
+pub boxes-below : {p : PlanData} {preliminary finals : List ℤ} {passes levels counts vertices : List ℕ} {positions : List ℤ}
+    → Stored preliminary finals passes levels counts vertices positions → Printable p (drawingFrom preliminary finals passes levels counts vertices positions)
+    → Below (vertexCount p) (take (sum counts) vertices)
+boxes-below {p} {preliminary} {finals} {passes} {levels} {counts} {vertices} {positions} s h =
     let d = drawingFrom preliminary finals passes levels counts vertices positions in
     let e = vertices-listed passes levels counts vertices positions s.ofLevels s.ofCounts s.ofVertices s.ofPositions in
     all-get (take (sum counts) vertices) 0 (rw e at (all-mapped (λ (b : BoxAt). b.vertex) (boxes-of d.placings h.placings)))

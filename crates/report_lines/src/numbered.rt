@@ -1,13 +1,16 @@
 // One line of a report, by its number.
+ghost use Rattle.plan_checks.specs.inner.Heights.{heightAt};
 ghost use Rattle.text_write.specs.inner.Written.{Wrote, Fronts};
 ghost use Rattle.report.specs.Lines.{placeLine};
-ghost use Rattle.report_lines.specs.inner.Stored.{vertexLine, VertexRoom, placingOf, PlacingRoom, reportLineOf, LineRoom};
+ghost use Rattle.report_lines.specs.inner.Stored.{heightIn, placingOf, vertexLine, VertexRoom, AtLineRoom, PlacingRoom, reportLineOf, LineRoom};
 
 use crate::forms::{put_at, put_drawing, put_placing};
 use ints::{total, wide};
+use plan::data::Plan;
+use plan_checks::levels::heights;
 use text_write::number::put_word;
 
-// The line of vertex v. `heights` has the height of each vertex.
+// The line of vertex v, where the height of each vertex is known.
 pub fn put_vertex(
     out: &mut [u8],
     at: usize,
@@ -17,9 +20,28 @@ pub fn put_vertex(
     v: usize,
 ) -> usize
     requires { VertexRoom heights.now preliminary.now finals.now v out.old at }
-    ensures { Wrote (vertexLine heights.now preliminary.now finals.now v) out.old at result out.new }
+    ensures { Wrote (vertexLine preliminary.now finals.now v (heightIn heights.now v)) out.old at result out.new }
 {
     put_at(out, at, v as u64, preliminary[v], finals[v], heights[v])
+}
+
+// The line of vertex v, by the sizes of the levels.
+fn put_at_line(
+    out: &mut [u8],
+    at: usize,
+    spacing: u32,
+    sizes: &[u16],
+    preliminary: &[i64],
+    finals: &[i64],
+    v: usize,
+) -> usize
+    requires { AtLineRoom spacing sizes.now preliminary.now finals.now v out.old at }
+    ensures { Wrote (vertexLine preliminary.now finals.now v (heightAt spacing sizes.now v)) out.old at result out.new }
+{
+    let mut height = [0u64; Plan::MAX_VERTICES];
+    let n = preliminary.len();
+    heights(spacing, sizes, &mut height[..n]);
+    put_vertex(out, at, &height[..n], preliminary, finals, v)
 }
 
 // The line of the k-th placing, whose boxes start at `start`.
@@ -51,7 +73,8 @@ pub fn put_listed(
 
 // Line n of the report, at the front of a buffer that has room for it: how many bytes the line has.
 pub fn put_report_line(
-    heights: &[u64],
+    spacing: u32,
+    sizes: &[u16],
     preliminary: &[i64],
     finals: &[i64],
     passes: &[u16],
@@ -62,8 +85,8 @@ pub fn put_report_line(
     n: usize,
     out: &mut [u8],
 ) -> usize
-    requires { LineRoom heights.now preliminary.now finals.now passes.now levels.now counts.now vertices.now positions.now n out.old }
-    ensures { Fronts (reportLineOf heights.now preliminary.now finals.now
+    requires { LineRoom spacing sizes.now preliminary.now finals.now passes.now levels.now counts.now vertices.now positions.now n out.old }
+    ensures { Fronts (reportLineOf spacing sizes.now preliminary.now finals.now
         passes.now levels.now counts.now vertices.now positions.now n)
         out.old result out.new }
 {
@@ -71,7 +94,7 @@ pub fn put_report_line(
         return put_drawing(out, 0, preliminary.len(), passes.len());
     }
     if n <= preliminary.len() {
-        return put_vertex(out, 0, heights, preliminary, finals, n - 1);
+        return put_at_line(out, 0, spacing, sizes, preliminary, finals, n - 1);
     }
     let k = n - 1 - preliminary.len();
     if k < passes.len() {

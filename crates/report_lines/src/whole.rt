@@ -1,16 +1,19 @@
-// All lines of a report, one after another, in time that grows with their number: the placings' boxes are met in their order. `heights`
-// has the height of each vertex.
+// All lines of a report, one after another, in time that grows with their number: the heights are worked out once, and the placings'
+// boxes are met in their order.
 ghost use Rattle.std.specs.Prelude.{◌+◌, ◌<◌};
+ghost use Rattle.plan_checks.specs.inner.Heights.{heightAt};
 ghost use Rattle.text_write.specs.inner.Written.{Wrote, Fronts};
 ghost use Rattle.passes.specs.Stored.{placingsFrom};
-ghost use Rattle.report_lines.specs.inner.Stored.{allVertexLines, VerticesRoom, placeLines, PlacingsRoom, reportOf, ReportRoom};
+ghost use Rattle.report_lines.specs.inner.Stored.{heightIn, allVertexLines, VerticesRoom, AtLinesRoom, placeLines, PlacingsRoom, reportOf, ReportRoom};
 
 use crate::forms::put_drawing;
 use crate::numbered::{put_listed, put_vertex};
 use ints::wide;
+use plan::data::Plan;
+use plan_checks::levels::heights;
 use text_write::number::put_word;
 
-// The vertices' lines.
+// The vertices' lines, where the height of each vertex is known.
 fn put_vertices(
     out: &mut [u8],
     from: usize,
@@ -19,7 +22,7 @@ fn put_vertices(
     finals: &[i64],
 ) -> usize
     requires { VerticesRoom heights.now preliminary.now finals.now out.old from }
-    ensures { Wrote (allVertexLines heights.now preliminary.now finals.now) out.old from result out.new }
+    ensures { Wrote (allVertexLines preliminary.now finals.now (heightIn heights.now)) out.old from result out.new }
 {
     let mut at = from;
     let mut n: usize = 0;
@@ -28,6 +31,24 @@ fn put_vertices(
         n += 1;
     }
     at
+}
+
+// The vertices' lines, by the sizes of the levels.
+fn put_at_lines(
+    out: &mut [u8],
+    at: usize,
+    spacing: u32,
+    sizes: &[u16],
+    preliminary: &[i64],
+    finals: &[i64],
+) -> usize
+    requires { AtLinesRoom spacing sizes.now preliminary.now finals.now out.old at }
+    ensures { Wrote (allVertexLines preliminary.now finals.now (heightAt spacing sizes.now)) out.old at result out.new }
+{
+    let mut height = [0u64; Plan::MAX_VERTICES];
+    let n = preliminary.len();
+    heights(spacing, sizes, &mut height[..n]);
+    put_vertices(out, at, &height[..n], preliminary, finals)
 }
 
 // The placings' lines.
@@ -59,7 +80,8 @@ fn put_placings(
 
 // The whole report, at the front of a buffer that has room for it: how many bytes it has.
 pub fn put_report(
-    heights: &[u64],
+    spacing: u32,
+    sizes: &[u16],
     preliminary: &[i64],
     finals: &[i64],
     passes: &[u16],
@@ -69,13 +91,13 @@ pub fn put_report(
     positions: &[i64],
     out: &mut [u8],
 ) -> usize
-    requires { ReportRoom heights.now preliminary.now finals.now passes.now levels.now counts.now vertices.now positions.now out.old }
-    ensures { Fronts (reportOf heights.now preliminary.now finals.now
+    requires { ReportRoom spacing sizes.now preliminary.now finals.now passes.now levels.now counts.now vertices.now positions.now out.old }
+    ensures { Fronts (reportOf spacing sizes.now preliminary.now finals.now
         passes.now levels.now counts.now vertices.now positions.now)
         out.old result out.new }
 {
     let at_lines = put_drawing(out, 0, preliminary.len(), passes.len());
-    let place_lines = put_vertices(out, at_lines, heights, preliminary, finals);
+    let place_lines = put_at_lines(out, at_lines, spacing, sizes, preliminary, finals);
     let end = put_placings(
         out,
         place_lines,

@@ -7,11 +7,11 @@ use plan::data::Plan;
 use report::data::Drawing;
 use report_lines::numbered::put_report_line;
 
-// Line n, at the front of a buffer that has room for it: how many bytes the line has. `m` has the number of each vertex, `heights` its
-// height.
+// Line n, at the front of a buffer that has room for it: how many bytes the line has. `m` has the number of each vertex.
 pub fn put_line_by(
     m: &[u16],
-    heights: &[u64],
+    spacing: u32,
+    sizes: &[u16],
     preliminary: &[i64],
     finals: &[i64],
     passes: &[u16],
@@ -22,8 +22,8 @@ pub fn put_line_by(
     n: usize,
     out: &mut [u8],
 ) -> usize
-    requires { LineRoomBy m.now heights.now preliminary.now finals.now passes.now levels.now counts.now vertices.now positions.now n out.old }
-    ensures { Fronts (lineBy m.now heights.now preliminary.now finals.now
+    requires { LineRoomBy m.now spacing sizes.now preliminary.now finals.now passes.now levels.now counts.now vertices.now positions.now n out.old }
+    ensures { Fronts (lineBy m.now spacing sizes.now preliminary.now finals.now
         passes.now levels.now counts.now vertices.now positions.now n)
         out.old result out.new }
 {
@@ -42,7 +42,8 @@ pub fn put_line_by(
         &mut names,
     );
     put_report_line(
-        heights,
+        spacing,
+        sizes,
         &starts[..v],
         &ends[..v],
         passes,

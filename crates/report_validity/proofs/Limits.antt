@@ -15,7 +15,7 @@ use Rattle.plan.specs.Plan.{PlanData}
 use Rattle.plan.specs.Limits.{within, maxLevels, maxGap, maxSpacing, maxOnLevel, maxVertices, maxSegments}
 use Rattle.plan.specs.Checks.{every, checksOf}
 use Rattle.plan.specs.Stored.{planData}
-use Rattle.plan.specs.Acceptable.{halvesHold, slopeHolds, limitsHold, acceptable}
+use Rattle.plan.specs.Acceptable.{halvesHold, limitsHold, acceptable}
 use Rattle.plan.specs.declared.data.Plan.{Plan}
 use Rattle.plan.proofs.GraphLaws.{graph, same-checks}
 use Rattle.ints.proofs.Tests.{conj-at, test}
@@ -37,17 +37,16 @@ module _ (p : PlanData) where
   limits-many h = lt-leb (length p.vias) maxVertices h ∙ sym (limits-not (λ l. omega (arith, l.vertices)))
 
   -- all but the last
-  pub limits-last : numbersHold p.levels p.gap p.spacing.least ≡ true → length p.sizes ≡ p.levels → every (within 1 maxOnLevel) p.sizes ≡ true
+  pub limits-last : numbersHold p.levels p.gap p.spacing ≡ true → length p.sizes ≡ p.levels → every (within 1 maxOnLevel) p.sizes ≡ true
       → sum p.sizes ≡ length p.vias → halvesHold p.vias p.halves ≡ true → length p.lowers ≡ length p.uppers
-      → length p.ratings ≡ length p.uppers → allRatings p.ratings ≡ true → slopeHolds p.spacing ≡ true → length p.vias ≤ maxVertices → leb (length p.uppers) maxSegments ≡ limitsHold p
-  limits-last n k s t h e r w d v = test (leb (length p.uppers) maxSegments)
+      → length p.ratings ≡ length p.uppers → allRatings p.ratings ≡ true → length p.vias ≤ maxVertices → leb (length p.uppers) maxSegments ≡ limitsHold p
+  limits-last n k s t h e r w v = test (leb (length p.uppers) maxSegments)
       (λ l.
-      let number = conj-at (within 1 maxLevels p.levels) (within 1 maxGap p.gap ∷ within 1 maxSpacing p.spacing.least ∷ []) n in
+      let number = conj-at (within 1 maxLevels p.levels) (within 1 maxGap p.gap ∷ within 1 maxSpacing p.spacing ∷ []) n in
       l ∙ sym (limits-hold p (record {
         levels = number 0;
         gap = number 1;
         spacing = number 2;
-        slope = d;
         counted = k;
         sizes = s;
         summed = t;

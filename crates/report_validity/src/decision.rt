@@ -9,8 +9,8 @@ ghost use Rattle.plan.specs.Plan.{data_of};
 ghost use Rattle.report.specs.Refusal13.{isStoredPlan};
 
 use ints::total;
-use plan::data::{Plan, Spacing};
-use plan::limits::{half_width_fits, numbers_fit, rating_fits, slope_holds};
+use plan::data::Plan;
+use plan::limits::{half_width_fits, numbers_fit, rating_fits};
 use plan::numbers::wide;
 use plan_checks::checks::check_plan;
 
@@ -80,7 +80,7 @@ fn ratings_hold(ratings: &[u32]) -> bool
 fn limits_hold(
     levels: u32,
     gap: u32,
-    spacing: Spacing,
+    spacing: u32,
     sizes: &[u16],
     vias: &[bool],
     halves: &[u16],
@@ -91,7 +91,7 @@ fn limits_hold(
     ensures { result ≡ limitsHold (data_of levels gap spacing sizes.now vias.now halves.now
         uppers.now lowers.now ratings.now) }
 {
-    if !numbers_fit(levels, gap, spacing.least) {
+    if !numbers_fit(levels, gap, spacing) {
         return false;
     }
     if sizes.len() != wide(levels) {
@@ -115,9 +115,6 @@ fn limits_hold(
     if !ratings_hold(ratings) {
         return false;
     }
-    if !slope_holds(spacing) {
-        return false;
-    }
     vias.len() <= Plan::MAX_VERTICES && uppers.len() <= Plan::MAX_SEGMENTS
 }
 
@@ -125,7 +122,7 @@ fn limits_hold(
 pub fn is_acceptable(
     levels: u32,
     gap: u32,
-    spacing: Spacing,
+    spacing: u32,
     sizes: &[u16],
     vias: &[bool],
     halves: &[u16],

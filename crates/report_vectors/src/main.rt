@@ -39,7 +39,7 @@ fn written_again(text: &[u8], buffer: &mut [u8]) -> bool {
 
 // Answers the next text; false if there is none, or if it is not written again as it is.
 fn answered(text: &mut [u8], out: &mut [u8]) -> bool
-    requires { (65537 ≤ length text.old) × (130074 ≤ length out.old) }
+    requires { (65537 ≤ length text.old) × (119834 ≤ length out.old) }
 {
     let n = next_length();
     if n == NO_MORE {

@@ -14,9 +14,9 @@ use Rattle.script_forms.specs.Forms.{stands_for, fits}
 use Rattle.script_runs.specs.Lists.{isList, wholesIn, signedsIn}
 use Rattle.script_runs.specs.Names.{values_of}
 use Rattle.script_runs.specs.Runs.{hasParts, hasOptions, hasNumbers, hasLists, isRequest, requestIn}
-use Rattle.script_commands.specs.declared.types.Poke.TheVariants.{Drawn, Slope, Vertex, Remembered, Tangled, Final, Listed}
+use Rattle.script_commands.specs.declared.types.Poke.TheVariants.{Drawn, Vertex, Remembered, Tangled, Final, Listed}
 use Rattle.script_commands.specs.Commands.{skip, unknown, load, loadTangled, draw, line, textLine, texts, mark, walk, placeRun, poke}
-use Rattle.script_commands.specs.Table.{longEnough, calls, numberPokes, planPokes, loadingPokes, drawingPokes, saidBy, commandOf}
+use Rattle.script_commands.specs.Table.{longEnough, calls, planPokes, loadingPokes, drawingPokes, saidBy, commandOf}
 
 record Lines : Type 0 where
   empty : commandOf [] ≡ skip
@@ -40,9 +40,6 @@ record Lines : Type 0 where
   below-zero : commandOf (bytes "mark 1 -1") ≡ unknown
   stage : commandOf (bytes "poke 1 stage drawn 30 43 16") ≡ poke (Drawn 30 43 16)
   vertex : commandOf (bytes "poke 1 vertex 44 via 200") ≡ poke (Vertex 44 true 200)
-  sloped : commandOf (bytes "poke 1 slope 1 100") ≡ poke (Slope 1 100)
-  not-sloped : commandOf (bytes "poke 1 slope none") ≡ poke (Slope 0 0)
-  half-sloped : commandOf (bytes "poke 1 slope 1") ≡ unknown
   number : commandOf (bytes "poke 1 mem 4 7") ≡ poke (Remembered 4 7)
   first_way : commandOf (bytes "poke 1 tangled 0") ≡ poke (Tangled false)
   second_way : commandOf (bytes "poke 1 tangled 1") ≡ poke (Tangled true)
@@ -89,7 +86,7 @@ record Lines : Type 0 where
   run-without : commandOf (bytes "placerun r=0 old= nbrs= counts=") ≡ unknown
 
 lines : Lines
-unfolding commandOf word unescaped hexValue saidBy calls numberPokes planPokes loadingPokes drawingPokes fits stands_for parts same number_in naturalIn isNatural every valueFrom hasParts hasOptions hasNumbers hasLists isRequest values_of isList wholesIn signedsIn requestIn
+unfolding commandOf word unescaped hexValue saidBy calls planPokes loadingPokes drawingPokes fits stands_for parts same number_in naturalIn isNatural every valueFrom hasParts hasOptions hasNumbers hasLists isRequest values_of isList wholesIn signedsIn requestIn
 lines = record {
   empty = refl;
   remark = refl;
@@ -112,9 +109,6 @@ lines = record {
   below-zero = refl;
   stage = refl;
   vertex = refl;
-  sloped = refl;
-  not-sloped = refl;
-  half-sloped = refl;
   number = refl;
   first_way = refl;
   second_way = refl;

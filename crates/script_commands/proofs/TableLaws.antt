@@ -26,7 +26,7 @@ use Rattle.script_runs.specs.inner.Filled.{Asks}
 use Rattle.script_forms.specs.Forms.{hasForm, whole_at}
 use Rattle.script_forms.specs.inner.First.{firstForm}
 use Rattle.script_commands.specs.Commands.{Command, skip, unknown, load, loadTangled, walk}
-use Rattle.script_commands.specs.Table.{Row, calls, numberPokes, planPokes, loadingPokes, drawingPokes, saidBy, isSkipped, loading, walking, placing, commandOf}
+use Rattle.script_commands.specs.Table.{Row, calls, planPokes, loadingPokes, drawingPokes, saidBy, isSkipped, loading, walking, placing, commandOf}
 use Rattle.script_commands.specs.inner.Held.{Lent, commandIn, shortened, Inside, Commands, is_bare, Bare}
 use Rattle.script_commands.specs.declared.types.Command.{Command as Found}
 use Rattle.script_commands.specs.declared.types.Command.TheVariants.{Skip, Unknown, Load, LoadTangled, Draw, Clear, Stage, Line, Lines, TextLine, Texts, Mark, Marks, Walk, PlaceRun, Poke}
@@ -105,7 +105,7 @@ module _ (l : List ℕ) where
           unfolding commandOf
           command-place rest q = rw (e, f, g, h, q)
 
-          pub command-said : word (bytes "placerun ") l ≡ nothing → commandOf l ≡ saidBy (calls ++ numberPokes ++ planPokes ++ loadingPokes ++ drawingPokes) l
+          pub command-said : word (bytes "placerun ") l ≡ nothing → commandOf l ≡ saidBy (calls ++ planPokes ++ loadingPokes ++ drawingPokes) l
           unfolding commandOf
           command-said q = rw (e, f, g, h, q)
 
@@ -195,11 +195,7 @@ pub calls-forms : parts 10 (bytes "draw 1\nclear 1\nstage 1\nline 1 N\nline 1 N 
 unfolding parts calls
 calls-forms = refl
 
-pub number-forms : parts 10 (bytes "poke 1 stage empty\npoke 1 stage loaded N N\npoke 1 stage drawn N N N\npoke 1 k N\npoke 1 g N\npoke 1 s N\npoke 1 slope none\npoke 1 slope N N") ≡ formsOf numberPokes
-unfolding parts numberPokes
-number-forms = refl
-
-pub plan-forms : parts 10 (bytes "poke 1 size N N\npoke 1 vertex N box N\npoke 1 vertex N via N\npoke 1 seg N N N\npoke 1 seg N N N N") ≡ formsOf planPokes
+pub plan-forms : parts 10 (bytes "poke 1 stage empty\npoke 1 stage loaded N N\npoke 1 stage drawn N N N\npoke 1 k N\npoke 1 g N\npoke 1 s N\npoke 1 size N N\npoke 1 vertex N box N\npoke 1 vertex N via N\npoke 1 seg N N N\npoke 1 seg N N N N") ≡ formsOf planPokes
 unfolding parts planPokes
 plan-forms = refl
 

@@ -9,7 +9,7 @@ use Rattle.script_words.specs.Numbers.{number_in, isWhole}
 use Rattle.script_texts.specs.Texts.{unescaped}
 use Rattle.script_forms.specs.Forms.{hasForm, whole_at, signedAt}
 use Rattle.script_runs.specs.Runs.{isRequest, requestIn, roomIn}
-use Rattle.script_commands.specs.declared.types.Poke.TheVariants.{Empty, Loaded, Drawn, Levels, Gap, Least, Slope, Size, Vertex, Segment}
+use Rattle.script_commands.specs.declared.types.Poke.TheVariants.{Empty, Loaded, Drawn, Levels, Gap, Spacing, Size, Vertex, Segment}
 use Rattle.script_commands.specs.declared.types.Poke.TheVariants.{Remembered, Tangled, Preliminary, Final, Pass, Level, Listed}
 use Rattle.script_commands.specs.Commands.{Command, skip, unknown, load, loadTangled, draw, clear, stage, line, lines, textLine, texts, mark, marks, walk, placeRun, poke}
 
@@ -40,23 +40,16 @@ calls =
     ∷ row "texts 1" (λ l. texts)
     ∷ []
 
--- "alters the stored record": the stage and the plan's numbers,
-unfoldable pub numberPokes : List Row
-numberPokes =
+-- "alters the stored record": the stage and the plan,
+unfoldable pub planPokes : List Row
+planPokes =
     row "poke 1 stage empty" (λ l. poke Empty)
     ∷ row "poke 1 stage loaded N N" (λ l. poke (Loaded (whole_at l 4) (whole_at l 5)))
     ∷ row "poke 1 stage drawn N N N" (λ l. poke (Drawn (whole_at l 4) (whole_at l 5) (whole_at l 6)))
     ∷ row "poke 1 k N" (λ l. poke (Levels (whole_at l 3)))
     ∷ row "poke 1 g N" (λ l. poke (Gap (whole_at l 3)))
-    ∷ row "poke 1 s N" (λ l. poke (Least (whole_at l 3)))
-    ∷ row "poke 1 slope none" (λ l. poke (Slope 0 0))
-    ∷ row "poke 1 slope N N" (λ l. poke (Slope (whole_at l 3) (whole_at l 4)))
-    ∷ []
-
--- its levels, vertices and segments,
-unfoldable pub planPokes : List Row
-planPokes =
-    row "poke 1 size N N" (λ l. poke (Size (whole_at l 3) (whole_at l 4)))
+    ∷ row "poke 1 s N" (λ l. poke (Spacing (whole_at l 3)))
+    ∷ row "poke 1 size N N" (λ l. poke (Size (whole_at l 3) (whole_at l 4)))
     ∷ row "poke 1 vertex N box N" (λ l. poke (Vertex (whole_at l 3) false (whole_at l 5)))
     ∷ row "poke 1 vertex N via N" (λ l. poke (Vertex (whole_at l 3) true (whole_at l 5)))
     ∷ row "poke 1 seg N N N" (λ l. poke (Segment (whole_at l 3) (whole_at l 4) (whole_at l 5) 1))
@@ -126,7 +119,7 @@ placeOr nothing other = other
 
 unfoldable pub commandOf : List ℕ → Command
 commandOf l =
-    let other = saidBy (calls ++ numberPokes ++ planPokes ++ loadingPokes ++ drawingPokes) l in
+    let other = saidBy (calls ++ planPokes ++ loadingPokes ++ drawingPokes) l in
     let run = placeOr (word (bytes "placerun ") l) other in
     let walked = walkOr (word (bytes "walk ") l) run in
     let tangled = loadOr loadTangled (word (bytes "load 1 tangled ") l) walked in

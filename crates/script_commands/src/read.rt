@@ -4,7 +4,7 @@ ghost use Rattle.script_words.specs.Parts.{words};
 ghost use Rattle.script_texts.specs.Texts.{unescaped};
 ghost use Rattle.script_runs.specs.inner.Filled.{Buffers, buffers};
 ghost use Rattle.script_commands.specs.Commands.{load as strictLoad, loadTangled};
-ghost use Rattle.script_commands.specs.Table.{calls, numberPokes, planPokes, loadingPokes, drawingPokes, saidBy, isSkipped, loading, walking, placing, commandOf};
+ghost use Rattle.script_commands.specs.Table.{calls, planPokes, loadingPokes, drawingPokes, saidBy, isSkipped, loading, walking, placing, commandOf};
 ghost use Rattle.script_commands.specs.inner.Held.{lent, Commands, Bare};
 
 use crate::types::{Command, Poke};
@@ -63,23 +63,29 @@ fn said_by_loading_pokes(line: &[u8]) -> Command
     }
 }
 
-// the plan's levels, vertices and segments,
-fn said_by_plan_pokes(line: &[u8]) -> Command
+// the stage and the plan.
+fn said_by_pokes(line: &[u8]) -> Command
     ensures { Bare (saidBy (planPokes ++ loadingPokes ++ drawingPokes) line.now) result }
 {
     let forms =
-        b"poke 1 size N N\npoke 1 vertex N box N\npoke 1 vertex N via N\npoke 1 seg N N N\npoke 1 seg N N N N";
+        b"poke 1 stage empty\npoke 1 stage loaded N N\npoke 1 stage drawn N N N\npoke 1 k N\npoke 1 g N\npoke 1 s N\npoke 1 size N N\npoke 1 vertex N box N\npoke 1 vertex N via N\npoke 1 seg N N N\npoke 1 seg N N N N";
     match first_form(forms, line) {
-        0 => Command::Poke(Poke::Size(whole_at(line, 3), whole_at(line, 4))),
-        1 => Command::Poke(Poke::Vertex(whole_at(line, 3), false, whole_at(line, 5))),
-        2 => Command::Poke(Poke::Vertex(whole_at(line, 3), true, whole_at(line, 5))),
-        3 => Command::Poke(Poke::Segment(
+        0 => Command::Poke(Poke::Empty),
+        1 => Command::Poke(Poke::Loaded(whole_at(line, 4), whole_at(line, 5))),
+        2 => Command::Poke(Poke::Drawn(whole_at(line, 4), whole_at(line, 5), whole_at(line, 6))),
+        3 => Command::Poke(Poke::Levels(whole_at(line, 3))),
+        4 => Command::Poke(Poke::Gap(whole_at(line, 3))),
+        5 => Command::Poke(Poke::Spacing(whole_at(line, 3))),
+        6 => Command::Poke(Poke::Size(whole_at(line, 3), whole_at(line, 4))),
+        7 => Command::Poke(Poke::Vertex(whole_at(line, 3), false, whole_at(line, 5))),
+        8 => Command::Poke(Poke::Vertex(whole_at(line, 3), true, whole_at(line, 5))),
+        9 => Command::Poke(Poke::Segment(
             whole_at(line, 3),
             whole_at(line, 4),
             whole_at(line, 5),
             1,
         )),
-        4 => Command::Poke(Poke::Segment(
+        10 => Command::Poke(Poke::Segment(
             whole_at(line, 3),
             whole_at(line, 4),
             whole_at(line, 5),
@@ -89,28 +95,9 @@ fn said_by_plan_pokes(line: &[u8]) -> Command
     }
 }
 
-// the stage and the plan's numbers.
-fn said_by_pokes(line: &[u8]) -> Command
-    ensures { Bare (saidBy (numberPokes ++ planPokes ++ loadingPokes ++ drawingPokes) line.now) result }
-{
-    let forms =
-        b"poke 1 stage empty\npoke 1 stage loaded N N\npoke 1 stage drawn N N N\npoke 1 k N\npoke 1 g N\npoke 1 s N\npoke 1 slope none\npoke 1 slope N N";
-    match first_form(forms, line) {
-        0 => Command::Poke(Poke::Empty),
-        1 => Command::Poke(Poke::Loaded(whole_at(line, 4), whole_at(line, 5))),
-        2 => Command::Poke(Poke::Drawn(whole_at(line, 4), whole_at(line, 5), whole_at(line, 6))),
-        3 => Command::Poke(Poke::Levels(whole_at(line, 3))),
-        4 => Command::Poke(Poke::Gap(whole_at(line, 3))),
-        5 => Command::Poke(Poke::Least(whole_at(line, 3))),
-        6 => Command::Poke(Poke::Slope(0, 0)),
-        7 => Command::Poke(Poke::Slope(whole_at(line, 3), whole_at(line, 4))),
-        _ => said_by_plan_pokes(line),
-    }
-}
-
 // A call of the sheet, or a poke.
 fn said(line: &[u8]) -> Command
-    ensures { Bare (saidBy (calls ++ numberPokes ++ planPokes ++ loadingPokes ++ drawingPokes) line.now) result }
+    ensures { Bare (saidBy (calls ++ planPokes ++ loadingPokes ++ drawingPokes) line.now) result }
 {
     let forms =
         b"draw 1\nclear 1\nstage 1\nline 1 N\nline 1 N N\nlines 1\nmark 1 N\nmarks 1\ntext 1 N\ntext 1 N N\ntexts 1";

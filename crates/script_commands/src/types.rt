@@ -12,9 +12,7 @@ pub enum Poke {
     Drawn(usize, usize, usize),
     Levels(usize),
     Gap(usize),
-    Least(usize),
-    // P and Q, 0 and 0 for none.
-    Slope(usize, usize),
+    Spacing(usize),
     Size(usize, usize),
     Vertex(usize, bool, usize),
     Segment(usize, usize, usize, usize),

@@ -4,7 +4,6 @@ use Rattle.std.specs.Prelude.{Bool, true, false, cond, ◌&&◌, List, ℕ, ◌+
 use Rattle.ints.specs.Lists.{sum}
 use Rattle.plan.specs.Limits.{maxLevels, maxVertices, maxSegments}
 use Rattle.plan.specs.declared.data.Plan.{Plan}
-use Rattle.plan.specs.declared.data.Spacing.{Spacing}
 use Rattle.plan.specs.Stored.{storedPlan}
 use Rattle.passes.specs.Words.{maxListed}
 use Rattle.report.specs.declared.data.Drawing.{Drawing}
@@ -12,7 +11,7 @@ use Rattle.sheet.specs.declared.types.Sheet.{Sheet}
 use Rattle.sheet.specs.declared.types.Stage.{Stage}
 use Rattle.sheet.specs.declared.types.Stage.TheVariants.{Empty as NoPlan, Loaded as HasPlan, Drawn as HasDrawing}
 use Rattle.script_commands.specs.declared.types.Poke.{Poke}
-use Rattle.script_commands.specs.declared.types.Poke.TheVariants.{Empty, Loaded, Drawn, Levels, Gap, Least, Slope, Size, Vertex, Segment}
+use Rattle.script_commands.specs.declared.types.Poke.TheVariants.{Empty, Loaded, Drawn, Levels, Gap, Spacing, Size, Vertex, Segment}
 use Rattle.script_commands.specs.declared.types.Poke.TheVariants.{Remembered, Tangled, Preliminary, Final, Pass, Level, Listed}
 use Rattle.script_poke.specs.declared.types.Poked.{Poked}
 
@@ -51,14 +50,8 @@ withDrawing s d = record { header = s.header; plan = s.plan; drawing = d; rememb
 abbrev pub withRemembered : Sheet → List ℕ → Sheet
 withRemembered s m = record { header = s.header; plan = s.plan; drawing = s.drawing; remembered = m }
 
-abbrev pub withLimits : Plan → ℕ → ℕ → Spacing → Plan
+abbrev pub withLimits : Plan → ℕ → ℕ → ℕ → Plan
 withLimits p k g s = storedPlan k g s p.sizes p.vias p.halves p.uppers p.lowers p.ratings
-
-abbrev pub withLeast : Spacing → ℕ → Spacing
-withLeast s n = record { least = n; sideways = s.sideways; downward = s.downward }
-
-abbrev pub withSlope : Spacing → ℕ → ℕ → Spacing
-withSlope s p q = record { least = s.least; sideways = p; downward = q }
 
 abbrev pub withSize : Plan → ℕ → ℕ → Plan
 withSize p i n =
@@ -98,8 +91,7 @@ poke (Loaded v e) s = altered (withStage s (HasPlan v e))
 poke (Drawn v e p) s = altered (withStage s (HasDrawing v e p))
 poke (Levels k) s = altered (withPlan s (withLimits s.plan (in32 k) s.plan.gap s.plan.spacing))
 poke (Gap g) s = altered (withPlan s (withLimits s.plan s.plan.levels (in32 g) s.plan.spacing))
-poke (Least n) s = altered (withPlan s (withLimits s.plan s.plan.levels s.plan.gap (withLeast s.plan.spacing (in32 n))))
-poke (Slope p q) s = altered (withPlan s (withLimits s.plan s.plan.levels s.plan.gap (withSlope s.plan.spacing (in32 p) (in32 q))))
+poke (Spacing n) s = altered (withPlan s (withLimits s.plan s.plan.levels s.plan.gap (in32 n)))
 poke (Size i n) s = alteredIf (ltb i maxLevels) (withPlan s (withSize s.plan i (in16 n))) s
 poke (Vertex i via half) s = alteredIf (ltb i maxVertices) (withPlan s (withVertex s.plan i via (in16 half))) s
 poke (Segment i a b w) s = alteredIf (ltb i maxSegments) (withPlan s (withSegment s.plan i (in32 a) (in32 b) (in32 w))) s

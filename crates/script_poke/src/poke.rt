@@ -1,14 +1,13 @@
 // "alters the stored record"
 ghost use Rattle.std.specs.Prelude.{◌≡◌};
 ghost use Rattle.script_poke.specs.Poked as spec;
-ghost use Rattle.script_poke.specs.Poked.{altered, in32, withStage, withTangled, withPlan, withLimits, withLeast, withSlope};
+ghost use Rattle.script_poke.specs.Poked.{altered, in32, withStage, withTangled, withPlan, withLimits};
 
 use crate::put::{
     in_16, in_32, put_final, put_level, put_listed, put_pass, put_preliminary, put_remembered,
     put_segment, put_size, put_vertex, with_plan, with_stage, with_tangled,
 };
 use crate::types::Poked;
-use plan::data::Spacing;
 use script_commands::types::Poke;
 use sheet::types::{Sheet, Stage};
 
@@ -52,35 +51,11 @@ fn put_gap(sheet: Sheet, n: usize) -> Poked
     }
 }
 
-fn put_least(sheet: Sheet, n: usize) -> Poked
-    ensures { result ≡ altered (withPlan sheet (withLimits sheet.plan sheet.plan.levels sheet.plan.gap (withLeast sheet.plan.spacing (in32 n)))) }
+fn put_spacing(sheet: Sheet, n: usize) -> Poked
+    ensures { result ≡ altered (withPlan sheet (withLimits sheet.plan sheet.plan.levels sheet.plan.gap (in32 n))) }
 {
     let mut plan = sheet.plan;
-    let old = plan.spacing;
-    let new = Spacing {
-        least: in_32(n),
-        sideways: old.sideways,
-        downward: old.downward,
-    };
-    plan.spacing = new;
-    Poked {
-        known: true,
-        sheet: with_plan(sheet, plan),
-    }
-}
-
-fn put_slope(sheet: Sheet, sideways: usize, downward: usize) -> Poked
-    ensures { result ≡ altered (withPlan sheet (withLimits sheet.plan sheet.plan.levels sheet.plan.gap
-        (withSlope sheet.plan.spacing (in32 sideways) (in32 downward)))) }
-{
-    let mut plan = sheet.plan;
-    let old = plan.spacing;
-    let new = Spacing {
-        least: old.least,
-        sideways: in_32(sideways),
-        downward: in_32(downward),
-    };
-    plan.spacing = new;
+    plan.spacing = in_32(n);
     Poked {
         known: true,
         sheet: with_plan(sheet, plan),
@@ -97,8 +72,7 @@ pub fn poke(sheet: Sheet, poke: Poke) -> Poked
         Poke::Drawn(v, e, p) => put_stage(sheet, Stage::Drawn(v, e, p)),
         Poke::Levels(n) => put_levels(sheet, n),
         Poke::Gap(n) => put_gap(sheet, n),
-        Poke::Least(n) => put_least(sheet, n),
-        Poke::Slope(p, q) => put_slope(sheet, p, q),
+        Poke::Spacing(n) => put_spacing(sheet, n),
         Poke::Size(i, n) => put_size(sheet, i, in_16(n)),
         Poke::Vertex(i, via, half) => put_vertex(sheet, i, via, in_16(half)),
         Poke::Segment(i, a, b, w) => put_segment(sheet, i, in_32(a), in_32(b), in_32(w)),

@@ -8,7 +8,7 @@ use Rattle.text.specs.Parser.{word}
 use Rattle.script_words.specs.Parts.{parts, same}
 use Rattle.script_words.specs.Numbers.{valueFrom, isNatural, naturalIn, number_in}
 use Rattle.script_forms.specs.Forms.{stands_for, fits}
-use Rattle.script_commands.specs.Table.{calls, numberPokes, planPokes, loadingPokes, drawingPokes, saidBy, commandOf}
+use Rattle.script_commands.specs.Table.{calls, planPokes, loadingPokes, drawingPokes, saidBy, commandOf}
 use Rattle.script_poke.specs.Poked as pokes
 use Rattle.script_answers.specs.Answers.{stageWords, line_of}
 use Rattle.sheet.specs.Sheet.{emptySheet}
@@ -17,5 +17,5 @@ use Rattle.script_told.specs.Scripts.{answersTo, scriptAnswers}
 
 -- each command finds the sheet as the one before it left it
 kept : scriptAnswers (bytes "stage 1\npoke 1 stage loaded 5 4\nstage 1\n") ≡ bytes "ok empty\nok\nok loaded 5 4\n"
-unfolding scriptAnswers answersTo turn_of pokes.poke line_of stageWords digits decimal concat emptySheet commandOf word saidBy calls numberPokes planPokes loadingPokes drawingPokes fits stands_for parts same number_in naturalIn isNatural every valueFrom
+unfolding scriptAnswers answersTo turn_of pokes.poke line_of stageWords digits decimal concat emptySheet commandOf word saidBy calls planPokes loadingPokes drawingPokes fits stands_for parts same number_in naturalIn isNatural every valueFrom
 kept = refl

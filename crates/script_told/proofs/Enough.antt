@@ -13,7 +13,6 @@ use Rattle.ints.proofs.Tests.{test, conj-at, and-false}
 use Rattle.ints.proofs.Refusals.{none-0, none-at, none-append}
 use Rattle.text.proofs.Words.{never}
 use Rattle.marks.specs.Marks.{WholeMark}
-use Rattle.text_write.proofs.LineLaws.{slopes-few}
 use Rattle.report_validity.proofs.Stored.{stored_of}
 use Rattle.sheet_data.specs.inner.Parts.{Holds}
 use Rattle.sheet_data.proofs.Rooms.{few}
@@ -120,7 +119,7 @@ module _ (s : Sheet) where
       test (noneRefuses (backTests s))
       (λ h.
       let held = stored_of s.plan (verticesIn s.header.stage) (segmentsIn s.header.stage) (not-false (holdsPlan s) (none-at (backTests s) h 2)) in
-      ends (textSaid s) mostAnswers 0 (textLinesIn s) (omega arith) (omega (arith, held.levels, held.segments, slopes-few s.plan.spacing))
+      ends (textSaid s) mostAnswers 0 (textLinesIn s) (omega arith) (omega (arith, held.levels, held.segments))
       (text-stops (textLinesIn s) (rw past-texts (and-false (noneRefuses (backTests s))))))
       (λ h. ends (textSaid s) mostAnswers 0 0 (omega arith) (omega arith) (text-stops 0 (rw h)))
 

@@ -20,7 +20,7 @@ use Rattle.calls.specs.Step.{Lent, step}
 use Rattle.calls.proofs.Unchanged as call
 use Rattle.script_commands.specs.Commands.{Command, skip, unknown, load, loadTangled, draw, clear, stage, line, lines, textLine, texts, mark, marks, walk, placeRun, poke}
 use Rattle.script_commands.specs.declared.types.Poke.{Poke}
-use Rattle.script_commands.specs.declared.types.Poke.TheVariants.{Empty, Loaded, Drawn, Levels, Gap, Least, Slope, Size, Vertex, Segment, Remembered, Tangled, Preliminary, Final, Pass, Level, Listed}
+use Rattle.script_commands.specs.declared.types.Poke.TheVariants.{Empty, Loaded, Drawn, Levels, Gap, Spacing, Size, Vertex, Segment, Remembered, Tangled, Preliminary, Final, Pass, Level, Listed}
 use Rattle.script_poke.specs.Poked as pokes
 use Rattle.script_answers.specs.Answers.{unknown as notKnown, refused, done}
 use Rattle.script_calls.specs.Said.{resultSaid, callSaid}
@@ -82,8 +82,7 @@ poke-missed (Loaded v k) s e = never (cc)
 poke-missed (Drawn v k n) s e = never (cc)
 poke-missed (Levels k) s e = never (cc)
 poke-missed (Gap k) s e = never (cc)
-poke-missed (Least k) s e = never (cc)
-poke-missed (Slope p q) s e = never (cc)
+poke-missed (Spacing k) s e = never (cc)
 poke-missed (Size i n) s e = missed (ltb i maxLevels) _ s e
 poke-missed (Vertex i v h) s e = missed (ltb i maxVertices) _ s e
 poke-missed (Segment i a b w) s e = missed (ltb i maxSegments) _ s e

@@ -18,7 +18,6 @@ use Rattle.passes.proofs.Sound.{sound}
 use Rattle.report.specs.Refusal13.{isDrawing, isDrawingIn}
 use Rattle.report_validity.proofs.Stored.{stored_of}
 use Rattle.report_lines.specs.inner.Stored.{maxLine}
-use Rattle.passes.proofs.Heights.{heights-long}
 use Rattle.report_lines.proofs.Lengths.{line-short}
 use Rattle.report_lines.proofs.Printable.{printable, printable-by}
 use Rattle.marks.specs.Marks.{wholeMarkOf}
@@ -70,7 +69,7 @@ module _ (s : Sheet) (n : ℕ) where
       let v = verticesIn s.header.stage in let e = segmentsIn s.header.stage in let q = placingsIn s.header.stage in
       let t = conj-at (leb q maxListed) (leb (sum (take q s.drawing.counts)) maxListed ∷ isDrawing (planIn s) (drawingIn s) ∷ []) k in
       let p = (stored_of s.plan v e h).plan in
-      line-short (printable-by (heights-long (planIn s) (drawingIn s).final) (own (planIn s) (rememberedIn s) (sound (planIn s) p).total o).once (printable (planIn s) (drawingIn s) p (t 2))) n
+      line-short (printable-by (own (planIn s) (rememberedIn s) (sound (planIn s) p).total o).once (printable (planIn s) (drawingIn s) p (t 2))) n
 
   same-refusal : (b c : List ℕ) → maxLine ≤ length b → maxLine ≤ length c → firstRefusal (lineTests s n b) ≡ firstRefusal (lineTests s n c)
   unfolding firstRefusal

@@ -21,8 +21,8 @@ use Rattle.text_read.specs.Answer.{plan_of}
 use Rattle.text_untangle.proofs.ArrayLaws.{untangled-ok}
 use Rattle.passes.specs.Drawing.{Drawing, drawingOf}
 use Rattle.passes.specs.Demand3.{Demand3}
-use Rattle.report.specs.Lines.{drawingLines}
-use Rattle.report.specs.Numbers.{numberedLines}
+use Rattle.report.specs.Lines.{reportLines}
+use Rattle.report.specs.Numbers.{inNumbers}
 use Rattle.report_lines.proofs.Printable.{printable, stays_by}
 use Rattle.report_validity.proofs.Drawn.{drawn-valid}
 use Rattle.sheet_data.proofs.Cuts.{PlanArrays}
@@ -39,7 +39,7 @@ filled : {A : Type 0} (xs : List A) (n : ℕ) (z : A) → length xs ≤ n → le
 filled xs n z h = over-long xs (replicate n z) (omega (arith, length-replicate n z)) ∙ length-replicate n z
 
 same-report : {p q : PlanData} {m n : List ℕ} {d e : Drawing} → p ≡ q → m ≡ n → d ≡ e
-    → concat (numberedLines p m d) ≡ concat (numberedLines q n e)
+    → concat (reportLines p (inNumbers m d)) ≡ concat (reportLines q (inNumbers n e))
 same-report f g h = rw (f, g, h)
 
 -- of an acceptable plan with its own numbers, and drawn
@@ -65,7 +65,7 @@ module _ (tangled : Bool) (m : List ℕ) (p : PlanData) (a : acceptable p ≡ tr
     pub plan : planIn (draw sheet).sheet ≡ p
     pub drawing : drawingIn (draw sheet).sheet ≡ drawingOf p
     pub demand3 : Demand3 p (drawingOf p)
-    pub report : reportOf (draw sheet).sheet ≡ concat (numberedLines p m (drawingOf p))
+    pub report : reportOf (draw sheet).sheet ≡ concat (reportLines p (inNumbers m (drawingOf p)))
 
   pub drawn : Drawn
   unfolding reportOf
@@ -85,7 +85,7 @@ module _ (s : Sheet) (text : List ℕ) (p : PlanData) (e : reading text ≡ acce
   as_read : Drawn false (numbers 0 (vertexCount p)) p (read-acceptable text p e) (own-test p (numbers 0 (vertexCount p)) (own-numbers p))
   as_read = drawn false (numbers 0 (vertexCount p)) p (read-acceptable text p e) (own-test p (numbers 0 (vertexCount p)) (own-numbers p))
 
-  pub as-read-report : reportOf (draw (load s text).sheet).sheet ≡ concat (drawingLines p (drawingOf p))
+  pub as-read-report : reportOf (draw (load s text).sheet).sheet ≡ concat (reportLines p (drawingOf p))
   as-read-report =
       let a = read-acceptable text p e in
       let d = drawingOf p in
@@ -97,7 +97,7 @@ module _ (s : Sheet) (text : List ℕ) (p : PlanData) (e : tangledReading text �
     pub plan : planIn (draw (loadTangled s text).sheet).sheet ≡ untangled p
     pub drawing : drawingIn (draw (loadTangled s text).sheet).sheet ≡ drawingOf (untangled p)
     pub demand3 : Demand3 (untangled p) (drawingOf (untangled p))
-    pub report : reportOf (draw (loadTangled s text).sheet).sheet ≡ concat (numberedLines (untangled p) (order p) (drawingOf (untangled p)))
+    pub report : reportOf (draw (loadTangled s text).sheet).sheet ≡ concat (reportLines (untangled p) (inNumbers (order p) (drawingOf (untangled p))))
 
   pub drawn-untangled : Untangled
   drawn-untangled =

@@ -4,9 +4,10 @@ use Rattle.ints.specs.Lists.{concat}
 use Rattle.ints.specs.Refusals.{Test, test, check}
 use Rattle.plan.specs.Plan.{PlanData}
 use Rattle.plan_renumber.specs.Renumber.{inverse, renumbered, ownNumbers}
-use Rattle.text.specs.Writing.{slopeLines, lines_of, text_of}
+use Rattle.text.specs.Writing.{lines_of, text_of}
 use Rattle.report.specs.Refusal13.{isStoredPlan, isDrawingIn}
-use Rattle.report.specs.Numbers.{numberedLines}
+use Rattle.report.specs.Lines.{reportLines}
+use Rattle.report.specs.Numbers.{inNumbers}
 use Rattle.marks.specs.Marks.{allNumbers}
 use Rattle.sheet.specs.declared.types.Sheet.{Sheet}
 use Rattle.sheet.specs.Sheet.{is_empty, isDrawn, verticesIn, segmentsIn, placingsIn, planIn, drawingIn, rememberedIn}
@@ -58,9 +59,9 @@ marksIn s = verticesIn s.header.stage + segmentsIn s.header.stage
 abbrev pub test7Mark : Sheet → ℕ → Test
 test7Mark s n = check 7 (ltb n (marksIn s))
 
--- A plan's text has K + E + 2 lines, and one more with a slope.
+-- A plan's text has K + E + 2 lines.
 abbrev pub textLinesIn : Sheet → ℕ
-textLinesIn s = s.plan.levels + segmentsIn s.header.stage + 2 + length (slopeLines s.plan.spacing)
+textLinesIn s = s.plan.levels + segmentsIn s.header.stage + 2
 
 abbrev pub test7Text : Sheet → ℕ → Test
 test7Text s n = check 7 (ltb n (textLinesIn s))
@@ -71,7 +72,7 @@ test14 content buffer = test 14 (ltb (length buffer) (length content))
 
 -- "Report lines use those numbers" that the sheet remembers: the n-th line, and all lines one after another.
 abbrev pub allLines : Sheet → List (List ℕ)
-allLines s = numberedLines (planIn s) (rememberedIn s) (drawingIn s)
+allLines s = reportLines (planIn s) (inNumbers (rememberedIn s) (drawingIn s))
 
 unfoldable pub line_of : Sheet → ℕ → List ℕ
 line_of s n = get_or (allLines s) n []

@@ -8,39 +8,35 @@ use borrow.Author.Tests.{leb-true}
 use lib.Dec.{leb}
 use lib.ListN.{length, take, drop}
 use lib.Seq.{length-take-le}
-use lib.IntN.{ℤ}
 use lib.Ieee.{Float}
 use Rattle.ints.specs.Lists.{sum}
 use Rattle.ints.specs.Reach.{allWithin}
 use Rattle.plan.specs.Limits.{maxVertices, maxSegments}
-use Rattle.plan.specs.Plan.{vertexCount}
 use Rattle.plan.specs.declared.data.Plan.{Plan}
 use Rattle.plan.specs.Acceptable.{acceptable}
 use Rattle.ints.proofs.Tests.{conj-at}
 use Rattle.report_validity.proofs.Stored.{stored_of}
 use Rattle.passes.specs.Words.{maxListed}
-use Rattle.passes.proofs.Heights.{heights-long}
-use Rattle.heights.specs.inner.Asked.{HeightsAsked, Framed}
-use Rattle.heights.proofs.Acceptable.{asked-heights}
 use Rattle.report.specs.Refusal13.{isDrawing, isDrawingIn}
 use Rattle.report_lines.specs.inner.Stored.{Stored}
+use Rattle.report_lines.proofs.ByNumber.{HasPart}
 use Rattle.report_lines.proofs.Listed.{final-within}
 use Rattle.report_lines.proofs.Printable.{Printable, printable}
 use Rattle.report_lines.proofs.Rooms.{drawing-within}
 use Rattle.marks.specs.Marks.{wholeMarkOf, markCount}
 use Rattle.marks.specs.Exact.{ExactMark, ExactFive}
-use Rattle.marks.specs.inner.Asked.{AskedAll, Asked, DataAt}
+use Rattle.marks.specs.inner.Asked.{AskedAll, Asked, DataOf}
 use Rattle.marks.proofs.Exact.{Fits}
 use Rattle.marks.proofs.Acceptable.{asked-all, marks-fit, marks-exact, numbers-exact}
 use Rattle.marks.proofs.All.{all-long}
 use Rattle.report.specs.declared.data.Drawing.{Drawing as Arrays}
 use Rattle.report.specs.declared.data.Counts.{Counts}
-use Rattle.sheet_data.specs.inner.Parts.{planWith, drawingWith, isPlanWith, heightsWith, Holds, marksOf, markWith, numbersWith}
+use Rattle.sheet_data.specs.inner.Parts.{planWith, drawingWith, isPlanWith, Holds, marksOf, markWith, numbersWith}
 use Rattle.sheet_data.proofs.Cuts.{PlanArrays, DrawingArrays, PlanCut, DrawingCut, plan-cut, drawing-cut}
 
 -- ---- as many vertices and segments as the counts say
 module _ (p : Plan) (c : Counts) (h : isPlanWith p c ≡ true) (a : PlanArrays p) where
-  pub vias-long : length (take c.vertices p.vias) ≡ c.vertices
+  vias-long : length (take c.vertices p.vias) ≡ c.vertices
   vias-long = length-take-le c.vertices p.vias (plan-cut a c h).vias
 
   uppers-long : length (take c.segments p.uppers) ≡ c.segments
@@ -52,17 +48,6 @@ module _ (p : Plan) (c : Counts) (h : isPlanWith p c ≡ true) (a : PlanArrays p
   -- so all marks have five numbers each
   pub numbers-long : (d : Arrays) → length (numbersWith p d c) ≡ 5 * marksOf c
   numbers-long d = omega (arith, all-long (planWith p c) (drawingWith d c).final, vias-long, uppers-long)
-
-  -- ---- what heights ask for, by final positions xs
-  module _ (xs : List ℤ) (long : length xs ≡ maxVertices) (near : allWithin (take c.vertices xs) ≡ true) where
-    standing : length (take c.vertices xs) ≡ vertexCount (planWith p c)
-    standing = length-take-le c.vertices xs (omega (arith, long, (plan-cut a c h).few)) ∙ sym vias-long
-
-    pub heights-asked : HeightsAsked p.spacing (take p.levels p.sizes) (take c.segments p.uppers) (take c.segments p.lowers) (take c.vertices xs)
-    heights-asked = asked-heights (planWith p c) (take c.vertices xs) (stored_of p c.vertices c.segments h).plan near standing
-
-    pub framed : Framed (planWith p c) p.spacing (take p.levels p.sizes) (take c.segments p.uppers) (take c.segments p.lowers) (length (take c.vertices xs))
-    framed = record { spacingIs = refl; sizesAre = refl; uppersAre = refl; lowersAre = refl; vertices = sym standing }
 
 module _ (p : Plan) (d : Arrays) (c : Counts) (h : Holds p d c) where
   pub plan-ok : acceptable (planWith p c) ≡ true
@@ -83,11 +68,11 @@ module _ (p : Plan) (d : Arrays) (c : Counts) (h : Holds p d c) where
         drawing = t 2;
       }
 
-  pub prints : Printable (heightsWith p d c) (drawingWith d c)
+  pub prints : Printable (planWith p c) (drawingWith d c)
   prints = printable (planWith p c) (drawingWith d c) plan-ok parts.drawing
 
   -- what the marks are made of is small enough for f64
-  pub finals-near : allWithin (drawingWith d c).final ≡ true
+  finals-near : allWithin (drawingWith d c).final ≡ true
   finals-near = final-within (drawingWith d c) (drawing-within (planWith p c) (drawingWith d c) parts.drawing)
 
   pub mark-fits : (n : ℕ) → Fits (wholeMarkOf (planWith p c) (drawingWith d c).final n)
@@ -123,6 +108,9 @@ module _ (p : Plan) (d : Arrays) (c : Counts) (h : Holds p d c) where
     pub passes-long : length (take c.placings d.passes) ≡ c.placings
     passes-long = length-take-le c.placings d.passes in-drawing.passes
 
+    pub has_part : HasPart (planWith p c) p.spacing (take p.levels p.sizes) (length (take c.vertices d.preliminary))
+    has_part = record { ofSpacing = refl; ofSizes = refl; ofVertices = length-take-le c.vertices p.vias in-plan.vias ∙ sym preliminary-long }
+
     pub stored : Stored (take c.vertices d.preliminary) (take c.vertices d.finals) (take c.placings d.passes) (take c.placings d.levels) (take c.placings d.counts) d.vertices d.positions
     stored = record {
       ofFinals = length-take-le c.vertices d.finals in-drawing.finals ∙ sym preliminary-long;
@@ -134,23 +122,15 @@ module _ (p : Plan) (d : Arrays) (c : Counts) (h : Holds p d c) where
       within = drawing-within (planWith p c) (drawingWith d c) parts.drawing;
     }
 
-    finals-long : length (take c.vertices d.finals) ≡ c.vertices
-    finals-long = length-take-le c.vertices d.finals in-drawing.finals
-
-    all-finals : length (take c.vertices d.finals) ≡ vertexCount (planWith p c)
-    all-finals = finals-long ∙ sym (vias-long p c h.plan a)
-
-    -- ---- heights
-    pub heights-many : length (heightsWith p d c) ≡ c.vertices
-    heights-many = heights-long (planWith p c) (drawingWith d c).final ∙ vias-long p c h.plan a
-
     -- ---- marks
-    pub marks-asked : AskedAll (heightsWith p d c) (take c.vertices p.vias) (take c.vertices p.halves) (take c.segments p.uppers) (take c.segments p.lowers) (take c.vertices d.finals)
-    marks-asked = asked-all (planWith p c) (take c.vertices d.finals) plan-ok finals-near all-finals
+    pub marks-asked : AskedAll p.spacing (take p.levels p.sizes) (take c.vertices p.vias) (take c.vertices p.halves) (take c.segments p.uppers) (take c.segments p.lowers) (take c.vertices d.finals)
+    marks-asked =
+        asked-all (planWith p c) (take c.vertices d.finals) plan-ok finals-near
+        (length-take-le c.vertices d.finals in-drawing.finals ∙ sym (vias-long p c h.plan a))
 
     pub mark-asked : (n : ℕ) → n < marksOf c
-        → Asked (heightsWith p d c) (take c.vertices p.vias) (take c.vertices p.halves) (take c.segments p.uppers) (take c.segments p.lowers) (take c.vertices d.finals) n
+        → Asked p.spacing (take p.levels p.sizes) (take c.vertices p.vias) (take c.vertices p.halves) (take c.segments p.uppers) (take c.segments p.lowers) (take c.vertices d.finals) n
     mark-asked n l = record { lists = marks-asked; number = omega (arith, vias-long p c h.plan a, uppers-long p c h.plan a) }
 
-  pub mark-data : DataAt (planWith p c) (heightsWith p d c) (take c.vertices d.finals) (take c.vertices p.vias) (take c.vertices p.halves) (take c.segments p.uppers) (take c.segments p.lowers)
-  mark-data = record { raised = refl; lists = refl }
+  pub mark-data : DataOf (planWith p c) p.spacing (take p.levels p.sizes) (take c.vertices p.vias) (take c.vertices p.halves) (take c.segments p.uppers) (take c.segments p.lowers)
+  mark-data = refl

@@ -2,10 +2,10 @@
 ghost use Rattle.std.specs.Prelude.{◌≡◌, ◌<◌};
 ghost use Rattle.sheet_data.specs.inner.Parts.{Holds, marksOf, markWith};
 
-use crate::raised::put_heights;
 use marks::marks::mark;
 use marks::types::Mark;
 use plan::data::Plan;
+use plan::numbers::wide;
 use report::data::{Counts, Drawing};
 
 // Mark n, which is there.
@@ -15,15 +15,16 @@ pub fn mark_with(plan: Plan, drawing: Drawing, counts: Counts, n: usize) -> Mark
 {
     let v = counts.vertices;
     let e = counts.segments;
+    let k = wide(plan.levels);
+    let sizes = plan.sizes;
     let vias = plan.vias;
     let halves = plan.halves;
     let uppers = plan.uppers;
     let lowers = plan.lowers;
     let finals = drawing.finals;
-    let mut height = [0u64; Plan::MAX_VERTICES];
-    put_heights(plan, finals, counts, &mut height[..v]);
     mark(
-        &height[..v],
+        plan.spacing,
+        &sizes[..k],
         &vias[..v],
         &halves[..v],
         &uppers[..e],

@@ -4,8 +4,8 @@ ghost use Rattle.text_write.specs.inner.Written.{Fronts};
 ghost use Rattle.report_lines.specs.inner.Stored.{maxLine};
 ghost use Rattle.sheet_data.specs.inner.Parts.{Holds, areOwnWith, lines_of, lineWith};
 
-use crate::raised::put_heights;
 use plan::data::Plan;
+use plan::numbers::wide;
 use report::data::{Counts, Drawing};
 use report_numbers::lines::put_line_by;
 
@@ -26,6 +26,8 @@ pub fn put_line(
 {
     let v = counts.vertices;
     let p = counts.placings;
+    let k = wide(plan.levels);
+    let sizes = plan.sizes;
     let preliminary = drawing.preliminary;
     let finals = drawing.finals;
     let passes = drawing.passes;
@@ -33,11 +35,10 @@ pub fn put_line(
     let boxes = drawing.counts;
     let vertices = drawing.vertices;
     let positions = drawing.positions;
-    let mut height = [0u64; Plan::MAX_VERTICES];
-    put_heights(plan, finals, counts, &mut height[..v]);
     put_line_by(
         &remembered[..v],
-        &height[..v],
+        plan.spacing,
+        &sizes[..k],
         &preliminary[..v],
         &finals[..v],
         &passes[..p],

@@ -1,12 +1,11 @@
-// What is shown in a lent buffer, if the buffer has room for it; else 14. `heights` has the height of each vertex.
+// What is shown in a lent buffer, if the buffer has room for it; else 14.
 ghost use Rattle.plan.specs.Plan.{PlanData};
 ghost use Rattle.marks.specs.Marks.{markCount, allNumbers};
-ghost use Rattle.marks.specs.inner.Asked.{AskedAll, DataAt};
-ghost use Rattle.report_lines.specs.inner.Stored.{reportOf};
+ghost use Rattle.marks.specs.inner.Asked.{AskedAll, DataOf};
 ghost use Rattle.report_numbers.specs.inner.Rooms.{reportBy};
 ghost use Rattle.sheet.specs.Calls.{Writes};
 ghost use Rattle.sheet_fit.specs.inner.Fitted.{fitted, fittedText};
-ghost use Rattle.sheet_fit.specs.inner.Fit.{FitsRoom, FitsRoomBy};
+ghost use Rattle.sheet_fit.specs.inner.Fit.{reportIn, FitsRoom, FitsRoomBy};
 
 use marks::put::put_marks;
 use plan::data::Plan;
@@ -17,7 +16,7 @@ use sheet::types::LineAnswer;
 use text_write::number::put_word;
 
 // No report is longer.
-pub const MAX_REPORT: usize = 130074;
+pub const MAX_REPORT: usize = 119834;
 
 // A buffer that has room for every report.
 pub fn blank() -> [u8; MAX_REPORT] {
@@ -37,7 +36,8 @@ pub fn fit(text: &[u8], out: &mut [u8]) -> LineAnswer
 // All lines of a drawing that lies in slices: made in the lent buffer itself where that has room for every report, else in a buffer of its
 // own, and copied.
 pub fn fit_report(
-    heights: &[u64],
+    spacing: u32,
+    sizes: &[u16],
     preliminary: &[i64],
     finals: &[i64],
     passes: &[u16],
@@ -47,15 +47,16 @@ pub fn fit_report(
     positions: &[i64],
     out: &mut [u8],
 ) -> LineAnswer
-    requires { FitsRoom heights.now preliminary.now finals.now passes.now levels.now boxes.now vertices.now positions.now }
-    ensures { Writes (fittedText (reportOf heights.now preliminary.now finals.now
+    requires { FitsRoom spacing sizes.now preliminary.now finals.now passes.now levels.now boxes.now vertices.now positions.now }
+    ensures { Writes (fittedText (reportIn spacing sizes.now preliminary.now finals.now
         passes.now levels.now boxes.now vertices.now positions.now)
         out.old) result out.new }
 {
     if out.len() < MAX_REPORT {
         let mut room = blank();
         let length = put_report(
-            heights,
+            spacing,
+            sizes,
             preliminary,
             finals,
             passes,
@@ -68,7 +69,8 @@ pub fn fit_report(
         return fit(&room[..length], out);
     }
     LineAnswer::Written(put_report(
-        heights,
+        spacing,
+        sizes,
         preliminary,
         finals,
         passes,
@@ -83,7 +85,8 @@ pub fn fit_report(
 // The same in remembered numbers: `m` has the number of each vertex.
 pub fn fit_report_by(
     m: &[u16],
-    heights: &[u64],
+    spacing: u32,
+    sizes: &[u16],
     preliminary: &[i64],
     finals: &[i64],
     passes: &[u16],
@@ -93,8 +96,8 @@ pub fn fit_report_by(
     positions: &[i64],
     out: &mut [u8],
 ) -> LineAnswer
-    requires { FitsRoomBy m.now heights.now preliminary.now finals.now passes.now levels.now boxes.now vertices.now positions.now }
-    ensures { Writes (fittedText (reportBy m.now heights.now preliminary.now finals.now
+    requires { FitsRoomBy m.now spacing sizes.now preliminary.now finals.now passes.now levels.now boxes.now vertices.now positions.now }
+    ensures { Writes (fittedText (reportBy m.now spacing sizes.now preliminary.now finals.now
         passes.now levels.now boxes.now vertices.now positions.now)
         out.old) result out.new }
 {
@@ -113,7 +116,8 @@ pub fn fit_report_by(
         &mut names,
     );
     fit_report(
-        heights,
+        spacing,
+        sizes,
         &starts[..v],
         &ends[..v],
         passes,
@@ -127,7 +131,8 @@ pub fn fit_report_by(
 
 // All marks of a drawing that lies in slices, five numbers each, with how many there are.
 pub fn fit_marks(
-    heights: &[u64],
+    spacing: u32,
+    sizes: &[u16],
     vias: &[bool],
     halves: &[u16],
     uppers: &[u32],
@@ -135,14 +140,14 @@ pub fn fit_marks(
     finals: &[i64],
     out: &mut [f64],
 ) -> LineAnswer
-    requires { AskedAll heights.now vias.now halves.now uppers.now lowers.now finals.now }
-    ensures { (p : PlanData) → DataAt p heights.now finals.now vias.now halves.now
-        uppers.now lowers.now → Writes (fitted (markCount p) (allNumbers p finals.now) out.old) result out.new }
+    requires { AskedAll spacing sizes.now vias.now halves.now uppers.now lowers.now finals.now }
+    ensures { (p : PlanData) → DataOf p spacing sizes.now vias.now halves.now uppers.now
+        lowers.now → Writes (fitted (markCount p) (allNumbers p finals.now) out.old) result out.new }
 {
     let n = vias.len() + uppers.len();
     if out.len() < 5 * n {
         return LineAnswer::Refused(14);
     }
-    put_marks(heights, vias, halves, uppers, lowers, finals, out);
+    put_marks(spacing, sizes, vias, halves, uppers, lowers, finals, out);
     LineAnswer::Written(n)
 }

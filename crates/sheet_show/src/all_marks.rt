@@ -4,10 +4,10 @@ ghost use Rattle.sheet.specs.Calls.{Writes, WritesMarks};
 ghost use Rattle.sheet_show.specs.inner.Shown.{marksFrom};
 
 use plan::data::Plan;
+use plan::numbers::wide;
 use report::data::{Counts, Drawing};
 use sheet::refusals::{counts_in, show_refusal};
 use sheet::types::{LineAnswer, Sheet};
-use sheet_data::raised::put_heights;
 use sheet_fit::fit::fit_marks;
 
 // 14, and the marks.
@@ -17,15 +17,16 @@ fn marks_of(plan: Plan, drawing: Drawing, counts: Counts, out: &mut [f64]) -> Li
 {
     let v = counts.vertices;
     let e = counts.segments;
+    let k = wide(plan.levels);
+    let sizes = plan.sizes;
     let vias = plan.vias;
     let halves = plan.halves;
     let uppers = plan.uppers;
     let lowers = plan.lowers;
     let finals = drawing.finals;
-    let mut height = [0u64; Plan::MAX_VERTICES];
-    put_heights(plan, finals, counts, &mut height[..v]);
     fit_marks(
-        &height[..v],
+        plan.spacing,
+        &sizes[..k],
         &vias[..v],
         &halves[..v],
         &uppers[..e],

@@ -6,10 +6,10 @@ ghost use Rattle.sheet.specs.Calls.{Writes};
 ghost use Rattle.sheet_fit.specs.inner.Fitted.{fittedText};
 
 use plan::data::Plan;
+use plan::numbers::wide;
 use report::data::{Counts, Drawing};
 use sheet::refusals::{counts_in, show_refusal};
 use sheet::types::{LineAnswer, Sheet};
-use sheet_data::raised::put_heights;
 use sheet_fit::fit::fit_report_by;
 
 // 14, and the lines.
@@ -25,6 +25,8 @@ fn report_of(
 {
     let v = counts.vertices;
     let p = counts.placings;
+    let k = wide(plan.levels);
+    let sizes = plan.sizes;
     let preliminary = drawing.preliminary;
     let finals = drawing.finals;
     let passes = drawing.passes;
@@ -32,11 +34,10 @@ fn report_of(
     let boxes = drawing.counts;
     let vertices = drawing.vertices;
     let positions = drawing.positions;
-    let mut height = [0u64; Plan::MAX_VERTICES];
-    put_heights(plan, finals, counts, &mut height[..v]);
     fit_report_by(
         &remembered[..v],
-        &height[..v],
+        plan.spacing,
+        &sizes[..k],
         &preliminary[..v],
         &finals[..v],
         &passes[..p],

@@ -11,7 +11,6 @@ use Rattle.plan.specs.Segments.{segmentsOf}
 use Rattle.plan.specs.Acceptable.{limitsHold}
 use Rattle.plan.specs.Stored.{storedPlan}
 use Rattle.plan.specs.declared.data.Plan.{Plan}
-use Rattle.plan.specs.declared.data.Spacing.{Spacing}
 use Rattle.plan.proofs.LimitLaws.{limits}
 use Rattle.plan.proofs.Sound.{sound}
 use Rattle.plan_renumber.specs.Renumber.{inverse}
@@ -21,7 +20,7 @@ use Rattle.plan_renumber.proofs.Own.{Own, own}
 use Rattle.plan_renumber.proofs.Kept.{header-same}
 use Rattle.report.specs.declared.data.Counts.{Counts}
 use Rattle.report_validity.proofs.Stored.{stored_of}
-use Rattle.text.specs.Writing.{slopeLines, lines_of}
+use Rattle.text.specs.Writing.{lines_of}
 use Rattle.text_write.specs.inner.Stored.{StoredPlan}
 use Rattle.text_write.proofs.LineLaws.{lines-count}
 use Rattle.sheet_data.specs.inner.Parts.{planWith, isPlanWith, numbersIn, areOwnWith}
@@ -130,18 +129,11 @@ module _ (p : Plan) (m : List ℕ) (c : Counts) (h : isPlanWith p c ≡ true) (t
           ratings = ws i;
         }
 
-    lines_same : length (lines_of (readWith p m c)) ≡ p.levels + c.segments + 2 + length (slopeLines p.spacing)
+    lines_same : length (lines_of (readWith p m c)) ≡ p.levels + c.segments + 2
     lines_same =
         let t = limits (readWith p m c) its-limits in
         lines-count (readWith p m c) (t.ends-long, t.ratings-long)
-        ∙ omega (
-          arith,
-          t.sizes-long,
-          (header-same (planWith p c) (inverse (numbersIn m c))).levels,
-          ap length l.uppersAre,
-          ul,
-          ap (λ (s : Spacing). length (slopeLines s)) (header-same (planWith p c) (inverse (numbersIn m c))).spacing,
-        )
+        ∙ omega (arith, t.sizes-long, (header-same (planWith p c) (inverse (numbersIn m c))).levels, ap length l.uppersAre, ul)
 
     pub as_read : AsRead p m c readPlan
     as_read = record {

@@ -23,10 +23,10 @@ use Rattle.plan.proofs.GraphLaws.{Down}
 use Rattle.plan.proofs.Sound.{goes}
 use Rattle.text.specs.Bytes.{bytes}
 use Rattle.text.specs.Decimal.{decimal}
-use Rattle.text.specs.Writing.{planLine, slopeLineOf, slopeLines, vertexWords, levelLineOf, ratingWords, segmentLineOf, lines_of}
+use Rattle.text.specs.Writing.{planLine, vertexWords, levelLineOf, ratingWords, segmentLineOf, lines_of}
 use Rattle.text.proofs.DecimalLaws.{decimal-length}
 use Rattle.text_write.specs.inner.Data.{line_of, levelVertices, ratedSegment}
-use Rattle.text_write.proofs.LineLaws.{line-plan, line-slope, line-level, line-segment, line-last}
+use Rattle.text_write.proofs.LineLaws.{line-plan, line-level, line-segment, line-last}
 
 abbrev pub maxTextLine : ℕ
 maxTextLine = 648
@@ -37,14 +37,7 @@ module _ (p : PlanData) (l : Limits p) where
   head-short =
       let a = decimal-length 1 p.levels (omega (arith, l.levels-high)) in
       let b = decimal-length 2 p.gap (omega (arith, l.gap-high)) in
-      let c = decimal-length 4 p.spacing.least (omega (arith, l.spacing-high)) in
-      simp length-append (omega arith)
-
-  slope-short : length (slopeLineOf p.spacing) ≤ 16
-  unfolding slopeLineOf
-  slope-short =
-      let a = decimal-length 2 p.spacing.sideways (omega (arith, l.slope.sideways-high)) in
-      let b = decimal-length 2 p.spacing.downward (omega (arith, l.slope.downward-high)) in
+      let c = decimal-length 4 p.spacing (omega (arith, l.spacing-high)) in
       simp length-append (omega arith)
 
   vertex-short : (v : ℕ) → length (vertexWords p v) ≤ 10
@@ -98,12 +91,9 @@ module _ (p : PlanData) (q : limitsHold p ≡ true) (three : check3 p ≡ true) 
   pub line-short : (n : ℕ) → n < length (lines_of p) → length (line_of p n) ≤ maxTextLine
   line-short zero h = rw (line-plan p) (omega (arith, head-short p its))
   line-short (suc n) h =
-      let k = length (slopeLines p.spacing) in
-      let at = suc n - 1 - k in
-      cases (suc n) k
-      (λ less. rw (line-slope p (suc n) (omega arith) less) (omega (arith, slope-short p its)))
-      (λ past. cases (length p.sizes) at
-      (λ low. cases (length p.uppers) (at - length p.sizes)
-      (λ j. rw (line-last p (suc n) (past, low) (its.ends-long, its.ratings-long) j h) (omega arith))
-      (λ j. rw (line-segment p (suc n) (past, low) (its.ends-long, its.ratings-long) j) (omega (arith, segment-line (at - length p.sizes) j))))
-      (λ high. rw (line-level p (suc n) past high) (level-line at)))
+      let at = suc n - 1 - length p.sizes in
+      cases (suc n) (length p.sizes)
+      (λ k. rw (line-level p (suc n) (omega arith) k) (level-line (suc n - 1)))
+      (λ k. cases (length p.uppers) at
+      (λ j. rw (line-last p (suc n) k (its.ends-long, its.ratings-long) j h) (omega arith))
+      (λ j. rw (line-segment p (suc n) k (its.ends-long, its.ratings-long) j) (omega (arith, segment-line at j))))

@@ -14,7 +14,6 @@ use sheet::refusals::counts_in;
 use sheet::types::{LineAnswer, Sheet};
 use sheet_fit::fit::fit;
 use text_write::again::stored_line;
-use text_write::lines::slope_lines;
 
 // No line of a plan's text is longer: a level of 64 boxes.
 const MAX_TEXT_LINE: usize = 648;
@@ -30,8 +29,7 @@ fn text_line_of(
     requires { (isPlanWith plan counts ≡ true) × (areOwnWith plan remembered counts ≡ true) }
     ensures { Writes (textLineFrom plan remembered counts n out.old) result out.new }
 {
-    let lines = wide(plan.levels) + counts.segments + 2 + slope_lines(plan.spacing);
-    if n >= lines {
+    if n >= wide(plan.levels) + counts.segments + 2 {
         return LineAnswer::Refused(7);
     }
     let read = as_read(plan, remembered, counts);

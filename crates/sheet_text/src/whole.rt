@@ -17,7 +17,7 @@ use sheet_fit::fit::fit;
 use text_write::again::stored_text;
 
 // No text of a plan is longer.
-const MAX_TEXT: usize = 51754;
+const MAX_TEXT: usize = 51738;
 
 // 14, and the text.
 fn whole_text_of(

@@ -1,20 +1,19 @@
--- Document 01's cases 8 and 9 and texts with ratings and with a slope, computed from the definition.
+-- Document 01's cases 8 and 9 and texts with ratings, computed from the definition.
 use mathlib.Core.Path.{◌≡◌, refl}
 use mathlib.Core.Bool.{false}
 use mathlib.Core.List.{List, [], ◌∷◌, ◌++◌, map}
 use Prim.Native.Nat.{ℕ}
-use Rattle.plan.specs.Plan.{PlanData, data_of, evenly}
+use Rattle.plan.specs.Plan.{PlanData, data_of}
 use Rattle.text.specs.Bytes.{bytes}
 use Rattle.text.specs.Decimal.{digits, decimal, signed}
 use Rattle.text.specs.Parser.{word, many, digitsAfter, number}
-use Rattle.text.specs.Form.{box, via, levelLine, rating, segmentLine, slopeLine, planText, form_of}
+use Rattle.text.specs.Form.{box, via, levelLine, rating, segmentLine, planText, form_of}
 use Rattle.text.specs.Reading.{Reading, accepted, refused, check2, stored, testsBy, reading}
-use Rattle.text.specs.Writing.{planLine, slopeLineOf, slopeLines, vertexWords, levelLineOf, ratingWords, segmentLineOf, lines_of, text_of}
 use Rattle.plan.proofs.Open.{planOpen}
 
 -- Named on an `unfolding` line, it opens every definition of this floor and of the floors below.
 unfoldable pub textOpen : Unit {0}
-unfolding planOpen digits decimal signed word many digitsAfter number box via levelLine rating segmentLine slopeLine planText form_of check2 stored testsBy reading
+unfolding planOpen digits decimal signed word many digitsAfter number box via levelLine rating segmentLine planText form_of check2 stored testsBy reading
 textOpen = tt
 
 pub case8 : reading (bytes "(plan 2 1 1)\n(level (via))\n(level (box 1))\n(seg 0 1)\n(end)\n") ≡ refused 5
@@ -30,7 +29,7 @@ abbrev reads : List ℕ → Reading
 reads segments = reading (bytes "(plan 2 1 1)\n(level (box 1))\n(level (box 1))\n" ++ segments ++ bytes "(end)\n")
 
 abbrev joined : ℕ → PlanData
-joined w = data_of 2 1 (evenly 1) (1 ∷ 1 ∷ []) (false ∷ false ∷ []) (1 ∷ 1 ∷ []) (0 ∷ []) (1 ∷ []) (w ∷ [])
+joined w = data_of 2 1 1 (1 ∷ 1 ∷ []) (false ∷ false ∷ []) (1 ∷ 1 ∷ []) (0 ∷ []) (1 ∷ []) (w ∷ [])
 
 pub ratings-taken : map reads (bytes "(seg 0 1)\n" ∷ bytes "(seg 0 1 2)\n" ∷ bytes "(seg 0 1 100)\n" ∷ []) ≡ accepted (joined 1) ∷ accepted (joined 2) ∷ accepted (joined 100) ∷ []
 unfolding textOpen
@@ -52,58 +51,3 @@ ratings-unformed = refl
 pub ratings-repeated : map reads (bytes "(seg 0 1)\n(seg 0 1 2)\n" ∷ bytes "(seg 0 1 3)\n(seg 0 1 2)\n" ∷ []) ≡ refused 4 ∷ refused 4 ∷ []
 unfolding textOpen
 ratings-repeated = refl
-
--- ---- a slope: two boxes, one above the other, and what is written as the second line
-abbrev sloping : List ℕ → List ℕ
-sloping second = bytes "(plan 2 1 1)\n" ++ second ++ bytes "(level (box 1))\n(level (box 1))\n(seg 0 1)\n(end)\n"
-
-abbrev slopes : List ℕ → Reading
-slopes second = reading (sloping second)
-
-abbrev sloped : ℕ → ℕ → PlanData
-sloped p q =
-    data_of 2 1 (record { least = 1; sideways = p; downward = q }) (1 ∷ 1 ∷ []) (false ∷ false ∷ []) (1 ∷ 1 ∷ []) (0 ∷ []) (1 ∷ []) (1 ∷ [])
-
-pub slopes-taken : map slopes (bytes "(slope 1 1)\n" ∷ bytes "(slope 100 100)\n" ∷ bytes "(slope 3 2)\n" ∷ [] ∷ [])
-    ≡ accepted (sloped 1 1) ∷ accepted (sloped 100 100) ∷ accepted (sloped 3 2) ∷ accepted (joined 1) ∷ []
-unfolding textOpen
-slopes-taken = refl
-
--- outside 1 to 100, and a written 0 and 0 too
-pub slopes-outside : map slopes (bytes "(slope 0 1)\n" ∷ bytes "(slope 1 0)\n" ∷ bytes "(slope 101 1)\n" ∷ bytes "(slope 1 101)\n" ∷ bytes "(slope 0 0)\n" ∷ [])
-    ≡ refused 2 ∷ refused 2 ∷ refused 2 ∷ refused 2 ∷ refused 2 ∷ []
-unfolding textOpen
-slopes-outside = refl
-
--- before the ends of segments are looked at
-pub slope-before-ends : reading (bytes "(plan 2 1 1)\n(slope 0 1)\n(level (box 1))\n(level (box 1))\n(seg 0 9)\n(end)\n") ≡ refused 2
-unfolding textOpen
-slope-before-ends = refl
-
--- six digits, a leading zero, three numbers, one number
-pub slopes-unformed : map slopes (bytes "(slope 100000 1)\n" ∷ bytes "(slope 1 100000)\n" ∷ bytes "(slope 01 1)\n" ∷ bytes "(slope 1 01)\n"
-    ∷ bytes "(slope 1 1 1)\n" ∷ bytes "(slope 1)\n" ∷ [])
-    ≡ refused 1 ∷ refused 1 ∷ refused 1 ∷ refused 1 ∷ refused 1 ∷ refused 1 ∷ []
-unfolding textOpen
-slopes-unformed = refl
-
--- two spaces, a space and no number, no number, no line feed, no bracket, a line that is empty, the line twice
-pub slopes-unformed-lines : map slopes (bytes "(slope 1  1)\n" ∷ bytes "(slope 1 )\n" ∷ bytes "(slope)\n" ∷ bytes "(slope 1 1)" ∷ bytes "(slope 1 1\n"
-    ∷ bytes "(slope 1 1)\n\n" ∷ bytes "(slope 1 1)\n(slope 1 1)\n" ∷ [])
-    ≡ refused 1 ∷ refused 1 ∷ refused 1 ∷ refused 1 ∷ refused 1 ∷ refused 1 ∷ refused 1 ∷ []
-unfolding textOpen
-slopes-unformed-lines = refl
-
--- as the first line, after a level line, after the segments and after the last line
-pub slopes-elsewhere : map reading (bytes "(slope 1 1)\n(plan 2 1 1)\n(level (box 1))\n(level (box 1))\n(seg 0 1)\n(end)\n"
-    ∷ bytes "(plan 2 1 1)\n(level (box 1))\n(slope 1 1)\n(level (box 1))\n(seg 0 1)\n(end)\n"
-    ∷ bytes "(plan 2 1 1)\n(level (box 1))\n(level (box 1))\n(seg 0 1)\n(slope 1 1)\n(end)\n"
-    ∷ bytes "(plan 2 1 1)\n(level (box 1))\n(level (box 1))\n(seg 0 1)\n(end)\n(slope 1 1)\n" ∷ [])
-    ≡ refused 1 ∷ refused 1 ∷ refused 1 ∷ refused 1 ∷ []
-unfolding textOpen
-slopes-elsewhere = refl
-
--- written again it is the second line, and without a slope there is none
-pub slopes-written : map text_of (sloped 1 1 ∷ sloped 100 100 ∷ joined 1 ∷ []) ≡ sloping (bytes "(slope 1 1)\n") ∷ sloping (bytes "(slope 100 100)\n") ∷ sloping [] ∷ []
-unfolding textOpen planLine slopeLineOf slopeLines vertexWords levelLineOf ratingWords segmentLineOf lines_of text_of
-slopes-written = refl

@@ -44,9 +44,6 @@ before w p q = p ∙ ap (λ (l : List ℕ). w ++ l) q
 pub parts-3 : (a b c t : List ℕ) → a ++ b ++ c ++ t ≡ a ++ (b ++ (c ++ t))
 parts-3 a b c t = simp append_assoc
 
-pub parts-5 : (a b c d e t : List ℕ) → a ++ b ++ c ++ d ++ e ++ t ≡ a ++ (b ++ (c ++ (d ++ (e ++ t))))
-parts-5 a b c d e t = simp append_assoc
-
 pub parts-6 : (a b c d e f t : List ℕ) → a ++ b ++ c ++ d ++ e ++ f ++ t ≡ a ++ (b ++ (c ++ (d ++ (e ++ (f ++ t)))))
 parts-6 a b c d e f t = simp append_assoc
 

@@ -14,26 +14,25 @@ use Rattle.ints.specs.Ratings.{maxRating}
 use Rattle.ints.proofs.Lists.{concat-length}
 use Rattle.plan.specs.Plan.{PlanData, vertexCount, levelOf}
 use Rattle.plan.specs.Segments.{Segment, segmentsFrom, segmentsOf, ratedFrom, ratedOf}
-use Rattle.plan.specs.Limits.{within, maxLevels, maxGap, maxSpacing, maxOnLevel, maxVertices, maxSegments, maxSlope}
+use Rattle.plan.specs.Limits.{within, maxLevels, maxGap, maxSpacing, maxOnLevel, maxVertices, maxSegments}
 use Rattle.plan.specs.Checks.{every, goesOneDown, check3}
 use Rattle.ints.proofs.Tests.{and_left, and_right, conj-at, ◌and◌}
 use Rattle.plan.proofs.LimitLaws.{LimitTests, within-most}
 use Rattle.plan.proofs.RatedLaws.{rated-count}
 use Rattle.plan.proofs.SegmentLaws.{segments-count}
-use Rattle.text.specs.Form.{Vertex, SegmentLine, Slope, Lines}
-use Rattle.text.specs.Reading.{halfInLimit, rowInLimit, ratingInLimit, ratingOf, writtenSlopeInLimit, check2, stored}
+use Rattle.text.specs.Form.{Vertex, SegmentLine, Lines}
+use Rattle.text.specs.Reading.{halfInLimit, rowInLimit, ratingInLimit, ratingOf, check2, stored}
 use Rattle.text.proofs.TestLaws.{every-so, every-and}
 use Rattle.text.proofs.DecimalLaws.{fits}
-use Rattle.text.proofs.WrittenLines.{vertexOk, ratingOk, segmentOk, slopeOk}
+use Rattle.text.proofs.WrittenLines.{vertexOk, ratingOk, segmentOk}
 use Rattle.text.proofs.WrittenForm.{LinesOk}
-use Rattle.text.proofs.PlanLines.{verticesFrom, vertices-of, halves-hold, rows_from, rows_of, sizes-hold, order-holds, segmentLineFrom, ratings-hold, ratings-in-limit, writtenSlope, least-again, slope-holds, slope-in-limit, lines_from, lines_stored}
+use Rattle.text.proofs.PlanLines.{verticesFrom, vertices-of, halves-hold, rows_from, rows_of, sizes-hold, order-holds, segmentLineFrom, ratings-hold, ratings-in-limit, lines_from, lines_stored}
 
 -- ---- the limits of lines
 pub record LineLimits (l : Lines) : Type 0 where
   pub levels : within 1 maxLevels l.levels ≡ true
   pub gap : within 1 maxGap l.gap ≡ true
   pub spacing : within 1 maxSpacing l.spacing ≡ true
-  pub slope : writtenSlopeInLimit l.slope ≡ true
   pub counted : length l.rows ≡ l.levels
   pub rows : every rowInLimit l.rows ≡ true
   pub vertices : sum (map length l.rows) ≤ maxVertices
@@ -43,7 +42,7 @@ pub record LineLimits (l : Lines) : Type 0 where
 -- the tests of `check2` after the first
 abbrev furtherLineLimits : Lines → List Bool
 furtherLineLimits l =
-    within 1 maxGap l.gap ∷ within 1 maxSpacing l.spacing ∷ writtenSlopeInLimit l.slope
+    within 1 maxGap l.gap ∷ within 1 maxSpacing l.spacing
     ∷ eqb (length l.rows) l.levels ∷ every rowInLimit l.rows
     ∷ leb (sum (map length l.rows)) maxVertices ∷ leb (length l.segments) maxSegments
     ∷ every (λ s. ratingInLimit s.rating) l.segments ∷ []
@@ -56,18 +55,17 @@ check2-of l h =
       levels = test 0;
       gap = test 1;
       spacing = test 2;
-      slope = test 3;
-      counted = eqb-true (length l.rows) l.levels (test 4);
-      rows = test 5;
-      vertices = leb-true (sum (map length l.rows)) maxVertices (test 6);
-      segments = leb-true (length l.segments) maxSegments (test 7);
-      ratings = test 8;
+      counted = eqb-true (length l.rows) l.levels (test 3);
+      rows = test 4;
+      vertices = leb-true (sum (map length l.rows)) maxVertices (test 5);
+      segments = leb-true (length l.segments) maxSegments (test 6);
+      ratings = test 7;
     }
 
 pub check2-holds : (l : Lines) → LineLimits l → check2 l ≡ true
 unfolding check2
 check2-holds l h =
-    h.levels and h.gap and h.spacing and h.slope
+    h.levels and h.gap and h.spacing
     and eq-eqb (length l.rows) l.levels h.counted and h.rows
     and le-leb (sum (map length l.rows)) maxVertices h.vertices and le-leb (length l.segments) maxSegments h.segments
     and h.ratings
@@ -83,8 +81,7 @@ stored-limits l ok h =
     record {
       levels = h.levels;
       gap = h.gap;
-      spacing = rw (least-again l.spacing l.slope) h.spacing;
-      slope = slope-holds l.spacing l.slope h.slope;
+      spacing = h.spacing;
       counted = length-map l.rows length ∙ h.counted;
       sizes = every-and (leb 1) (λ n. leb n maxOnLevel) (map length l.rows) low high;
       summed = sym (concat-length l.rows) ∙ sym count;
@@ -100,13 +97,6 @@ stored-limits l ok h =
 within-fits : (lo hi n : ℕ) → hi < 100000 → within lo hi n ≡ true → fits n ≡ true
 within-fits lo hi n l h = lt-ltb n 100000 (omega (arith, within-most lo hi n h))
 
-slope-ok : (o : Option Slope) → writtenSlopeInLimit o ≡ true → slopeOk o ≡ true
-slope-ok none e = refl
-slope-ok (some l) e =
-    let p = and_left (within 1 maxSlope l.sideways) (within 1 maxSlope l.downward) e in
-    let q = and_right (within 1 maxSlope l.sideways) (within 1 maxSlope l.downward) e in
-    within-fits 1 maxSlope l.sideways (omega arith) p and within-fits 1 maxSlope l.downward (omega arith) q
-
 module _ (p : PlanData) (h : LimitTests p) where
   pub lines-stored-again : stored (lines_from p) ≡ p
   lines-stored-again = lines_stored p h.halves h.summed h.ends h.rated
@@ -119,8 +109,7 @@ module _ (p : PlanData) (h : LimitTests p) where
       record {
         levels = within-fits 1 maxLevels p.levels (omega arith) h.levels;
         gap = within-fits 1 maxGap p.gap (omega arith) h.gap;
-        spacing = within-fits 1 maxSpacing p.spacing.least (omega arith) h.spacing;
-        slope = slope-ok (writtenSlope p.spacing) (slope-in-limit p.spacing h.slope);
+        spacing = within-fits 1 maxSpacing p.spacing (omega arith) h.spacing;
         rows = r.hold (ltb 0) vertexOk (every-so (within 1 maxOnLevel) (ltb 0) (λ n e. and_left (leb 1 n) (leb n maxOnLevel) e) p.sizes h.sizes) v.ok;
         segments = s;
       }
@@ -137,7 +126,6 @@ module _ (p : PlanData) (h : LimitTests p) where
         levels = h.levels;
         gap = h.gap;
         spacing = h.spacing;
-        slope = slope-in-limit p.spacing h.slope;
         counted = sym (length-map (rows_from p.sizes (verticesFrom p.vias p.halves)) length) ∙ ap length r.sizes-again ∙ h.counted;
         rows = r.hold few halfInLimit (every-so (within 1 maxOnLevel) few (λ n e. and_right (leb 1 n) (leb n maxOnLevel) e) p.sizes h.sizes) v.in-limit;
         vertices = rw r.sizes-again (omega (arith, h.summed, h.vertices));

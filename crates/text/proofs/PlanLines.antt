@@ -1,30 +1,29 @@
--- The lines of a plan's data within the limits: its slope if it has one, its vertices, cut into rows by the level sizes, and its segments
--- with their ratings. What is stored of them is the plan again.
+-- The lines of a plan's data within the limits: its vertices, cut into rows by the level sizes, and its segments with their ratings.
+-- What is stored of them is the plan again.
 use mathlib.Core.Path.{◌≡◌, refl, sym, ◌∙◌, ap, fun_ext}
 use mathlib.Core.Bool.{Bool, true, false, cond, ◌&&◌}
 use mathlib.Core.List.{List, [], ◌∷◌, map, map-map}
 use mathlib.Core.Option.{Option, none, some}
 use Prim.Native.Nat.{ℕ, suc}
 use native.Mathlib.Omega.{arith}
-use borrow.Author.Tests.{leb-true, le-leb, lt-ltb, eqb-true, eqb-false, ne_eqb}
+use borrow.Author.Tests.{leb-true, le-leb, lt-ltb, eqb-true, eqb-false}
 use lib.Dec.{leb, eqb}
 use lib.ListN.{length, take, drop, length-drop, take-append-drop}
 use lib.Seq.{length-take-le}
 use Rattle.ints.specs.Lists.{sum, concat}
 use Rattle.ints.specs.Ratings.{maxRating, isRating, allRatings}
 use Rattle.ints.proofs.Ratings.{rating-least, rating-most, rating-make}
-use Rattle.plan.specs.declared.data.Spacing.{Spacing}
 use Rattle.plan.specs.Plan.{PlanData}
 use Rattle.plan.specs.Segments.{Segment, Rated, segmentsFrom, segmentsOf, ratedFrom, ratedOf}
-use Rattle.plan.specs.Limits.{within, maxHalfWidth, maxSlope}
+use Rattle.plan.specs.Limits.{maxHalfWidth}
 use Rattle.plan.specs.Checks.{every}
-use Rattle.plan.specs.Acceptable.{halfHolds, halvesHold, hasSlope, slopeHolds}
+use Rattle.plan.specs.Acceptable.{halfHolds, halvesHold}
 use Rattle.plan.proofs.LimitLaws.{within-least, within-most}
 use Rattle.plan.proofs.RatedLaws.{rated-segments, rated-ratings}
 use Rattle.plan.proofs.SegmentLaws.{uppers-again, lowers-again, segments-count}
 use Rattle.ints.proofs.Tests.{and_left, and_right, test, ◌and◌}
-use Rattle.text.specs.Form.{Vertex, SegmentLine, Slope, Lines}
-use Rattle.text.specs.Reading.{halfInLimit, ratingInLimit, ratingOf, writtenSlopeInLimit, spacingOf, stored}
+use Rattle.text.specs.Form.{Vertex, SegmentLine, Lines}
+use Rattle.text.specs.Reading.{halfInLimit, ratingInLimit, ratingOf, stored}
 use Rattle.text.proofs.Words.{never}
 use Rattle.text.proofs.TestLaws.{every_one, every-cons, every_append, every-both}
 use Rattle.text.proofs.WrittenLines.{vertexOk}
@@ -176,44 +175,12 @@ module _ (rs : List Rated) where
   pub line-ratings : map (λ s. ratingOf s.rating) (map segmentLineFrom rs) ≡ map (λ r. r.rating) rs
   line-ratings = map-map (λ s. ratingOf s.rating) segmentLineFrom rs ∙ ap (λ (f : Rated → ℕ). map f rs) (fun_ext (λ r. written-again r.rating))
 
--- ---- the spacing with its slope
-abbrev pub writtenSlope : Spacing → Option Slope
-writtenSlope s = cond (hasSlope s) (some (record { sideways = s.sideways; downward = s.downward })) none
-
-pub least-again : (s : ℕ) (o : Option Slope) → (spacingOf s o).least ≡ s
-least-again s none = refl
-least-again s (some l) = refl
-
-spacing-again : (s : Spacing) → spacingOf s.least (writtenSlope s) ≡ s
-spacing-again s = test (eqb s.sideways 0 && eqb s.downward 0)
-    (λ e.
-    let p = eqb-true s.sideways 0 (and_left (eqb s.sideways 0) (eqb s.downward 0) e) in
-    let q = eqb-true s.downward 0 (and_right (eqb s.sideways 0) (eqb s.downward 0) e) in
-    rw e (λ i. record { least = s.least; sideways = sym p i; downward = sym q i }))
-    (λ e. rw e)
-
--- a slope within its limit is no 0 and 0
-pub slope-is : (s : ℕ) (l : Slope) → writtenSlopeInLimit (some l) ≡ true → hasSlope (spacingOf s (some l)) ≡ true
-slope-is s l e =
-    let least = within-least 1 maxSlope l.sideways (and_left (within 1 maxSlope l.sideways) (within 1 maxSlope l.downward) e) in
-    rw (ne_eqb l.sideways 0 (λ z. absurd (omega arith)))
-
-pub slope-holds : (s : ℕ) (o : Option Slope) → writtenSlopeInLimit o ≡ true → slopeHolds (spacingOf s o) ≡ true
-unfolding slopeHolds
-slope-holds s none e = refl
-slope-holds s (some l) e = rw (slope-is s l e) e
-
-pub slope-in-limit : (s : Spacing) → slopeHolds s ≡ true → writtenSlopeInLimit (writtenSlope s) ≡ true
-unfolding slopeHolds
-slope-in-limit s h = test (eqb s.sideways 0 && eqb s.downward 0) (λ e. rw e) (λ e. rw e (rw e at h))
-
 -- ---- all lines
 unfoldable pub lines_from : PlanData → Lines
 lines_from p = record {
   levels = p.levels;
   gap = p.gap;
-  spacing = p.spacing.least;
-  slope = writtenSlope p.spacing;
+  spacing = p.spacing;
   rows = rows_from p.sizes (verticesFrom p.vias p.halves);
   segments = map segmentLineFrom (ratedOf p);
 }
@@ -230,4 +197,4 @@ lines_stored p h s e k =
     let a : map (λ s. s.segment.upper) (map segmentLineFrom rs) ≡ p.uppers = line-uppers rs ∙ rw (rated-segments ss p.ratings count) (uppers-again p.uppers p.lowers e) in
     let b : map (λ s. s.segment.lower) (map segmentLineFrom rs) ≡ p.lowers = line-lowers rs ∙ rw (rated-segments ss p.ratings count) (lowers-again p.uppers p.lowers e) in
     let w : map (λ s. ratingOf s.rating) (map segmentLineFrom rs) ≡ p.ratings = line-ratings rs ∙ rated-ratings ss p.ratings count in
-    rw (spacing-again p.spacing, r.order, r.sizes-again, v.vias-again, v.halves-again, a, b, w)
+    rw (r.order, r.sizes-again, v.vias-again, v.halves-again, a, b, w)

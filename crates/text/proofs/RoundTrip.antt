@@ -55,15 +55,15 @@ ends p l c =
     (segments-hold endsBelow ss ws (ends-below p l.vertices c)) (ratings-in-limit ss ws l.ratings)
 
 text-form : (p : PlanData) → LimitTests p → text_of p ≡ formText (lines_from p)
-text-form p l = ap text_of (sym (lines-stored-again p l)) ∙ stored-text (lines_from p) (lines-limits p l).slope (lines-limits p l).ratings
+text-form p l = ap text_of (sym (lines-stored-again p l)) ∙ stored-text (lines_from p) (lines-limits p l).ratings
 
 -- How long the text is of a plan within its limits whose segments end at its vertices.
-pub limits-short : (p : PlanData) → limitsHold p ≡ true → check3 p ≡ true → length (text_of p) ≤ 51754
+pub limits-short : (p : PlanData) → limitsHold p ≡ true → check3 p ≡ true → length (text_of p) ≤ 51738
 unfolding lines_from
 limits-short p h c = let l = limit-tests p h in rw (text-form p l) (form-short (lines_from p) (lines-limits p l) (ends p l c))
 
--- "A text of an acceptable plan has at most 51,754 bytes"
-pub text-short : (p : PlanData) → acceptable p ≡ true → length (text_of p) ≤ 51754
+-- "A text of an acceptable plan has at most 51,738 bytes"
+pub text-short : (p : PlanData) → acceptable p ≡ true → length (text_of p) ≤ 51738
 text-short p h = let a = acceptable-of p h in limits-short p (limits-hold p a.limits) a.checks.three
 
 -- The text of an acceptable plan reads as the plan.
@@ -107,9 +107,7 @@ formed-of checks s p r =
 
 -- its text is the text that was read, and its data are within the limits
 formed-text : {s : List ℕ} {p : PlanData} → Formed s p → text_of p ≡ s
-formed-text {s} {p} f =
-    let l = check2-of f.lines f.two in
-    ap text_of (sym f.stores) ∙ stored-text f.lines l.slope l.ratings ∙ sym (form-writes s f.lines f.form).0
+formed-text {s} {p} f = ap text_of (sym f.stores) ∙ stored-text f.lines (check2-of f.lines f.two).ratings ∙ sym (form-writes s f.lines f.form).0
 
 formed-limits : {s : List ℕ} {p : PlanData} → Formed s p → LimitTests p
 formed-limits {s} {p} f =

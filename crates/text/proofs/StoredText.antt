@@ -1,6 +1,6 @@
 -- The text of the data stored of some lines is the text written of these lines: the vertices from a level's first number on
--- are that level's row, and the segments by their two ends and their ratings are the segments. A rating of 1 is never written and a slope
--- of 0 and 0 neither, so that of lines within the limits each is written as it stood.
+-- are that level's row, and the segments by their two ends and their ratings are the segments. A rating of 1 is never written, so that
+-- of lines within the limits each is written as it stood.
 use mathlib.Core.Path.{◌≡◌, refl, sym, ◌∙◌, ap, fun_ext}
 use mathlib.Core.Bool.{true, false}
 use mathlib.Core.List.{List, [], ◌∷◌, ◌++◌, map, append_assoc, append-nil}
@@ -17,24 +17,21 @@ use Rattle.plan.specs.Plan.{PlanData, numbers, levelsFrom, levelsOf}
 use Rattle.plan.specs.Checks.{every}
 use Rattle.plan.specs.Segments.{segmentsFrom, segmentsOf, ratedFrom, ratedOf}
 use Rattle.plan.proofs.LimitLaws.{within-least}
-use Rattle.text.specs.Form.{Vertex, SegmentLine, Slope, Lines}
-use Rattle.text.specs.Reading.{ratingInLimit, ratingOf, writtenSlopeInLimit, spacingOf, stored}
-use Rattle.text.specs.Writing.{planLine, slopeLineOf, slopeLines, vertexWords, levelLineOf, ratingWords, segmentLineOf, lastLine, lines_of, text_of}
-use Rattle.text.proofs.WrittenLines.{vertexText, rowText, ratingText, segmentText, slopeText}
+use Rattle.text.specs.Form.{Vertex, SegmentLine, Lines}
+use Rattle.text.specs.Reading.{ratingInLimit, ratingOf, stored}
+use Rattle.text.specs.Writing.{planLine, vertexWords, levelLineOf, ratingWords, segmentLineOf, lastLine, lines_of, text_of}
+use Rattle.text.proofs.WrittenLines.{vertexText, rowText, ratingText, segmentText}
 use Rattle.text.proofs.TestLaws.{every_one}
-use Rattle.text.proofs.ParserLaws.{parts-3}
 use Rattle.text.proofs.WrittenForm.{headText, formText}
-use Rattle.text.proofs.PlanLines.{least-again, slope-is}
 
 -- ---- lists of lines
-concat-lines : (a b c : List (List ℕ)) (z : List ℕ) → concat (a ++ b ++ c ++ z ∷ []) ≡ concat a ++ (concat b ++ (concat c ++ z))
+concat-lines : (a b : List (List ℕ)) (z : List ℕ) → concat (a ++ b ++ z ∷ []) ≡ concat a ++ (concat b ++ z)
 unfolding concat
-concat-lines a b c z = concat-append (a ++ b ++ c) (z ∷ []) ∙ rw (concat-append (a ++ b) c, concat-append a b, append-nil z) (parts-3 (concat a) (concat b) (concat c) z)
+concat-lines a b z = concat-append (a ++ b) (z ∷ []) ∙ rw (concat-append a b, append-nil z, append_assoc)
 
-text-lines : (p : PlanData)
-    → text_of p ≡ planLine p ++ (concat (slopeLines p.spacing) ++ (concat (map (levelLineOf p) (levelsOf p)) ++ (concat (map segmentLineOf (ratedOf p)) ++ lastLine)))
+text-lines : (p : PlanData) → text_of p ≡ planLine p ++ (concat (map (levelLineOf p) (levelsOf p)) ++ (concat (map segmentLineOf (ratedOf p)) ++ lastLine))
 unfolding text_of lines_of concat
-text-lines p = ap (λ (t : List ℕ). planLine p ++ t) (concat-lines (slopeLines p.spacing) (map (levelLineOf p) (levelsOf p)) (map segmentLineOf (ratedOf p)) lastLine)
+text-lines p = ap (λ (t : List ℕ). planLine p ++ t) (concat-lines (map (levelLineOf p) (levelsOf p)) (map segmentLineOf (ratedOf p)) lastLine)
 
 -- ---- the vertices of a row, by their numbers
 -- what is read past the last vertex
@@ -77,12 +74,6 @@ segments-text (s ∷ ss) e =
     let a = every_one (λ (s : SegmentLine). ratingInLimit s.rating) s ss e in
     rw (words-text s.rating a.0, segments-text ss a.1)
 
--- ---- the slope, where it is written
-slope-text : (s : ℕ) (o : Option Slope) → writtenSlopeInLimit o ≡ true → concat (slopeLines (spacingOf s o)) ≡ slopeText o
-unfolding slopeLines slopeLineOf concat
-slope-text s none e = refl
-slope-text s (some l) e = rw (slope-is s l e) (append-nil (slopeText (some l)))
-
 -- ---- the whole text
 module _ (l : Lines) where
   stored-words : (i : ℕ) → vertexWords (stored l) i ≡ vertexText (get_or (concat l.rows) i noVertex)
@@ -97,15 +88,11 @@ module _ (l : Lines) where
   unfolding levelsOf stored
   stored-rows = rows-text (stored l) (concat l.rows) stored-words 0 l.rows refl
 
-  module _ (slope : writtenSlopeInLimit l.slope ≡ true) (ratings : every (λ s. ratingInLimit s.rating) l.segments ≡ true) where
-    stored-slope : concat (slopeLines (stored l).spacing) ≡ slopeText l.slope
-    unfolding stored
-    stored-slope = slope-text l.spacing l.slope slope
-
+  module _ (ok : every (λ s. ratingInLimit s.rating) l.segments ≡ true) where
     stored-segments : map segmentLineOf (ratedOf (stored l)) ≡ map segmentText l.segments
     unfolding segmentsOf ratedOf stored
-    stored-segments = segments-text l.segments ratings
+    stored-segments = segments-text l.segments ok
 
     pub stored-text : text_of (stored l) ≡ formText l
     unfolding formText headText planLine stored
-    stored-text = text-lines (stored l) ∙ rw (least-again l.spacing l.slope, stored-slope, stored-rows, stored-segments)
+    stored-text = text-lines (stored l) ∙ rw (stored-rows, stored-segments)

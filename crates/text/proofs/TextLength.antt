@@ -1,5 +1,5 @@
--- How long a text can be: 20 bytes for the plan line, 16 for the slope line, 8 for a level line and 10 for each vertex, 20 for a segment line
--- with its rating and 6 for the last. So the limit of 65,536 bytes never keeps out a plan within the limits.
+-- How long a text can be: 20 bytes for the plan line, 8 for a level line and 10 for each vertex, 20 for a segment line with its rating
+-- and 6 for the last. So the limit of 65,536 bytes never keeps out a plan within the limits.
 use mathlib.Core.Path.{◌≡◌}
 use mathlib.Core.Bool.{Bool, true, false}
 use mathlib.Core.List.{List, [], ◌∷◌, map}
@@ -11,15 +11,15 @@ use lib.Dec.{ltb, leb}
 use lib.ListN.{length, length-append}
 use Rattle.ints.specs.Lists.{sum, concat}
 use Rattle.ints.specs.Ratings.{maxRating}
-use Rattle.plan.specs.Limits.{within, maxLevels, maxGap, maxSpacing, maxHalfWidth, maxOnLevel, maxVertices, maxSlope}
+use Rattle.plan.specs.Limits.{maxLevels, maxGap, maxSpacing, maxHalfWidth, maxOnLevel, maxVertices}
 use Rattle.plan.specs.Checks.{every}
 use Rattle.ints.proofs.Tests.{and_left, and_right}
 use Rattle.plan.proofs.LimitLaws.{within-most}
-use Rattle.text.specs.Form.{Vertex, SegmentLine, Slope, Lines}
-use Rattle.text.specs.Reading.{halfInLimit, rowInLimit, ratingInLimit, writtenSlopeInLimit}
+use Rattle.text.specs.Form.{Vertex, SegmentLine, Lines}
+use Rattle.text.specs.Reading.{halfInLimit, rowInLimit, ratingInLimit}
 use Rattle.text.proofs.TestLaws.{every_one}
 use Rattle.text.proofs.DecimalLaws.{decimal-length}
-use Rattle.text.proofs.WrittenLines.{vertexText, rowText, ratingText, segmentText, slopeText}
+use Rattle.text.proofs.WrittenLines.{vertexText, rowText, ratingText, segmentText}
 use Rattle.text.proofs.WrittenForm.{headText, formText}
 use Rattle.text.proofs.PlanLimits.{LineLimits, endsBelow, shortLine}
 
@@ -75,21 +75,11 @@ head-short k g s a b c =
     let lc = decimal-length 4 s (omega arith) in
     simp length-append (omega arith)
 
-slope-short : (o : Option Slope) → writtenSlopeInLimit o ≡ true → length (slopeText o) ≤ 16
-slope-short none e = omega arith
-slope-short (some l) e =
-    let p = within-most 1 maxSlope l.sideways (and_left (within 1 maxSlope l.sideways) (within 1 maxSlope l.downward) e) in
-    let q = within-most 1 maxSlope l.downward (and_right (within 1 maxSlope l.sideways) (within 1 maxSlope l.downward) e) in
-    let lp = decimal-length 2 l.sideways (omega arith) in
-    let lq = decimal-length 2 l.downward (omega arith) in
-    simp length-append (omega arith)
-
-pub form-short : (l : Lines) → LineLimits l → every shortLine l.segments ≡ true → length (formText l) ≤ 51754
+pub form-short : (l : Lines) → LineLimits l → every shortLine l.segments ≡ true → length (formText l) ≤ 51738
 unfolding formText
 form-short l h e =
     let k = within-most 1 maxLevels l.levels h.levels in
     let head = head-short l.levels l.gap l.spacing k (within-most 1 maxGap l.gap h.gap) (within-most 1 maxSpacing l.spacing h.spacing) in
-    let slope = slope-short l.slope h.slope in
     let rows = rows_short l.rows h.rows in
     let segments = segments-short l.segments e in
     simp length-append (omega (arith, h.counted, h.vertices, h.segments))

@@ -12,30 +12,28 @@ use Rattle.ints.specs.Lists.{concat}
 use Rattle.plan.specs.Checks.{every}
 use Rattle.text.specs.Bytes.{bytes}
 use Rattle.text.specs.Decimal.{decimal}
-use Rattle.text.specs.Parser.{Got, got, nothing, give, either, word, many, number}
-use Rattle.text.specs.Form.{Vertex, SegmentLine, Lines, via, levelLine, segmentLine, slopeLine, planText, whole, form_of}
+use Rattle.text.specs.Parser.{Got, got, nothing, word, many, number}
+use Rattle.text.specs.Form.{Vertex, SegmentLine, Lines, via, levelLine, segmentLine, planText, whole, form_of}
 use Rattle.text.specs.Writing.{lastLine}
 use Rattle.text.proofs.Words.{never, word-is}
 use Rattle.ints.proofs.Tests.{◌and◌}
 use Rattle.text.proofs.TestLaws.{every_one, every-cons}
 use Rattle.text.proofs.ParserLaws.{then-both, then-got, then-word, before, parts-7, many-reads, many-writes}
 use Rattle.text.proofs.DecimalLaws.{fits, then-number, number-written}
-use Rattle.text.proofs.WrittenLines.{vertexText, rowText, row_ok, rowFits, segmentText, segmentOk, slopeText, slopeOk, level-reads, level-writes, segment_reads, segment-writes, slopes-read, slopes-write}
+use Rattle.text.proofs.WrittenLines.{vertexText, rowText, row_ok, rowFits, segmentText, segmentOk, level-reads, level-writes, segment_reads, segment-writes}
 
 -- ---- what is written of lines
 unfoldable pub headText : ℕ → ℕ → ℕ → List ℕ
 headText k g s = bytes "(plan " ++ decimal k ++ bytes " " ++ decimal g ++ bytes " " ++ decimal s ++ bytes ")\n"
 
 unfoldable pub formText : Lines → List ℕ
-formText l =
-    headText l.levels l.gap l.spacing ++ (slopeText l.slope ++ (concat (map rowText l.rows) ++ (concat (map segmentText l.segments) ++ lastLine)))
+formText l = headText l.levels l.gap l.spacing ++ (concat (map rowText l.rows) ++ (concat (map segmentText l.segments) ++ lastLine))
 
 -- Lines that can be read.
 pub record LinesOk (l : Lines) : Type 0 where
   pub levels : fits l.levels ≡ true
   pub gap : fits l.gap ≡ true
   pub spacing : fits l.spacing ≡ true
-  pub slope : slopeOk l.slope ≡ true
   pub rows : every row_ok l.rows ≡ true
   pub segments : every segmentOk l.segments ≡ true
 
@@ -71,12 +69,6 @@ rows_fit n (vs ∷ rows) l e =
     every-cons (rowFits n) vs rows (k.0 and few) (rows_fit n rows (omega arith) k.1)
 
 -- ---- what is written is read
-slope-stops : (rows : List (List Vertex)) (ss : List SegmentLine) → slopeLine (concat (map rowText rows) ++ (concat (map segmentText ss) ++ lastLine)) ≡ nothing
-unfolding slopeLine rowText segmentText word concat
-slope-stops [] [] = refl
-slope-stops [] (s ∷ ss) = refl
-slope-stops (row ∷ rows) ss = refl
-
 level-stops : (n : ℕ) (ss : List SegmentLine) → levelLine n (concat (map segmentText ss) ++ lastLine) ≡ nothing
 unfolding levelLine segmentText word concat
 level-stops n [] = refl
@@ -93,7 +85,6 @@ module _ (l : Lines) (ok : LinesOk l) where
       let k = decimal l.levels in
       let g = decimal l.gap in
       let s = decimal l.spacing in
-      let slope = slopeText l.slope in
       let rows = concat (map rowText l.rows) in
       let segments = concat (map segmentText l.segments) in
       let m = simp length-append at h in
@@ -102,19 +93,17 @@ module _ (l : Lines) (ok : LinesOk l) where
       let rows_ok = rows_fit n l.rows (omega arith) ok.rows in
       let read-rows = many-reads (levelLine n) rowText (rowFits n) (level-reads n) n l.rows (segments ++ lastLine) few-rows rows_ok (level-stops n l.segments) in
       let read-segments = many-reads segmentLine segmentText segmentOk segment_reads n l.segments lastLine few-segments ok.segments segment-stops in
-      let rest = rows ++ (segments ++ lastLine) in
-      let t₄ = bytes ")\n" ++ (slope ++ rest) in
+      let t₄ = bytes ")\n" ++ (rows ++ (segments ++ lastLine)) in
       let t₃ = bytes " " ++ (s ++ t₄) in
       let t₂ = bytes " " ++ (g ++ t₃) in
-      ap (planText n) (parts-7 (bytes "(plan ") k (bytes " ") g (bytes " ") s (bytes ")\n") (slope ++ rest))
+      ap (planText n) (parts-7 (bytes "(plan ") k (bytes " ") g (bytes " ") s (bytes ")\n") (rows ++ (segments ++ lastLine)))
       ∙ then-word (bytes "(plan ") (k ++ t₂) _
       ∙ then-number l.levels t₂ _ ok.levels refl
       ∙ then-word (bytes " ") (g ++ t₃) _
       ∙ then-number l.gap t₃ _ ok.gap refl
       ∙ then-word (bytes " ") (s ++ t₄) _
       ∙ then-number l.spacing t₄ _ ok.spacing refl
-      ∙ then-word (bytes ")\n") (slope ++ rest) _
-      ∙ then-got _ (slopes-read l.slope rest ok.slope (slope-stops l.rows l.segments))
+      ∙ then-word (bytes ")\n") (rows ++ (segments ++ lastLine)) _
       ∙ then-got _ read-rows
       ∙ then-got _ read-segments
       ∙ then-word lastLine [] _
@@ -124,33 +113,31 @@ module _ (l : Lines) (ok : LinesOk l) where
   form-reads = ap whole (plan-reads (length (formText l)) (omega arith))
 
 -- ---- what is read is what was written
-plan-parts : (a b c d e f g x r q z t : List ℕ) → a ++ b ++ c ++ d ++ e ++ f ++ g ++ (x ++ (r ++ (q ++ z))) ++ t ≡ a ++ (b ++ (c ++ (d ++ (e ++ (f ++ (g ++ (x ++ (r ++ (q ++ (z ++ t))))))))))
-plan-parts a b c d e f g x r q z t = simp append_assoc
+plan-parts : (a b c d e f g r q z t : List ℕ) → a ++ b ++ c ++ d ++ e ++ f ++ g ++ (r ++ (q ++ z)) ++ t ≡ a ++ (b ++ (c ++ (d ++ (e ++ (f ++ (g ++ (r ++ (q ++ (z ++ t)))))))))
+plan-parts a b c d e f g r q z t = simp append_assoc
 
 plan-writes : (n : ℕ) (l : Lines) (s t : List ℕ) → planText n s ≡ got l t → (s ≡ formText l ++ t) × LinesOk l
 unfolding planText formText headText
 plan-writes n l s t e =
     then-both (word (bytes "(plan ") s) _ e (λ _ u p q. then-both (number u) _ q (λ k u₁ p₁ q₁. then-both (word (bytes " ") u₁) _ q₁ (λ _ u₂ p₂ q₂.
     then-both (number u₂) _ q₂ (λ g u₃ p₃ q₃. then-both (word (bytes " ") u₃) _ q₃ (λ _ u₄ p₄ q₄. then-both (number u₄) _ q₄ (λ d u₅ p₅ q₅.
-    then-both (word (bytes ")\n") u₅) _ q₅ (λ _ u₆ p₆ q₆. then-both (either slopeLine (give none) u₆) _ q₆ (λ o u₇ p₇ q₇.
-    then-both (many n (levelLine n) u₇) _ q₇ (λ ls u₈ p₈ q₈. then-both (many n segmentLine u₈) _ q₈ (λ ss u₉ p₉ q₉. then-both (word lastLine u₉) _ q₉ (λ _ u₁₀ p₁₀ q₁₀.
+    then-both (word (bytes ")\n") u₅) _ q₅ (λ _ u₆ p₆ q₆. then-both (many n (levelLine n) u₆) _ q₆ (λ ls u₇ p₇ q₇. then-both (many n segmentLine u₇) _ q₇ (λ ss u₈ p₈ q₈.
+    then-both (word lastLine u₈) _ q₈ (λ _ u₉ p₉ q₉.
     let a = number-written k u u₁ p₁ in
     let b = number-written g u₂ u₃ p₃ in
     let c = number-written d u₄ u₅ p₅ in
-    let x = slopes-write o u₆ u₇ p₇ in
-    let rs = many-writes (levelLine n) rowText row_ok (level-writes n) n ls u₇ u₈ p₈ in
-    let gs = many-writes segmentLine segmentText segmentOk segment-writes n ss u₈ u₉ p₉ in
-    let is : record { levels = k; gap = g; spacing = d; slope = o; rows = ls; segments = ss } ≡ l = cc in
-    let end : u₁₀ ≡ t = cc in
+    let rs = many-writes (levelLine n) rowText row_ok (level-writes n) n ls u₆ u₇ p₇ in
+    let gs = many-writes segmentLine segmentText segmentOk segment-writes n ss u₇ u₈ p₈ in
+    let is : record { levels = k; gap = g; spacing = d; rows = ls; segments = ss } ≡ l = cc in
+    let end : u₉ ≡ t = cc in
     rw (← is, ← end) (
       before (bytes "(plan ") (word-is (bytes "(plan ") s u p) (before (decimal k) a.text (before (bytes " ") (word-is (bytes " ") u₁ u₂ p₂)
           (before (decimal g) b.text (before (bytes " ") (word-is (bytes " ") u₃ u₄ p₄) (before (decimal d) c.text
-          (before (bytes ")\n") (word-is (bytes ")\n") u₅ u₆ p₆) (before (slopeText o) x.0 (before (concat (map rowText ls)) rs.0
-          (before (concat (map segmentText ss)) gs.0 (word-is lastLine u₉ u₁₀ p₁₀))))))))))
-          ∙ sym (plan-parts (bytes "(plan ") (decimal k) (bytes " ") (decimal g) (bytes " ") (decimal d) (bytes ")\n") (slopeText o)
-          (concat (map rowText ls)) (concat (map segmentText ss)) lastLine u₁₀),
-      record { levels = a.below; gap = b.below; spacing = c.below; slope = x.1; rows = rs.1; segments = gs.1 },
-    ))))))))))))
+          (before (bytes ")\n") (word-is (bytes ")\n") u₅ u₆ p₆) (before (concat (map rowText ls)) rs.0 (before (concat (map segmentText ss)) gs.0
+          (word-is lastLine u₈ u₉ p₉)))))))))
+          ∙ sym (plan-parts (bytes "(plan ") (decimal k) (bytes " ") (decimal g) (bytes " ") (decimal d) (bytes ")\n") (concat (map rowText ls)) (concat (map segmentText ss)) lastLine u₉),
+      record { levels = a.below; gap = b.below; spacing = c.below; rows = rs.1; segments = gs.1 },
+    )))))))))))
 
 whole-writes : (n : ℕ) (s : List ℕ) (l : Lines) → whole (planText n s) ≡ some l → (s ≡ formText l) × LinesOk l
 whole-writes n s l e = go (planText n s) refl e

@@ -1,5 +1,5 @@
--- The rules of the form for a vertex, a level line, a rating, a segment line and a slope line, in both directions. What is written of one
--- of these is read as it, and what its rule finds is written again as the bytes that it took.
+-- The rules of the form for a vertex, a level line, a rating and a segment line, in both directions. What is written of one of these
+-- is read as it, and what its rule finds is written again as the bytes that it took.
 use mathlib.Core.Path.{◌≡◌, refl, sym, ◌∙◌, ap}
 use mathlib.Core.Bool.{Bool, true, false, cond, ◌&&◌}
 use mathlib.Core.List.{List, [], ◌∷◌, ◌++◌, map, append_assoc}
@@ -15,10 +15,10 @@ use Rattle.ints.proofs.Tests.{and_left, and_right, conj-at, ◌and◌}
 use Rattle.text.specs.Bytes.{bytes}
 use Rattle.text.specs.Decimal.{decimal}
 use Rattle.text.specs.Parser.{Got, got, nothing, Rule, give, or_else, either, word, many, number}
-use Rattle.text.specs.Form.{Vertex, SegmentLine, Slope, box, via, levelLine, rating, segmentLine, slopeLine}
+use Rattle.text.specs.Form.{Vertex, SegmentLine, box, via, levelLine, rating, segmentLine}
 use Rattle.text.proofs.Words.{never, word-is}
 use Rattle.text.proofs.TestLaws.{every_one, every-cons}
-use Rattle.text.proofs.ParserLaws.{then-both, then-got, then-word, before, parts-3, parts-5, parts-6, Reads, Writes, many-reads, many-writes}
+use Rattle.text.proofs.ParserLaws.{then-both, then-got, then-word, before, parts-3, parts-6, Reads, Writes, many-reads, many-writes}
 use Rattle.text.proofs.DecimalLaws.{fits, noDigit, then-number, number-written}
 
 -- ---- a vertex
@@ -207,54 +207,3 @@ segment-writes g s t e =
           ∙ sym (parts-6 (bytes "(seg ") (decimal a) (bytes " ") (decimal b) (ratingText w) (bytes ")\n") u₅),
       m.below and n.below and r.1,
     )))))))
-
--- ---- a slope line, where it is written
-abbrev pub slopeText : Option Slope → List ℕ
-slopeText none = []
-slopeText (some s) = bytes "(slope " ++ decimal s.sideways ++ bytes " " ++ decimal s.downward ++ bytes ")\n"
-
-abbrev pub slopeOk : Option Slope → Bool
-slopeOk none = true
-slopeOk (some s) = fits s.sideways && fits s.downward
-
-slope-reads : (s : Slope) (t : List ℕ) → slopeOk (some s) ≡ true → slopeLine (slopeText (some s) ++ t) ≡ got (some s) t
-unfolding slopeLine
-slope-reads s t ok =
-    let p = decimal s.sideways in
-    let q = decimal s.downward in
-    let t₂ = bytes ")\n" ++ t in
-    let t₁ = bytes " " ++ (q ++ t₂) in
-    ap slopeLine (parts-5 (bytes "(slope ") p (bytes " ") q (bytes ")\n") t)
-    ∙ then-word (bytes "(slope ") (p ++ t₁) _
-    ∙ then-number s.sideways t₁ _ (and_left (fits s.sideways) (fits s.downward) ok) refl
-    ∙ then-word (bytes " ") (q ++ t₂) _
-    ∙ then-number s.downward t₂ _ (and_right (fits s.sideways) (fits s.downward) ok) refl
-    ∙ then-word (bytes ")\n") t _
-
--- before what is no slope line
-pub slopes-read : (o : Option Slope) (t : List ℕ) → slopeOk o ≡ true → slopeLine t ≡ nothing → either slopeLine (give none) (slopeText o ++ t) ≡ got o t
-slopes-read none t ok e = rw e
-slopes-read (some s) t ok e = rw (slope-reads s t ok)
-
-slope-writes : (o : Option Slope) (s t : List ℕ) → slopeLine s ≡ got o t → (s ≡ slopeText o ++ t) × (slopeOk o ≡ true)
-unfolding slopeLine
-slope-writes o s t e =
-    then-both (word (bytes "(slope ") s) _ e (λ _ u p q. then-both (number u) _ q (λ a u₁ p₁ q₁. then-both (word (bytes " ") u₁) _ q₁ (λ _ u₂ p₂ q₂.
-    then-both (number u₂) _ q₂ (λ b u₃ p₃ q₃. then-both (word (bytes ")\n") u₃) _ q₃ (λ _ u₄ p₄ q₄.
-    let m = number-written a u u₁ p₁ in
-    let n = number-written b u₂ u₃ p₃ in
-    let is : some (record { sideways = a; downward = b }) ≡ o = cc in
-    let end : u₄ ≡ t = cc in
-    rw (← is, ← end) (
-      before (bytes "(slope ") (word-is (bytes "(slope ") s u p) (before (decimal a) m.text (before (bytes " ") (word-is (bytes " ") u₁ u₂ p₂)
-          (before (decimal b) n.text (word-is (bytes ")\n") u₃ u₄ p₄))))
-          ∙ sym (parts-5 (bytes "(slope ") (decimal a) (bytes " ") (decimal b) (bytes ")\n") u₄),
-      m.below and n.below,
-    ))))))
-
-pub slopes-write : (o : Option Slope) (s t : List ℕ) → either slopeLine (give none) s ≡ got o t → (s ≡ slopeText o ++ t) × (slopeOk o ≡ true)
-slopes-write o s t e = either-found (slopeLine s) (got none s) e (slope-writes o s t)
-    (λ f.
-    let is : none ≡ o = cc in
-    let end : s ≡ t = cc in
-    rw (← is, ← end) (refl, refl))

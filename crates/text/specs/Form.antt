@@ -15,17 +15,11 @@ pub record SegmentLine : Type 0 where
   pub segment : Segment
   pub rating : Option ℕ
 
--- The slope P over Q as it is written (document 02, E6).
-pub record Slope : Type 0 where
-  pub sideways : ℕ
-  pub downward : ℕ
-
 -- What the lines of a text say.
 pub record Lines : Type 0 where
   pub levels : ℕ
   pub gap : ℕ
   pub spacing : ℕ
-  pub slope : Option Slope
   pub rows : List (List Vertex)
   pub segments : List SegmentLine
 
@@ -69,17 +63,7 @@ segmentLine = do
   word (bytes ")\n")
   give (record { segment = record { upper = a; lower = b }; rating = w })
 
--- "(slope P Q)"
-unfoldable pub slopeLine : Rule (Option Slope)
-slopeLine = do
-  word (bytes "(slope ")
-  p ← number
-  word (bytes " ")
-  q ← number
-  word (bytes ")\n")
-  give (some (record { sideways = p; downward = q }))
-
--- "(plan K G S)"; "A plan may add `(slope P Q)` as its second line"; the level lines, the segments, "(end)". n is at least the length of the text.
+-- "(plan K G S)", the level lines, the segments, "(end)". n is at least the length of the text.
 unfoldable pub planText : ℕ → Rule Lines
 planText n = do
   word (bytes "(plan ")
@@ -89,11 +73,10 @@ planText n = do
   word (bytes " ")
   s ← number
   word (bytes ")\n")
-  sl ← either slopeLine (give none)
   ls ← many n (levelLine n)
   ss ← many n segmentLine
   word (bytes "(end)\n")
-  give (record { levels = k; gap = g; spacing = s; slope = sl; rows = ls; segments = ss })
+  give (record { levels = k; gap = g; spacing = s; rows = ls; segments = ss })
 
 -- A text is in the form if nothing follows its last line.
 abbrev pub whole : Got Lines → Option Lines

@@ -4,12 +4,10 @@ use Rattle.std.proofs.Math.Option.{Option, none, some}
 use Rattle.ints.specs.Lists.{sum, concat}
 use Rattle.ints.specs.Ratings.{maxRating}
 use Rattle.ints.specs.Refusals.{Test, check, firstRefusal}
-use Rattle.plan.specs.declared.data.Spacing.{Spacing}
-use Rattle.plan.specs.Plan.{PlanData, data_of, evenly}
+use Rattle.plan.specs.Plan.{PlanData, data_of}
 use Rattle.plan.specs.Limits.{within, maxLevels, maxGap, maxSpacing, maxHalfWidth, maxOnLevel, maxVertices, maxSegments}
-use Rattle.plan.specs.Acceptable.{slopeInLimit}
 use Rattle.plan.specs.Checks.{every, checksOf, tangledChecksOf}
-use Rattle.text.specs.Form.{Vertex, Slope, Lines, form_of}
+use Rattle.text.specs.Form.{Vertex, Lines, form_of}
 
 -- 1: "Not in the text's form, or over 65,536 bytes."
 abbrev pub maxBytes : ℕ
@@ -31,28 +29,19 @@ abbrev pub ratingOf : Option ℕ → ℕ
 ratingOf none = 1
 ratingOf (some w) = w
 
--- "P and Q from 1 to 100, else check 2 refuses it." (document 02, E6)
-abbrev pub writtenSlopeInLimit : Option Slope → Bool
-writtenSlopeInLimit none = true
-writtenSlopeInLimit (some s) = slopeInLimit s.sideways s.downward
-
-abbrev pub spacingOf : ℕ → Option Slope → Spacing
-spacingOf s none = evenly s
-spacingOf s (some l) = record { least = s; sideways = l.sideways; downward = l.downward }
-
 unfoldable pub check2 : Lines → Bool
 check2 l =
     let rows = every rowInLimit l.rows in
     let ratings = every (λ s. ratingInLimit s.rating) l.segments in
     within 1 maxLevels l.levels && within 1 maxGap l.gap && within 1 maxSpacing l.spacing
-    && writtenSlopeInLimit l.slope && eqb (length l.rows) l.levels && rows
+    && eqb (length l.rows) l.levels && rows
     && leb (sum (map length l.rows)) maxVertices && leb (length l.segments) maxSegments
     && ratings
 
 -- What is stored of a text within the limits, its vertices in reading order.
 unfoldable pub stored : Lines → PlanData
 stored l =
-    data_of l.levels l.gap (spacingOf l.spacing l.slope)
+    data_of l.levels l.gap l.spacing
     (map length l.rows) (map (λ v. v.via) (concat l.rows)) (map (λ v. v.half) (concat l.rows))
     (map (λ s. s.segment.upper) l.segments) (map (λ s. s.segment.lower) l.segments)
     (map (λ s. ratingOf s.rating) l.segments)

@@ -1,25 +1,14 @@
 -- The text of a plan's data, line by line, and which data are those of a text.
 use Rattle.std.specs.Prelude.{cond, List, [], ◌∷◌, ◌++◌, map, ℕ, eqb}
 use Rattle.ints.specs.Lists.{concat}
-use Rattle.plan.specs.declared.data.Spacing.{Spacing}
 use Rattle.plan.specs.Plan.{PlanData, isVia, halfWidth, levelsOf}
 use Rattle.plan.specs.Segments.{Rated, ratedOf}
-use Rattle.plan.specs.Acceptable.{hasSlope}
 use Rattle.text.specs.Bytes.{bytes}
 use Rattle.text.specs.Decimal.{decimal}
 
 -- "(plan K G S)"
 unfoldable pub planLine : PlanData → List ℕ
-planLine p = bytes "(plan " ++ decimal p.levels ++ bytes " " ++ decimal p.gap ++ bytes " " ++ decimal p.spacing.least ++ bytes ")\n"
-
--- "(slope P Q)", where there is a slope.
-unfoldable pub slopeLineOf : Spacing → List ℕ
-slopeLineOf s = bytes "(slope " ++ decimal s.sideways ++ bytes " " ++ decimal s.downward ++ bytes ")\n"
-
-unfoldable pub slopeLines : Spacing → List (List ℕ)
-slopeLines s =
-    let written = slopeLineOf s ∷ [] in
-    cond (hasSlope s) written []
+planLine p = bytes "(plan " ++ decimal p.levels ++ bytes " " ++ decimal p.gap ++ bytes " " ++ decimal p.spacing ++ bytes ")\n"
 
 -- " (box 3)" and " (via)"
 unfoldable pub vertexWords : PlanData → ℕ → List ℕ
@@ -48,7 +37,7 @@ lastLine = bytes "(end)\n"
 
 -- All lines, and the whole text.
 unfoldable pub lines_of : PlanData → List (List ℕ)
-lines_of p = planLine p ∷ slopeLines p.spacing ++ map (levelLineOf p) (levelsOf p) ++ map segmentLineOf (ratedOf p) ++ (lastLine ∷ [])
+lines_of p = planLine p ∷ map (levelLineOf p) (levelsOf p) ++ map segmentLineOf (ratedOf p) ++ (lastLine ∷ [])
 
 unfoldable pub text_of : PlanData → List ℕ
 text_of p = concat (lines_of p)

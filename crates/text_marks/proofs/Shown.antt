@@ -1,17 +1,12 @@
 -- What the positions and the marks of a plan that passes the checks ask for: its drawing has it.
-use mathlib.Core.Path.{◌≡◌, refl, sym}
+use mathlib.Core.Path.{◌≡◌}
 use mathlib.Core.Bool.{true}
 use Prim.Native.Nat.{◌+◌}
 use native.Mathlib.Omega.{arith}
 use lib.ListN.{length, length-append}
-use Rattle.ints.specs.Reach.{allWithin}
 use Rattle.plan.specs.Plan.{PlanData, vertexCount}
 use Rattle.plan.specs.Acceptable.{acceptable}
-use Rattle.passes.specs.Heights.{heightsOf}
 use Rattle.passes.specs.Drawing.{drawingOf}
-use Rattle.passes.proofs.Heights.{heights-long}
-use Rattle.heights.specs.inner.Asked.{HeightsAsked, Framed}
-use Rattle.heights.proofs.Acceptable.{asked-heights}
 use Rattle.demand3.proofs.Theorem.{demand3}
 use Rattle.report_lines.proofs.Listed.{final-within}
 use Rattle.marks.specs.inner.Asked.{AskedAll}
@@ -25,17 +20,5 @@ module _ (p : PlanData) (ok : acceptable p ≡ true) where
   both_long = let d = drawingOf p in omega (arith, length-append d.preliminary d.final, preliminary-long p ok, final-long p ok)
 
   -- ---- the marks
-  near : allWithin (drawingOf p).final ≡ true
-  near = final-within (drawingOf p) (demand3 p ok).within
-
-  pub heights-asked : HeightsAsked p.spacing p.sizes p.uppers p.lowers (drawingOf p).final
-  heights-asked = asked-heights p (drawingOf p).final ok near (final-long p ok)
-
-  pub framed : Framed p p.spacing p.sizes p.uppers p.lowers (length (drawingOf p).final)
-  framed = record { spacingIs = refl; sizesAre = refl; uppersAre = refl; lowersAre = refl; vertices = sym (final-long p ok) }
-
-  pub heights-many : length (heightsOf p (drawingOf p).final) ≡ vertexCount p
-  heights-many = heights-long p (drawingOf p).final
-
-  pub marks-asked : AskedAll (heightsOf p (drawingOf p).final) p.vias p.halves p.uppers p.lowers (drawingOf p).final
-  marks-asked = asked-all p (drawingOf p).final ok near (final-long p ok)
+  pub marks-asked : AskedAll p.spacing p.sizes p.vias p.halves p.uppers p.lowers (drawingOf p).final
+  marks-asked = asked-all p (drawingOf p).final ok (final-within (drawingOf p) (demand3 p ok).within) (final-long p ok)

@@ -7,8 +7,7 @@ ghost use Rattle.sheet.specs.Calls.{Writes};
 ghost use Rattle.text_marks.specs.Marks.{marksOf};
 
 use crate::drawn::draw_positions;
-use heights::heights;
-use plan::data::{Plan, Spacing};
+use plan::data::Plan;
 use plan::numbers::wide;
 use sheet::types::LineAnswer;
 use sheet_fit::fit::fit_marks;
@@ -17,7 +16,7 @@ use text_read::read_into;
 // The marks of a plan that was read.
 fn marks_plan(
     gap: u32,
-    spacing: Spacing,
+    spacing: u32,
     sizes: &[u16],
     vias: &[bool],
     halves: &[u16],
@@ -44,17 +43,9 @@ fn marks_plan(
         &mut preliminary[..v],
         &mut finals[..v],
     );
-    let mut height = [0u64; Plan::MAX_VERTICES];
-    heights(
+    fit_marks(
         spacing,
         sizes,
-        uppers,
-        lowers,
-        &finals[..v],
-        &mut height[..v],
-    );
-    fit_marks(
-        &height[..v],
         vias,
         halves,
         uppers,

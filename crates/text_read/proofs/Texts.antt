@@ -2,7 +2,7 @@
 use mathlib.Core.Path.{◌≡◌, refl, sym, ◌∙◌, ap}
 use mathlib.Core.Bool.{Bool, true, false, cond}
 use mathlib.Core.List.{List, map}
-use mathlib.Core.Option.{Option, none, some}
+use mathlib.Core.Option.{none, some}
 use Prim.Native.Nat.{ℕ, ◌≤◌}
 use native.Mathlib.Omega.{arith}
 use borrow.Author.Tests.{leb-true}
@@ -10,18 +10,16 @@ use lib.Dec.{leb}
 use lib.ListN.{length, drop, length-map}
 use Rattle.ints.specs.Lists.{concat}
 use Rattle.ints.proofs.Lists.{concat-length}
-use Rattle.plan.specs.declared.data.Spacing.{Spacing}
 use Rattle.plan.specs.Limits.{maxLevels, maxVertices, maxSegments}
 use Rattle.plan.specs.Checks.{every}
 use Rattle.ints.proofs.Tests.{and_right}
 use Rattle.text.specs.Bytes.{bytes}
-use Rattle.text.specs.Parser.{got, nothing, Rule, give, then, either, word, many, number}
-use Rattle.text.specs.Form.{Vertex, SegmentLine, Slope, Lines, levelLine, segmentLine, slopeLine, planText, form_of}
-use Rattle.text.specs.Reading.{rowInLimit, ratingInLimit, ratingOf, spacingOf, check2, stored}
-use Rattle.text_scan.specs.inner.Scanned.{numberThen, Header, planLine, slopeOf, Ends}
+use Rattle.text.specs.Parser.{got, nothing, Rule, then, word, many, number}
+use Rattle.text.specs.Form.{Vertex, SegmentLine, Lines, levelLine, segmentLine, planText, form_of}
+use Rattle.text.specs.Reading.{rowInLimit, ratingInLimit, ratingOf, check2, stored}
+use Rattle.text_scan.specs.inner.Scanned.{numberThen, Header, planLine, Ends}
 use Rattle.text_read.specs.inner.Filled.{FindsRows, FindsSegments, Kept, Scans, inLimits}
 use Rattle.text_scan.specs.declared.scanners.FoundHeader.{FoundHeader}
-use Rattle.text_scan.specs.declared.scanners.FoundSlope.{FoundSlope}
 use Rattle.text_read.specs.declared.form.Rows.{Rows}
 use Rattle.text_read.specs.declared.form.Segments.{Segments}
 use Rattle.text_read.specs.declared.form.Scanned.{Scanned}
@@ -33,15 +31,12 @@ use Rattle.text.proofs.PlanLimits.{check2-of}
 
 -- ---- the form
 -- what the lines say
-abbrev pub lines_of : Header → Option Slope → List (List Vertex) → List SegmentLine → Lines
-lines_of h slope rows segments = record { levels = h.levels; gap = h.gap; spacing = h.spacing; slope = slope; rows = rows; segments = segments }
+abbrev pub lines_of : Header → List (List Vertex) → List SegmentLine → Lines
+lines_of h rows segments = record { levels = h.levels; gap = h.gap; spacing = h.spacing; rows = rows; segments = segments }
 
--- what follows the slope line, and what follows the plan line
-abbrev rest : ℕ → Header → Option Slope → Rule Lines
-rest n h sl t = then (many n (levelLine n) t) (λ ls u. then (many n segmentLine u) (λ ss v. then (word (bytes "(end)\n") v) (λ _ w. got (lines_of h sl ls ss) w)))
-
+-- what follows the plan line
 abbrev body : ℕ → Header → Rule Lines
-body n h t = then (either slopeLine (give none) t) (rest n h)
+body n h t = then (many n (levelLine n) t) (λ ls u. then (many n segmentLine u) (λ ss v. then (word (bytes "(end)\n") v) (λ _ w. got (lines_of h ls ss) w)))
 
 plan-text : (n : ℕ) (s : List ℕ) → planText n s ≡ then (planLine s) (body n)
 unfolding planText planLine
@@ -78,22 +73,21 @@ module _ (s : List ℕ) where
   unfolding form_of
   form-none e = rw (plan-text (length s) s, e)
 
-  module _ (h : Header) (sl : Option Slope) (t u v : List ℕ) (rows : List (List Vertex)) (p : planLine s ≡ got h t) (l : either slopeLine (give none) t ≡ got sl u)
-      (q : many (length s) (levelLine (length s)) u ≡ got rows v) where
-    pub form-broken : (w : List ℕ) → word (bytes "(level") v ≡ got tt w → form_of s ≡ none
+  module _ (h : Header) (t u : List ℕ) (rows : List (List Vertex)) (p : planLine s ≡ got h t) (q : many (length s) (levelLine (length s)) t ≡ got rows u) where
+    pub form-broken : (v : List ℕ) → word (bytes "(level") u ≡ got tt v → form_of s ≡ none
     unfolding form_of
-    form-broken w e = rw (plan-text (length s) s, p, l, q, many-done segmentLine (length s) v (level-no-segment v w e), level-no-end v w e)
+    form-broken v e = rw (plan-text (length s) s, p, q, many-done segmentLine (length s) u (level-no-segment u v e), level-no-end u v e)
 
-    pub form-ends : (segments : List SegmentLine) (at : ℕ) (b : Bool) → many (length s) segmentLine v ≡ got segments (drop at s) → Ends s at b → form_of s ≡ cond b (some (lines_of h sl rows segments)) none
+    pub form-ends : (segments : List SegmentLine) (at : ℕ) (b : Bool) → many (length s) segmentLine u ≡ got segments (drop at s) → Ends s at b → form_of s ≡ cond b (some (lines_of h rows segments)) none
     unfolding form_of
-    form-ends segments at b e f = rw (plan-text (length s) s, p, l, q, e) (f.gives (lines_of h sl rows segments))
+    form-ends segments at b e f = rw (plan-text (length s) s, p, q, e) (f.gives (lines_of h rows segments))
 
 -- ---- the limits
-limits-is : (h : FoundHeader) (sl : FoundSlope) (r : Rows) (e : Segments) (rows : List (List Vertex)) (segments : List SegmentLine) → r.levels ≡ length rows → r.fit ≡ every rowInLimit rows
+limits-is : (h : FoundHeader) (r : Rows) (e : Segments) (rows : List (List Vertex)) (segments : List SegmentLine) → r.levels ≡ length rows → r.fit ≡ every rowInLimit rows
     → r.vertices ≡ length (concat rows) → e.count ≡ length segments → e.fit ≡ every (λ s. ratingInLimit s.rating) segments
-    → inLimits h sl r e ≡ check2 (record { levels = h.levels; gap = h.gap; spacing = h.spacing; slope = slopeOf sl; rows = rows; segments = segments })
+    → inLimits h r e ≡ check2 (record { levels = h.levels; gap = h.gap; spacing = h.spacing; rows = rows; segments = segments })
 unfolding check2
-limits-is h sl r e rows segments a b c d f = rw (a, b, c, d, f, concat-length rows)
+limits-is h r e rows segments a b c d f = rw (a, b, c, d, f, concat-length rows)
 
 -- ---- what the program has
 module _ (s : List ℕ) (sizes : List ℕ) (vias : List Bool) (halves uppers lowers ratings sizes' : List ℕ) (vias' : List Bool) (halves' uppers' lowers' ratings' : List ℕ) where
@@ -103,14 +97,14 @@ module _ (s : List ℕ) (sizes : List ℕ) (vias : List Bool) (halves uppers low
       no : {A : Type 0} (l : Lines) → form_of s ≡ some l → A
       no l q = let z : ◌≡◌ {A = ℕ} 0 1 = cc in absurd (omega arith)
 
-  module _ (h : FoundHeader) (sl : FoundSlope) (at next : ℕ) (r : Rows) (e : Segments)
+  module _ (h : FoundHeader) (at next : ℕ) (r : Rows) (e : Segments)
       (R : FindsRows s at r sizes vias halves sizes' vias' halves') (S : FindsSegments s next e uppers lowers ratings uppers' lowers' ratings') (f : r.form ≡ true)
       (n : maxLevels ≤ length sizes) (i : maxVertices ≤ length vias) (j : maxVertices ≤ length halves) (k : maxSegments ≤ length uppers) (m : maxSegments ≤ length lowers)
       (w : maxSegments ≤ length ratings) where
     abbrev found-lines : Lines
-    found-lines = record { levels = h.levels; gap = h.gap; spacing = h.spacing; slope = slopeOf sl; rows = R.rows; segments = S.segments }
+    found-lines = record { levels = h.levels; gap = h.gap; spacing = h.spacing; rows = R.rows; segments = S.segments }
 
-    lines-kept : (o : Scanned) → o.levels ≡ h.levels → o.gap ≡ h.gap → o.spacing ≡ spacingOf h.spacing (slopeOf sl) → o.vertices ≡ r.vertices → o.segments ≡ e.count
+    lines-kept : (o : Scanned) → o.levels ≡ h.levels → o.gap ≡ h.gap → o.spacing ≡ h.spacing → o.vertices ≡ r.vertices → o.segments ≡ e.count
         → check2 found-lines ≡ true → Kept (stored found-lines) o sizes vias halves uppers lowers ratings sizes' vias' halves' uppers' lowers' ratings'
     unfolding stored
     lines-kept o a b c d g t =
@@ -134,12 +128,12 @@ module _ (s : List ℕ) (sizes : List ℕ) (vias : List Bool) (halves uppers low
           ratings-kept = S.ratings-stored ∙ sets_over ratings (map (λ x. ratingOf x.rating) S.segments) (rw length-map (omega (arith, F.segments)));
         }
 
-    pub scans-lines : (b : Bool) (d : Spacing) → b ≡ inLimits h sl r e → d ≡ spacingOf h.spacing (slopeOf sl) → form_of s ≡ some found-lines
-        → Scans s (record { form = true; limits = b; levels = h.levels; gap = h.gap; spacing = d; vertices = r.vertices; segments = e.count }) sizes vias halves uppers lowers ratings sizes' vias' halves' uppers' lowers' ratings'
-    scans-lines b d q z p = record {
+    pub scans-lines : (b : Bool) → b ≡ inLimits h r e → form_of s ≡ some found-lines
+        → Scans s (record { form = true; limits = b; levels = h.levels; gap = h.gap; spacing = h.spacing; vertices = r.vertices; segments = e.count }) sizes vias halves uppers lowers ratings sizes' vias' halves' uppers' lowers' ratings'
+    scans-lines b q p = record {
       form = rw p;
-      limits = λ l x. q ∙ limits-is h sl r e R.rows S.segments R.counted R.fit R.vertices S.counted S.fit ∙ ap check2 (one l x);
-      kept = λ l x t. rw (← one l x) (lines-kept _ refl refl z refl refl (ap check2 (one l x) ∙ t));
+      limits = λ l x. q ∙ limits-is h r e R.rows S.segments R.counted R.fit R.vertices S.counted S.fit ∙ ap check2 (one l x);
+      kept = λ l x t. rw (← one l x) (lines-kept _ refl refl refl refl refl (ap check2 (one l x) ∙ t));
     }
       where
         one : (l : Lines) → form_of s ≡ some l → found-lines ≡ l

@@ -4,14 +4,10 @@ ghost use Rattle.std.specs.Prelude.{◌≡◌, true, ◌+◌, ◌≤◌, ◌<◌
 ghost use Rattle.text.specs.Reading.{maxBytes};
 ghost use Rattle.text_read.specs.inner.Filled.{FindsRow, FindsLevel, FindsRows, FindsSegments, inLimits, LongEnough, Scans};
 
-use plan::data::{Plan, Spacing};
+use plan::data::Plan;
 use plan::limits::row_fits;
-use text_scan::limits::{
-    both, half_fits, half_of, header_fits, rating_in_limit, rating_of, spacing_of,
-};
-use text_scan::scanners::{
-    FoundHeader, FoundSlope, ends, header_at, segment_at, slope_at, vertex_at, word_at,
-};
+use text_scan::limits::{both, half_fits, half_of, header_fits, rating_in_limit, rating_of};
+use text_scan::scanners::{FoundHeader, ends, header_at, segment_at, vertex_at, word_at};
 
 // A level line's vertices: how many, whether their half-widths are within the limit, and the position past them.
 #[derive(Drop)]
@@ -48,7 +44,7 @@ pub struct Scanned {
     pub limits: bool,
     pub levels: u32,
     pub gap: u32,
-    pub spacing: Spacing,
+    pub spacing: u32,
     pub vertices: usize,
     pub segments: usize,
 }
@@ -212,10 +208,10 @@ fn segment_lines(
 }
 
 // 2: each number and count within its limit, and K level lines.
-fn in_limits(h: FoundHeader, slope: FoundSlope, r: Rows, s: Segments) -> bool
-    ensures { result ≡ inLimits h slope r s }
+fn in_limits(h: FoundHeader, r: Rows, s: Segments) -> bool
+    ensures { result ≡ inLimits h r s }
 {
-    let f = both(header_fits(h, slope, r.levels), r.fit);
+    let f = both(header_fits(h, r.levels), r.fit);
     let v = both(f, r.vertices <= Plan::MAX_VERTICES);
     let e = both(v, s.count <= Plan::MAX_SEGMENTS);
     both(e, s.fit)
@@ -242,11 +238,7 @@ pub fn scan(
         limits: false,
         levels: 0,
         gap: 0,
-        spacing: Spacing {
-            least: 0,
-            sideways: 0,
-            downward: 0,
-        },
+        spacing: 0,
         vertices: 0,
         segments: 0,
     };
@@ -254,8 +246,7 @@ pub fn scan(
     if !h.found {
         return none;
     }
-    let slope = slope_at(text, h.next);
-    let r = level_lines(text, slope.next, sizes, vias, halves);
+    let r = level_lines(text, h.next, sizes, vias, halves);
     if !r.form {
         return none;
     }
@@ -265,10 +256,10 @@ pub fn scan(
     }
     Scanned {
         form: true,
-        limits: in_limits(h, slope, r, s),
+        limits: in_limits(h, r, s),
         levels: h.levels,
         gap: h.gap,
-        spacing: spacing_of(h.spacing, slope),
+        spacing: h.spacing,
         vertices: r.vertices,
         segments: s.count,
     }

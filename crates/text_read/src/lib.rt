@@ -9,7 +9,7 @@ ghost use Rattle.text_read.specs.inner.Failed.{Fronts, checksIn};
 ghost use Rattle.text_read.specs.inner.Taken.{Arrays, Finds, refusesBoth};
 
 use crate::form::{Scanned, scan};
-use plan::data::{Plan, Spacing};
+use plan::data::Plan;
 use plan::numbers::wide;
 use plan_checks::checks::{check_plan, first_of};
 
@@ -85,11 +85,7 @@ pub fn read_into(
                 limits: false,
                 levels: 0,
                 gap: 0,
-                spacing: Spacing {
-                    least: 0,
-                    sideways: 0,
-                    downward: 0,
-                },
+                spacing: 0,
                 vertices: 0,
                 segments: 0,
             },

@@ -15,23 +15,20 @@ use Rattle.plan_renumber.specs.Renumber.{ownNumbers}
 use Rattle.plan_renumber.proofs.Own.{Own, own}
 use Rattle.plan_untangle.specs.Order.{order, untangled}
 use Rattle.plan_untangle.proofs.Untangled.{untangled-own}
-use Rattle.passes.specs.Heights.{heightsOf}
 use Rattle.passes.specs.Drawing.{BoxAt, Placing, Drawing, drawingOf}
-use Rattle.passes.proofs.Heights.{heights-long}
-use Rattle.heights.specs.inner.Asked.{HeightsAsked, Framed}
-use Rattle.heights.proofs.Acceptable.{asked-heights}
 use Rattle.passes.specs.Words.{boxesListed, maxListed}
 use Rattle.passes.specs.Stored.{padded}
 use Rattle.demand3.proofs.Theorem.{demand3}
-use Rattle.report.specs.Lines.{reportLines, drawingLines}
-use Rattle.report.specs.Numbers.{numberedLines}
+use Rattle.report.specs.Lines.{reportLines}
+use Rattle.report.specs.Numbers.{inNumbers}
 use Rattle.report_validity.proofs.Drawn.{drawn-valid}
-use Rattle.report_lines.specs.inner.Stored.{drawingFrom, Stored, ReportRoom, maxReport}
-use Rattle.report_lines.proofs.Listed.{few-placings, few-boxes, final-within}
+use Rattle.report_lines.specs.inner.Stored.{planPart, drawingFrom, Stored, ReportRoom, maxReport}
+use Rattle.report_lines.proofs.Listed.{few-placings, few-boxes}
+use Rattle.report_lines.proofs.ByNumber.{HasPart, same_lines}
 use Rattle.report_lines.proofs.Printable.{Printable, printable}
 use Rattle.report_lines.proofs.Rooms.{report-room}
 use Rattle.report_numbers.specs.inner.Rooms.{reportBy, ReportRoomBy}
-use Rattle.report_numbers.proofs.Rooms.{report-room-by}
+use Rattle.report_numbers.proofs.Rooms.{report-room-by, report-by}
 use Rattle.pass_list.proofs.Decoded.{decoded}
 use Rattle.pass_draw.specs.inner.Made.{Made}
 use Rattle.sheet_data.proofs.ReadBack.{boxes-sum, preliminary-long, final-long}
@@ -94,28 +91,14 @@ module _ (p : PlanData) (ok : acceptable p ≡ true) where
         let f : Placing → ℕ = λ q. length q.boxes in
         rw m.list.ofCounts (ap sum (take_at (map f qs) (replicate (maxListed - length (map f qs)) 0) n (length-map qs f ∙ sym m.placings)) ∙ boxes-sum qs)
 
-    all-preliminary : length preliminary ≡ vertexCount p
-    all-preliminary = ap length m.started ∙ preliminary-long p ok
+    has_part : HasPart p p.spacing p.sizes (length preliminary)
+    has_part = record { ofSpacing = refl; ofSizes = refl; ofVertices = sym (ap length m.started ∙ preliminary-long p ok) }
 
-    all-finals : length finals ≡ vertexCount p
-    all-finals = ap length m.ended ∙ final-long p ok
-
-    -- ---- heights
-    pub heights-asked : HeightsAsked p.spacing p.sizes p.uppers p.lowers finals
-    heights-asked = asked-heights p finals ok (rw m.ended (final-within (drawingOf p) (demand3 p ok).within)) all-finals
-
-    pub framed : Framed p p.spacing p.sizes p.uppers p.lowers (length finals)
-    framed = record { spacingIs = refl; sizesAre = refl; uppersAre = refl; lowersAre = refl; vertices = sym all-finals }
-
-    pub heights-many : length (heightsOf p finals) ≡ vertexCount p
-    heights-many = heights-long p finals
-
-    -- ---- the report
     in-lists : Stored preliminary finals (take n passes) (take n levels) (take n counts) vertices positions
     in-lists =
         let l = length-take-le n passes in-passes in
         record {
-          ofFinals = all-finals ∙ sym all-preliminary;
+          ofFinals = ap length m.ended ∙ final-long p ok ∙ has_part.ofVertices;
           ofLevels = length-take-le n levels in-levels ∙ sym l;
           ofCounts = length-take-le n counts in-counts ∙ sym l;
           few = omega (arith, boxes-are, boxes-few);
@@ -124,16 +107,15 @@ module _ (p : PlanData) (ok : acceptable p ≡ true) where
           within = rw drawing-is (demand3 p ok).within;
         }
 
-    prints : Printable (heightsOf p finals) (drawingFrom preliminary finals (take n passes) (take n levels) (take n counts) vertices positions)
-    prints = rw (drawing-is, m.ended) (printable p (drawingOf p) ok (drawn-valid p ok))
+    prints : Printable p (drawingFrom preliminary finals (take n passes) (take n levels) (take n counts) vertices positions)
+    prints = rw drawing-is (printable p (drawingOf p) ok (drawn-valid p ok))
 
-    pub report-asked : {o : List ℕ} → maxReport ≤ length o
-        → ReportRoom (heightsOf p finals) preliminary finals (take n passes) (take n levels) (take n counts) vertices positions o
-    report-asked h = report-room (heights-many ∙ sym all-preliminary) in-lists prints h
+    pub report-asked : {o : List ℕ} → maxReport ≤ length o → ReportRoom p.spacing p.sizes preliminary finals (take n passes) (take n levels) (take n counts) vertices positions o
+    report-asked h = report-room has_part in-lists prints h
 
-    pub report-is : concat (drawingLines p (drawingOf p))
-        ≡ concat (reportLines (heightsOf p finals) (drawingFrom preliminary finals (take n passes) (take n levels) (take n counts) vertices positions))
-    report-is = rw (drawing-is, m.ended)
+    pub report-is : concat (reportLines p (drawingOf p))
+        ≡ concat (reportLines (planPart p.spacing p.sizes (length preliminary)) (drawingFrom preliminary finals (take n passes) (take n levels) (take n counts) vertices positions))
+    report-is = rw drawing-is (ap concat (same_lines has_part (drawingOf p)))
 
     -- in numbers that are its own
     module _ (ns : List ℕ) (t : ownNumbers p ns ≡ true) where
@@ -141,8 +123,8 @@ module _ (p : PlanData) (ok : acceptable p ≡ true) where
       its_own = own p ns (sound p ok).limits.sizes-sum t
 
       pub report-asked-by : {o : List ℕ} → maxReport ≤ length o
-          → ReportRoomBy ns (heightsOf p finals) preliminary finals (take n passes) (take n levels) (take n counts) vertices positions o
-      report-asked-by h = report-room-by its_own.once heights-many all-preliminary in-lists prints h
+          → ReportRoomBy ns p.spacing p.sizes preliminary finals (take n passes) (take n levels) (take n counts) vertices positions o
+      report-asked-by h = report-room-by its_own has_part in-lists prints h
 
-      pub report-is-by : reportNumbered p ns ≡ reportBy ns (heightsOf p finals) preliminary finals (take n passes) (take n levels) (take n counts) vertices positions
-      report-is-by = ap (λ (d : Drawing). concat (numberedLines p ns d)) (sym drawing-is)
+      pub report-is-by : reportNumbered p ns ≡ reportBy ns p.spacing p.sizes preliminary finals (take n passes) (take n levels) (take n counts) vertices positions
+      report-is-by = ap (λ (d : Drawing). concat (reportLines p (inNumbers ns d))) (sym drawing-is) ∙ sym (report-by its_own has_part in-lists prints)

@@ -19,10 +19,8 @@ use Rattle.text.proofs.Words.{never}
 use Rattle.text_untangle.proofs.ArrayLaws.{untangled-ok}
 use Rattle.text_write.specs.Again.{refusedLine}
 use Rattle.text_write.specs.inner.Written.{Fronts}
-use Rattle.passes.specs.Heights.{heightsOf}
 use Rattle.passes.specs.Drawing.{Drawing, drawingOf}
-use Rattle.passes.proofs.Heights.{heights-long}
-use Rattle.report.specs.Lines.{reportLines, drawingLines}
+use Rattle.report.specs.Lines.{reportLines}
 use Rattle.report.specs.Printed as report
 use Rattle.report.specs.Printed.{printedOf, printed}
 use Rattle.report_validity.proofs.Drawn.{drawn-valid}
@@ -45,7 +43,7 @@ use Rattle.text_report.specs.inner.Numbered.{reportNumbered}
 
 -- ---- a text that is accepted, and one that is refused
 module _ (p : PlanData) where
-  pub report-of : (b : List ℕ) → reportOf (accepted p) b ≡ fittedText (concat (drawingLines p (drawingOf p))) b
+  pub report-of : (b : List ℕ) → reportOf (accepted p) b ≡ fittedText (concat (reportLines p (drawingOf p))) b
   unfolding reportOf
   report-of b = refl
 
@@ -69,12 +67,12 @@ tangled-same s p e b =
     let d = drawingOf p in
     ap (λ g. tangledReportOf g b) (taken-both s p e) ∙ tangled-of p b ∙ ap (λ (q : PlanData). fittedText (reportNumbered q (order p)) b) (untangled-stays p ok)
     ∙ ap (λ m. fittedText (reportNumbered p m) b) (order_is p ok)
-    ∙ ap (λ (c : Drawing). fittedText (concat (reportLines (heightsOf p d.final) c)) b) (stays_by p d (printable p d ok (drawn-valid p ok)) (preliminary-long p ok) (final-long p ok))
+    ∙ ap (λ (c : Drawing). fittedText (concat (reportLines p c)) b) (stays_by p d (printable p d ok (drawn-valid p ok)) (preliminary-long p ok) (final-long p ok))
     ∙ sym (report-of p b) ∙ ap (λ g. reportOf g b) (sym e)
 
 -- ---- how much it has at most
 module _ (text : List ℕ) where
-  short : (p : PlanData) → reading text ≡ accepted p → length (concat (drawingLines p (drawingOf p))) ≤ maxReport
+  short : (p : PlanData) → reading text ≡ accepted p → length (concat (reportLines p (drawingOf p))) ≤ maxReport
   short p e = let a = read-acceptable text p e in report-short (printable p (drawingOf p) a (drawn-valid p a))
 
   pub report-few : (b : List ℕ) (n : ℕ) → (reportOf (reading text) b).result ≡ gives n → n ≤ maxReport
@@ -83,7 +81,7 @@ module _ (text : List ℕ) where
     where
       go : (g : Reading) → reading text ≡ g → (reportOf g b).result ≡ gives n → n ≤ maxReport
       go (accepted p) e h =
-          let w = concat (drawingLines p (drawingOf p)) in
+          let w = concat (reportLines p (drawingOf p)) in
           let r = firstRefusal (test14 w b ∷ []) in
           omega (arith, short p e, given (eqb r 0) r (length w) n h)
       go (refused k) e h = never (cc)
@@ -98,7 +96,7 @@ module _ (text : List ℕ) where
           let a = untangled-ok text p e in
           let w = reportNumbered q (order p) in
           let o = own q (order p) (sound q a).limits.sizes-sum (untangled-own p) in
-          let s = report-short (printable-by (heights-long q (drawingOf q).final) o.once (printable q (drawingOf q) a (drawn-valid q a))) in
+          let s = report-short (printable-by o.once (printable q (drawingOf q) a (drawn-valid q a))) in
           let r = firstRefusal (test14 w b ∷ []) in
           omega (arith, s, given (eqb r 0) r (length w) n h)
       go (refused k) e h = never (cc)
@@ -106,9 +104,9 @@ module _ (text : List ℕ) where
 -- ---- what is printed, by what the report answers in a buffer that has room for every report
 module _ (text b out : List ℕ) (m : maxReport ≤ length b) where
   fits : (p : PlanData) → reading text ≡ accepted p
-      → reportOf (accepted p) b ≡ record { result = gives (length (concat (drawingLines p (drawingOf p)))); buffer = over (concat (drawingLines p (drawingOf p))) b }
+      → reportOf (accepted p) b ≡ record { result = gives (length (concat (reportLines p (drawingOf p)))); buffer = over (concat (reportLines p (drawingOf p))) b }
   unfolding reportOf
-  fits p e = let w = concat (drawingLines p (drawingOf p)) in fitted-long (length w) w b (omega (arith, short text p e))
+  fits p e = let w = concat (reportLines p (drawingOf p)) in fitted-long (length w) w b (omega (arith, short text p e))
 
   prints-report : (n : ℕ) → Writes (reportOf (reading text) b) (Written n) out → Fronts (printed text) b n out
   unfolding printed printedOf reportOf
@@ -116,7 +114,7 @@ module _ (text b out : List ℕ) (m : maxReport ≤ length b) where
     where
       go : (g : Reading) → reading text ≡ g → Writes (reportOf g b) (Written n) out → Fronts (printedOf g) b n out
       go (accepted p) e w =
-          let told : gives n ≡ gives (length (concat (drawingLines p (drawingOf p)))) = w.answered ∙ ap (λ (o : TextOut). o.result) (fits p e) in
+          let told : gives n ≡ gives (length (concat (reportLines p (drawingOf p)))) = w.answered ∙ ap (λ (o : TextOut). o.result) (fits p e) in
           record { count = cc told; bytes = w.left ∙ ap (λ (o : TextOut). o.buffer) (fits p e) }
       go (refused k) e w = let told : gives n ≡ refuses k = w.answered in never (cc)
 
@@ -127,7 +125,7 @@ module _ (text b out : List ℕ) (m : maxReport ≤ length b) where
     where
       go : (g : Reading) → reading text ≡ g → Writes (reportOf g b) (Refused n) out → Fronts (printedOf g) b r after
       go (accepted p) e w =
-          let told : refuses n ≡ gives (length (concat (drawingLines p (drawingOf p)))) = w.answered ∙ ap (λ (o : TextOut). o.result) (fits p e) in
+          let told : refuses n ≡ gives (length (concat (reportLines p (drawingOf p)))) = w.answered ∙ ap (λ (o : TextOut). o.result) (fits p e) in
           never (cc)
       go (refused k) e w =
           let told : refuses n ≡ refuses k = w.answered in

@@ -6,9 +6,8 @@ ghost use Rattle.sheet_fit.specs.inner.Fitted.{fittedText};
 ghost use Rattle.text_report.specs.Tangled.{tangledReportOf};
 ghost use Rattle.text_report.specs.inner.Numbered.{Remembers, reportNumbered};
 
-use heights::heights;
 use pass_draw::draw::draw;
-use plan::data::{Plan, Spacing};
+use plan::data::Plan;
 use plan::numbers::wide;
 use report::data::Drawing;
 use sheet::types::LineAnswer;
@@ -18,7 +17,7 @@ use text_untangle::read_tangled_into;
 // The report of a rearranged plan, whose vertices have these numbers in the text.
 fn report_untangled(
     gap: u32,
-    spacing: Spacing,
+    spacing: u32,
     sizes: &[u16],
     vias: &[bool],
     halves: &[u16],
@@ -56,18 +55,10 @@ fn report_untangled(
         &mut vertices,
         &mut positions,
     );
-    let mut height = [0u64; Plan::MAX_VERTICES];
-    heights(
-        spacing,
-        sizes,
-        uppers,
-        lowers,
-        &finals[..v],
-        &mut height[..v],
-    );
     fit_report_by(
         numbers,
-        &height[..v],
+        spacing,
+        sizes,
         &preliminary[..v],
         &finals[..v],
         &passes[..p],

@@ -6,9 +6,8 @@ ghost use Rattle.text.specs.Reading.{accepted, reading};
 ghost use Rattle.sheet.specs.Calls.{Writes};
 ghost use Rattle.text_report.specs.Texts.{reportOf};
 
-use heights::heights;
 use pass_draw::draw::draw;
-use plan::data::{Plan, Spacing};
+use plan::data::Plan;
 use plan::numbers::wide;
 use report::data::Drawing;
 use sheet::types::LineAnswer;
@@ -18,7 +17,7 @@ use text_read::read_into;
 // The report of a plan that was read.
 fn report_plan(
     gap: u32,
-    spacing: Spacing,
+    spacing: u32,
     sizes: &[u16],
     vias: &[bool],
     halves: &[u16],
@@ -55,17 +54,9 @@ fn report_plan(
         &mut vertices,
         &mut positions,
     );
-    let mut height = [0u64; Plan::MAX_VERTICES];
-    heights(
+    fit_report(
         spacing,
         sizes,
-        uppers,
-        lowers,
-        &finals[..v],
-        &mut height[..v],
-    );
-    fit_report(
-        &height[..v],
         &preliminary[..v],
         &finals[..v],
         &passes[..p],

@@ -7,7 +7,7 @@ use Prim.Native.Nat.{ℕ, ◌+◌, ◌<◌}
 use lib.ListN.{length, drop, drop_of_length-le}
 use Rattle.text.specs.Bytes.{bytes}
 use Rattle.text.specs.Parser.{Got, got, nothing, Rule, give, then, either, word, number}
-use Rattle.text.specs.Form.{Vertex, SegmentLine, Slope, box, via, rating, segmentLine, slopeLine}
+use Rattle.text.specs.Form.{Vertex, SegmentLine, box, via, rating, segmentLine}
 use Rattle.text_scan.specs.inner.Scanned.{Finds, HasWord, numberThen, vertex, planLine, Ends}
 use native.Mathlib.Omega.{arith}
 use lib.Seq.{drop-cons}
@@ -159,40 +159,6 @@ module _ (s : List ℕ) where
         → planLine s ≡ cond b (got (record { levels = k; gap = g; spacing = d }) w) nothing
     unfolding planLine
     plan-gives b k g d u v w f h i = rw (e, f, h, i) (then-cond b d w (λ x. record { levels = k; gap = g; spacing = x }))
-
--- ---- the slope line
-module _ (s : List ℕ) where
-  pub slope-none : word (bytes "(slope ") s ≡ nothing → either slopeLine (give none) s ≡ got none s
-  unfolding slopeLine
-  slope-none e = rw e
-
-  module _ (t : List ℕ) (e : word (bytes "(slope ") s ≡ got tt t) where
-    abbrev slopeOf : ℕ → ℕ → Option Slope
-    slopeOf p q = some (record { sideways = p; downward = q })
-
-    -- what follows the second number, and what follows the first
-    abbrev given : ℕ → ℕ → Rule (Option Slope)
-    given p q v = got (slopeOf p q) v
-
-    abbrev second : ℕ → Rule (Option Slope)
-    second p u = then (number u) (λ q v. then (word (bytes ")\n") v) (λ _ x. given p q x))
-
-    slope-opens : slopeLine s ≡ then (numberThen (bytes " ") t) second
-    unfolding slopeLine
-    slope-opens = rw e (number-then (bytes " ") t second)
-
-    pub slope-no-first : numberThen (bytes " ") t ≡ nothing → either slopeLine (give none) s ≡ got none s
-    slope-no-first f = rw (slope-opens, f)
-
-    module _ (p : ℕ) (u : List ℕ) (f : numberThen (bytes " ") t ≡ got p u) where
-      slope-second : slopeLine s ≡ then (numberThen (bytes ")\n") u) (given p)
-      slope-second = slope-opens ∙ rw f (number-then (bytes ")\n") u (given p))
-
-      pub slope-no-second : numberThen (bytes ")\n") u ≡ nothing → either slopeLine (give none) s ≡ got none s
-      slope-no-second g = rw (slope-second, g)
-
-      pub slope-found : (q : ℕ) (v : List ℕ) → numberThen (bytes ")\n") u ≡ got q v → either slopeLine (give none) s ≡ got (slopeOf p q) v
-      slope-found q v g = rw (slope-second, g)
 
 -- ---- the end
 module _ (s : List ℕ) (at : ℕ) where

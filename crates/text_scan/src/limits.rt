@@ -1,11 +1,11 @@
 // Whether what was found is within its limits: the questions of check 2 that are asked line by line.
 ghost use Rattle.std.specs.Prelude.{◌≡◌, true, ◌&&◌};
-ghost use Rattle.text.specs.Reading.{halfInLimit, ratingInLimit, ratingOf, writtenSlopeInLimit, spacingOf};
-ghost use Rattle.text_scan.specs.inner.Scanned.{vertexOf, segmentOf, slopeOf, headerInLimits};
+ghost use Rattle.text.specs.Reading.{halfInLimit, ratingInLimit, ratingOf};
+ghost use Rattle.text_scan.specs.inner.Scanned.{vertexOf, segmentOf, headerInLimits};
 
-use crate::scanners::{FoundHeader, FoundSegment, FoundSlope, FoundVertex};
-use plan::data::{Plan, Spacing};
-use plan::limits::{half_width_fits, numbers_fit, rating_fits, slope_fits};
+use crate::scanners::{FoundHeader, FoundSegment, FoundVertex};
+use plan::data::Plan;
+use plan::limits::{half_width_fits, numbers_fit, rating_fits};
 use plan::numbers::wide;
 
 // "half-width 1 to 200"
@@ -50,36 +50,10 @@ pub fn both(a: bool, b: bool) -> bool
     a && b
 }
 
-// "P and Q from 1 to 100", where a slope is written.
-pub fn slope_in_limit(s: FoundSlope) -> bool
-    ensures { result ≡ writtenSlopeInLimit (slopeOf s) }
+// K, G and S, and K level lines.
+pub fn header_fits(h: FoundHeader, lines: usize) -> bool
+    ensures { result ≡ headerInLimits h lines }
 {
-    !s.found || slope_fits(s.sideways, s.downward)
-}
-
-// S and the slope as they are stored: P and Q are 0 where no slope is written.
-pub fn spacing_of(least: u32, s: FoundSlope) -> Spacing
-    ensures { result ≡ spacingOf least (slopeOf s) }
-{
-    if s.found {
-        return Spacing {
-            least,
-            sideways: s.sideways,
-            downward: s.downward,
-        };
-    }
-    Spacing {
-        least,
-        sideways: 0,
-        downward: 0,
-    }
-}
-
-// K, G and S, the slope where one is written, and K level lines.
-pub fn header_fits(h: FoundHeader, s: FoundSlope, lines: usize) -> bool
-    ensures { result ≡ headerInLimits h s lines }
-{
-    let numbers = numbers_fit(h.levels, h.gap, h.spacing);
-    let fit = both(numbers, slope_in_limit(s));
+    let fit = numbers_fit(h.levels, h.gap, h.spacing);
     both(fit, lines == wide(h.levels))
 }

@@ -2,7 +2,7 @@
 ghost use Rattle.std.specs.Prelude.{◌≡◌, ◌+◌, ◌≤◌, ◌<◌, length, get_or, true, ◌&&◌};
 ghost use Rattle.text.specs.Parser.{isDigit, number};
 ghost use Rattle.text.specs.Form.{box, segmentLine};
-ghost use Rattle.text_scan.specs.inner.Scanned.{Finds, HasWord, MoreDigits, numberThen, vertex, vertexOf, MayRate, segmentOf, planLine, headerOf, MaySlope, Ends};
+ghost use Rattle.text_scan.specs.inner.Scanned.{Finds, HasWord, MoreDigits, numberThen, vertex, vertexOf, MayRate, segmentOf, planLine, headerOf, Ends};
 
 // A number, and the position past it.
 #[derive(Drop)]
@@ -285,45 +285,6 @@ pub fn header_at(text: &[u8], at: usize) -> FoundHeader
         gap: g.value,
         spacing: s.value,
         next: s.next,
-    }
-}
-
-// P and Q of a slope, whether one is written, and the position past its line.
-#[derive(Drop)]
-pub struct FoundSlope {
-    pub found: bool,
-    pub sideways: u32,
-    pub downward: u32,
-    pub next: usize,
-}
-
-// "(slope P Q)", where a slope is written; else the position stays.
-pub fn slope_at(text: &[u8], at: usize) -> FoundSlope
-    requires { at ≤ length text.now }
-    ensures { MaySlope text.now at result }
-{
-    let none = FoundSlope {
-        found: false,
-        sideways: 0,
-        downward: 0,
-        next: at,
-    };
-    if !word_at(text, at, b"(slope ") {
-        return none;
-    }
-    let p = number_then(text, at + 7, b" ");
-    if !p.found {
-        return none;
-    }
-    let q = number_then(text, p.next, b")\n");
-    if !q.found {
-        return none;
-    }
-    FoundSlope {
-        found: true,
-        sideways: p.value,
-        downward: q.value,
-        next: q.next,
     }
 }
 

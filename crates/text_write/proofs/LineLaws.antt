@@ -9,18 +9,16 @@ use lib.ListN.{length, get_or, take, drop, length-append, length-map, get_or-app
 use lib.Seq.{get_or-append-add, take-suc, take_all}
 use Rattle.ints.specs.Lists.{sum, concat}
 use Rattle.ints.proofs.Lists.{map-getD, concat-append, concat-one}
-use Rattle.ints.proofs.Tests.{test}
-use Rattle.plan.specs.declared.data.Spacing.{Spacing}
 use Rattle.plan.specs.Plan.{PlanData, numbers, levelsFrom, levelsOf}
 use Rattle.plan.specs.Segments.{segmentsFrom, segmentsOf, ratedFrom, ratedOf}
 use Rattle.plan.specs.inner.Graph.{segment}
-use Rattle.plan.specs.Acceptable.{hasSlope, limitsHold}
+use Rattle.plan.specs.Acceptable.{limitsHold}
 use Rattle.plan.proofs.LevelLaws.{numbers-append}
 use Rattle.plan.proofs.RatedLaws.{rated, rated-at, rated-count}
 use Rattle.plan.proofs.SegmentLaws.{segment-at, segments-count}
-use Rattle.text.specs.Writing.{planLine, slopeLineOf, slopeLines, vertexWords, levelLineOf, segmentLineOf, lastLine, lines_of, text_of}
+use Rattle.text.specs.Writing.{planLine, vertexWords, levelLineOf, segmentLineOf, lastLine, lines_of, text_of}
 use Rattle.text_write.specs.inner.Written.{Room, Wrote, Fronts}
-use Rattle.text_write.specs.inner.Data.{verticesOf, numbersOf, sloping, rowWords, words_of, ratedSegment, line_of, levelVertices, LineRoom}
+use Rattle.text_write.specs.inner.Data.{verticesOf, numbersOf, rowWords, words_of, ratedSegment, line_of, levelVertices, LineRoom}
 use Rattle.text_write.proofs.Written.{and_then, wrote_none, wrote-long, front_of}
 
 -- ---- lists of lists
@@ -88,28 +86,6 @@ unfolding levelsFrom
 levels-count v [] = refl
 levels-count v (n ∷ ns) = ap suc (levels-count (v + n) ns)
 
--- one slope line, or none
-module _ (s : Spacing) where
-  pub slope-some : hasSlope s ≡ true → length (slopeLines s) ≡ 1
-  unfolding slopeLines
-  slope-some e = rw e
-
-  pub slope-none : hasSlope s ≡ false → length (slopeLines s) ≡ 0
-  unfolding slopeLines
-  slope-none e = rw e
-
-  pub slopes-few : length (slopeLines s) ≤ 1
-  slopes-few = test (hasSlope s) (λ e. omega (arith, slope-some e)) (λ e. omega (arith, slope-none e))
-
-  first : hasSlope s ≡ true → get_or (slopeLines s) 0 [] ≡ slopeLineOf s
-  unfolding slopeLines
-  first e = rw e
-
-  slope-at : (i : ℕ) → i < length (slopeLines s) → get_or (slopeLines s) i [] ≡ slopeLineOf s
-  slope-at i h = test (hasSlope s)
-      (λ e. let z : i ≡ 0 = omega (arith, slope-some e) in rw z (first e))
-      (λ e. absurd (omega (arith, slope-none e)))
-
 module _ (p : PlanData) where
   abbrev levelLines : List (List ℕ)
   levelLines = map (levelLineOf p) (levelsFrom 0 p.sizes)
@@ -132,79 +108,52 @@ module _ (p : PlanData) where
       let ss = segmentsFrom p.uppers p.lowers in
       length-map (ratedFrom ss p.ratings) segmentLineOf ∙ rated-count ss p.ratings (rated-all e) ∙ segments-count p.uppers p.lowers e.0
 
-  -- the slope line, if there is one
-  abbrev slopes : List (List ℕ)
-  slopes = slopeLines p.spacing
-
-  lines_from : lines_of p ≡ planLine p ∷ (slopes ++ (levelLines ++ (segmentLines ++ lastLine ∷ [])))
+  lines_from : lines_of p ≡ planLine p ∷ (levelLines ++ (segmentLines ++ lastLine ∷ []))
   unfolding lines_of levelsOf segmentsOf ratedOf
-  lines_from = ap (λ (l : List (List ℕ)). planLine p ∷ l)
-      (append_assoc (slopes ++ levelLines) segmentLines (lastLine ∷ []) ∙ append_assoc slopes levelLines (segmentLines ++ lastLine ∷ []))
+  lines_from = ap (λ (l : List (List ℕ)). planLine p ∷ l) (append_assoc levelLines segmentLines (lastLine ∷ []))
 
   pub line-plan : line_of p 0 ≡ planLine p
   unfolding lines_of
   line-plan = refl
 
-  pub line-slope : (n : ℕ) → 0 < n → n ≤ length (slopeLines p.spacing) → line_of p n ≡ slopeLineOf p.spacing
-  line-slope zero l h = absurd (omega arith)
-  line-slope (suc n) l h =
-      let g : n < length slopes = omega arith in
-      ap (λ (ls : List (List ℕ)). get_or ls (suc n) []) lines_from ∙ get_or-append slopes (levelLines ++ (segmentLines ++ lastLine ∷ [])) [] n g
-      ∙ slope-at p.spacing n g
+  pub line-level : (n : ℕ) → 0 < n → n ≤ length p.sizes → line_of p n ≡ levelLineOf p (levelVertices p.sizes (n - 1))
+  line-level zero l h = absurd (omega arith)
+  line-level (suc n) l h =
+      let e : suc n - 1 ≡ n = omega arith in
+      let f : 0 + sum (take n p.sizes) ≡ sum (take n p.sizes) = omega arith in
+      let g : n < length levelLines = omega (arith, level-lines) in
+      rw e (ap (λ (ls : List (List ℕ)). get_or ls (suc n) []) lines_from ∙ get_or-append levelLines (segmentLines ++ lastLine ∷ []) [] n g
+      ∙ map-getD (levelLineOf p) (levelsFrom 0 p.sizes) n [] [] (omega (arith, levels-count 0 p.sizes))
+      ∙ ap (levelLineOf p) (level-at 0 p.sizes n (omega arith) ∙ ap (λ (k : ℕ). numbers k (get_or p.sizes n 0)) f))
 
-  after-slope : (i : ℕ) → line_of p (suc (length slopes + i)) ≡ get_or (levelLines ++ (segmentLines ++ lastLine ∷ [])) i []
-  after-slope i = ap (λ (ls : List (List ℕ)). get_or ls (suc (length slopes + i)) []) lines_from ∙ get_or-append-add slopes (levelLines ++ (segmentLines ++ lastLine ∷ [])) i []
+  after-levels : (i : ℕ) → line_of p (suc (length p.sizes + i)) ≡ get_or (segmentLines ++ lastLine ∷ []) i []
+  after-levels i = rw (← level-lines) (ap (λ (ls : List (List ℕ)). get_or ls (suc (length levelLines + i)) []) lines_from ∙ get_or-append-add levelLines (segmentLines ++ lastLine ∷ []) i [])
 
-  pub line-level : (n : ℕ) → length (slopeLines p.spacing) < n → let l = n - 1 - length (slopeLines p.spacing) in
-      l < length p.sizes → line_of p n ≡ levelLineOf p (levelVertices p.sizes l)
-  line-level n k h =
-      let l = n - 1 - length slopes in
-      let e : n ≡ suc (length slopes + l) = omega arith in
-      let f : 0 + sum (take l p.sizes) ≡ sum (take l p.sizes) = omega arith in
-      ap (line_of p) e ∙ after-slope l ∙ get_or-append levelLines (segmentLines ++ lastLine ∷ []) [] l (omega (arith, level-lines))
-      ∙ map-getD (levelLineOf p) (levelsFrom 0 p.sizes) l [] [] (omega (arith, levels-count 0 p.sizes))
-      ∙ ap (levelLineOf p) (level-at 0 p.sizes l (omega arith) ∙ ap (λ (k : ℕ). numbers k (get_or p.sizes l 0)) f)
-
-  after-levels : (i : ℕ) → line_of p (suc (length slopes + (length p.sizes + i))) ≡ get_or (segmentLines ++ lastLine ∷ []) i []
-  after-levels i = after-slope (length p.sizes + i) ∙ rw (← level-lines) (get_or-append-add levelLines (segmentLines ++ lastLine ∷ []) i [])
-
-  -- a line past the level lines
-  abbrev pub Past : ℕ → Type 0
-  Past n = (length (slopeLines p.spacing) < n) × (length p.sizes ≤ n - 1 - length (slopeLines p.spacing))
-
-  pub line-segment : (n : ℕ) → Past n → Even → let i = n - 1 - length (slopeLines p.spacing) - length p.sizes in
-      i < length p.uppers → line_of p n ≡ segmentLineOf (ratedSegment (get_or p.uppers i 0) (get_or p.lowers i 0) (get_or p.ratings i 0))
+  pub line-segment : (n : ℕ) → length p.sizes < n → Even → n - 1 - length p.sizes < length p.uppers → let i = n - 1 - length p.sizes in
+      line_of p n ≡ segmentLineOf (ratedSegment (get_or p.uppers i 0) (get_or p.lowers i 0) (get_or p.ratings i 0))
   line-segment n l e h =
-      let i = n - 1 - length slopes - length p.sizes in
+      let i = n - 1 - length p.sizes in
       let ss = segmentsFrom p.uppers p.lowers in
       let count = segments-count p.uppers p.lowers e.0 in
-      let f : n ≡ suc (length slopes + (length p.sizes + i)) = omega arith in
+      let f : n ≡ suc (length p.sizes + i) = omega arith in
       ap (line_of p) f ∙ after-levels i
       ∙ get_or-append segmentLines (lastLine ∷ []) [] i (omega (arith, segment-lines e))
       ∙ map-getD segmentLineOf (ratedFrom ss p.ratings) i (rated (segment 0 0) 0) [] (omega (arith, rated-count ss p.ratings (rated-all e), count))
       ∙ ap segmentLineOf (rated-at ss p.ratings i (rated-all e) (omega (arith, count)) ∙ ap (λ s. rated s (get_or p.ratings i 0)) (segment-at p.uppers p.lowers i e.0 h))
 
-  pub lines-count : Even → length (lines_of p) ≡ length p.sizes + length p.uppers + 2 + length (slopeLines p.spacing)
-  lines-count e =
-      rw lines_from (omega (
-        arith,
-        length-append slopes (levelLines ++ (segmentLines ++ lastLine ∷ [])),
-        length-append levelLines (segmentLines ++ lastLine ∷ []),
-        length-append segmentLines (lastLine ∷ []),
-        level-lines,
-        segment-lines e,
-      ))
+  pub lines-count : Even → length (lines_of p) ≡ length p.sizes + length p.uppers + 2
+  lines-count e = rw lines_from (omega (arith, length-append levelLines (segmentLines ++ lastLine ∷ []), length-append segmentLines (lastLine ∷ []), level-lines, segment-lines e))
 
-  pub line-last : (n : ℕ) → Past n → Even → length p.uppers ≤ n - 1 - length (slopeLines p.spacing) - length p.sizes → n < length (lines_of p)
+  pub line-last : (n : ℕ) → length p.sizes < n → Even → length p.uppers ≤ n - 1 - length p.sizes → n < length (lines_of p)
       → line_of p n ≡ lastLine
   line-last n l e h k =
-      let f : n ≡ suc (length slopes + (length p.sizes + length p.uppers)) = omega (arith, lines-count e) in
+      let f : n ≡ suc (length p.sizes + length p.uppers) = omega (arith, lines-count e) in
       let g : length segmentLines + 0 ≡ length p.uppers = omega (arith, segment-lines e) in
       ap (line_of p) f ∙ after-levels (length p.uppers)
       ∙ ap (λ (j : ℕ). get_or (segmentLines ++ lastLine ∷ []) j []) (sym g)
       ∙ get_or-append-add segmentLines (lastLine ∷ []) 0 []
 
--- a level line asks for the vertices alone, the plan line for the numbers, the slope line for the slope
+-- a level line asks for the vertices alone, and the plan line for the numbers
 module _ (p : PlanData) where
   words_same : (vs : List ℕ) → map (vertexWords p) vs ≡ map (vertexWords (verticesOf p.vias p.halves)) vs
   unfolding vertexWords
@@ -215,13 +164,9 @@ module _ (p : PlanData) where
   unfolding levelLineOf
   level-same vs = rw (words_same vs)
 
-  pub plan-same : planLine p ≡ planLine (numbersOf p.levels p.gap p.spacing.least)
+  pub plan-same : planLine p ≡ planLine (numbersOf p.levels p.gap p.spacing)
   unfolding planLine
   plan-same = refl
-
-  pub slope-same : slopeLineOf p.spacing ≡ slopeLineOf (sloping p.spacing.sideways p.spacing.downward)
-  unfolding slopeLineOf
-  slope-same = refl
 
 -- ---- the whole text
 module _ (p : PlanData) where
@@ -252,27 +197,11 @@ module _ (p : PlanData) where
 
 -- ---- lines as the code picks them
 module _ (p : PlanData) (n : ℕ) where
-  pub line-0 : n ≡ 0 → line_of p n ≡ planLine (numbersOf p.levels p.gap p.spacing.least)
+  pub line-0 : n ≡ 0 → line_of p n ≡ planLine (numbersOf p.levels p.gap p.spacing)
   line-0 e = ap (line_of p) e ∙ line-plan p ∙ plan-same p
 
-  -- k is the number of slope lines
-  module _ (k : ℕ) (e : k ≡ length (slopeLines p.spacing)) where
-    pub line-s : (n ≡ 0 → ⊥) → n ≤ k → line_of p n ≡ slopeLineOf (sloping p.spacing.sideways p.spacing.downward)
-    line-s z h = line-slope p n (omega arith) (omega (arith, e)) ∙ slope-same p
-
-    pub line-l : k < n → n - 1 - k < length p.sizes → line_of p n ≡ levelLineOf (verticesOf p.vias p.halves) (levelVertices p.sizes (n - 1 - k))
-    line-l h l = rw e (line-level p n (omega (arith, e)) (omega (arith, e)) ∙ level-same p (levelVertices p.sizes (n - 1 - length (slopeLines p.spacing))))
-
-    module _ (h : k < n) (l : length p.sizes ≤ n - 1 - k) (q : Even p) where
-      past : Past p n
-      past = (omega (arith, e), omega (arith, e))
-
-      pub line-r : let i = n - 1 - k - length p.sizes in
-          i < length p.uppers → line_of p n ≡ segmentLineOf (ratedSegment (get_or p.uppers i 0) (get_or p.lowers i 0) (get_or p.ratings i 0))
-      line-r i = rw e (line-segment p n past q (omega (arith, e)))
-
-      pub line-e : length p.uppers ≤ n - 1 - k - length p.sizes → n < length (lines_of p) → line_of p n ≡ lastLine
-      line-e i = line-last p n past q (omega (arith, e))
+  pub line-l : (n ≡ 0 → ⊥) → n ≤ length p.sizes → line_of p n ≡ levelLineOf (verticesOf p.vias p.halves) (levelVertices p.sizes (n - 1))
+  line-l e h = line-level p n (omega arith) h ∙ level-same p (levelVertices p.sizes (n - 1))
 
 pub level-inside : (ns : List ℕ) (l : ℕ) → l < length ns → sum (take l ns) + get_or ns l 0 ≤ sum ns
 unfolding sum

@@ -2,41 +2,22 @@
 ghost use Rattle.std.specs.Prelude.{◌≡◌, true, ◌+◌, ◌<◌, ◌≤◌, length};
 ghost use Rattle.plan.specs.Plan.{numbers, data_of};
 ghost use Rattle.plan.specs.Acceptable.{limitsHold};
-ghost use Rattle.text.specs.Writing.{planLine, slopeLineOf, slopeLines, levelLineOf, ratingWords, segmentLineOf, text_of};
+ghost use Rattle.text.specs.Writing.{planLine, levelLineOf, ratingWords, segmentLineOf, text_of};
 ghost use Rattle.text_write.specs.inner.Written.{Room, Wrote, Fronts};
-ghost use Rattle.text_write.specs.inner.Data.{verticesOf, numbersOf, sloping, rowWords, words_of, ratedSegment, line_of, levelVertices, LevelRoom, LineRoom};
+ghost use Rattle.text_write.specs.inner.Data.{verticesOf, numbersOf, rowWords, words_of, ratedSegment, line_of, levelVertices, LevelRoom, LineRoom};
 
 use crate::number::{put_decimal, put_then, put_word};
 use ints::{total, wide};
-use plan::data::Spacing;
-use plan::limits::has_slope;
 
 // "(plan K G S)"
-fn put_plan(out: &mut [u8], at: usize, levels: u32, gap: u32, least: u32) -> usize
-    requires { Room (planLine (numbersOf levels gap least)) out.old at }
-    ensures { Wrote (planLine (numbersOf levels gap least)) out.old at result out.new }
+fn put_plan(out: &mut [u8], at: usize, levels: u32, gap: u32, spacing: u32) -> usize
+    requires { Room (planLine (numbersOf levels gap spacing)) out.old at }
+    ensures { Wrote (planLine (numbersOf levels gap spacing)) out.old at result out.new }
 {
     let k = put_word(out, at, b"(plan ");
     let g = put_then(out, k, levels as u64, b" ");
     let s = put_then(out, g, gap as u64, b" ");
-    put_then(out, s, least as u64, b")\n")
-}
-
-// "(slope P Q)"
-fn put_slope(out: &mut [u8], at: usize, sideways: u32, downward: u32) -> usize
-    requires { Room (slopeLineOf (sloping sideways downward)) out.old at }
-    ensures { Wrote (slopeLineOf (sloping sideways downward)) out.old at result out.new }
-{
-    let p = put_word(out, at, b"(slope ");
-    let q = put_then(out, p, sideways as u64, b" ");
-    put_then(out, q, downward as u64, b")\n")
-}
-
-// How many slope lines there are: one where there is a slope.
-pub fn slope_lines(spacing: Spacing) -> usize
-    ensures { result ≡ length (slopeLines spacing) }
-{
-    if has_slope(spacing) { 1 } else { 0 }
+    put_then(out, s, spacing as u64, b")\n")
 }
 
 // " (box 3)" or " (via)"
@@ -135,7 +116,7 @@ fn put_line(
     at: usize,
     levels: u32,
     gap: u32,
-    spacing: Spacing,
+    spacing: u32,
     sizes: &[u16],
     vias: &[bool],
     halves: &[u16],
@@ -149,17 +130,12 @@ fn put_line(
         lowers.now ratings.now) n) out.old at result out.new }
 {
     if n == 0 {
-        return put_plan(out, at, levels, gap, spacing.least);
+        return put_plan(out, at, levels, gap, spacing);
     }
-    let slopes = slope_lines(spacing);
-    if n <= slopes {
-        return put_slope(out, at, spacing.sideways, spacing.downward);
+    if n <= sizes.len() {
+        return put_level(out, at, sizes, vias, halves, n - 1);
     }
-    let l = n - 1 - slopes;
-    if l < sizes.len() {
-        return put_level(out, at, sizes, vias, halves, l);
-    }
-    let i = l - sizes.len();
+    let i = n - 1 - sizes.len();
     if i < uppers.len() {
         return put_segment(out, at, uppers[i], lowers[i], ratings[i]);
     }
@@ -170,7 +146,7 @@ fn put_line(
 pub fn line(
     levels: u32,
     gap: u32,
-    spacing: Spacing,
+    spacing: u32,
     sizes: &[u16],
     vias: &[bool],
     halves: &[u16],
@@ -193,7 +169,7 @@ pub fn line(
 pub fn text(
     levels: u32,
     gap: u32,
-    spacing: Spacing,
+    spacing: u32,
     sizes: &[u16],
     vias: &[bool],
     halves: &[u16],
@@ -207,7 +183,7 @@ pub fn text(
     ensures { Fronts (text_of (data_of levels gap spacing sizes.now vias.now halves.now
         uppers.now lowers.now ratings.now)) out.old result out.new }
 {
-    let lines = sizes.len() + uppers.len() + 2 + slope_lines(spacing);
+    let lines = sizes.len() + uppers.len() + 2;
     let mut at: usize = 0;
     let mut n: usize = 0;
     while n < lines {

@@ -102,9 +102,6 @@ fn main() {
         ("rated-wide", 300),
         ("rated-deep", 300),
         ("rated-max", 1_000),
-        ("sloped-wide", 300),
-        ("sloped-deep", 300),
-        ("sloped-max", 1_000),
     ] {
         measure(
             &format!("{kind} {vertices}"),

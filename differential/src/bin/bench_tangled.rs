@@ -98,7 +98,6 @@ fn far_from_sorted() -> Vec<u8> {
         levels: 4,
         gap: 1,
         spacing: 1,
-        slope: None,
         sizes: vec![32, 32, 64, 64],
         vertices: [
             boxes(32),

@@ -30,7 +30,7 @@ fn plan_text(name: &str, bytes: &[u8]) {
     let [proved, reference] = times.map(median);
     let (length, ratio) = (bytes.len(), proved / reference);
     println!(
-        "reread {name:12} {length:5} bytes  proved {:7.2} us  reference {:7.2} us  ratio {ratio:.2}",
+        "reread {name:11} {length:5} bytes  proved {:7.2} us  reference {:7.2} us  ratio {ratio:.2}",
         proved * 1e6,
         reference * 1e6
     );
@@ -48,7 +48,6 @@ fn main() {
         ("rated-max 0", generate("rated-max", 0).expect("a kind")),
         ("rated-max 1", generate("rated-max", 1).expect("a kind")),
         ("rated-max 2", generate("rated-max", 2).expect("a kind")),
-        ("sloped-max 0", generate("sloped-max", 0).expect("a kind")),
     ];
     for (name, bytes) in large {
         plan_text(name, &bytes);

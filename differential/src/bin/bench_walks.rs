@@ -38,7 +38,6 @@ fn side_by_side(crossing: Option<(usize, usize)>) -> Vec<u8> {
         levels: LEVELS as i64,
         gap: 1,
         spacing: 1,
-        slope: None,
         sizes: vec![WIDE; LEVELS],
         vertices: (0..Plan::MAX_VERTICES).map(vertex).collect(),
         segments: segments.into_iter().map(Segment::new).collect(),

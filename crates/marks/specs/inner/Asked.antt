@@ -2,10 +2,11 @@
 use Rattle.std.specs.Prelude.{Bool, true, List, ◌≡◌, ℕ, ◌+◌, ◌<◌, ◌≤◌, length, get_or, ℤ, Float}
 use Rattle.ints.specs.Lists.{over}
 use Rattle.ints.specs.Reach.{allWithin}
+use Rattle.plan.specs.Limits.{maxLevels, maxVertices, maxSpacing}
 use Rattle.plan.specs.Plan.{PlanData, data_of}
 use Rattle.plan.specs.inner.Graph.{Below}
+use Rattle.plan_checks.specs.inner.Heights.{HeightsOf}
 use Rattle.passes.specs.State.{position_of}
-use Rattle.passes.specs.Heights.{heightsOf}
 use Rattle.marks.specs.declared.types.Point.{Point}
 use Rattle.marks.specs.declared.types.Mark.{Mark}
 use Rattle.marks.specs.declared.types.Mark.TheVariants.{Line}
@@ -28,36 +29,62 @@ abbrev pub lineIn : List ℕ → List ℤ → ℕ → ℕ → Mark
 lineIn heights xs a b = Line (pointIn heights xs a) (pointIn heights xs b)
 
 -- ---- the other lists
--- Of lengths that agree, and segment ends that are vertices.
+-- Within the limits, of lengths that agree, and segment ends that are vertices.
 pub record Agreeing (vias : List Bool) (halves uppers lowers : List ℕ) (xs : List ℤ) : Type 0 where
+  pub few : length vias ≤ maxVertices
   pub widths : length halves ≡ length vias
   pub positions : length xs ≡ length vias
   pub ends : length lowers ≡ length uppers
   pub upper : Below (length vias) uppers
   pub lower : Below (length vias) lowers
 
--- A plan with these data, whatever else it has.
-abbrev pub DataOf : PlanData → List Bool → List ℕ → List ℕ → List ℕ → Type 0
-DataOf p vias halves uppers lowers = p ≡ data_of p.levels p.gap p.spacing p.sizes vias halves uppers lowers p.ratings
+-- A plan with these data, whatever its gap.
+abbrev pub DataOf : PlanData → ℕ → List ℕ → List Bool → List ℕ → List ℕ → List ℕ → Type 0
+DataOf p spacing sizes vias halves uppers lowers = p ≡ data_of p.levels p.gap spacing sizes vias halves uppers lowers p.ratings
 
--- A plan with these data whose vertices, which stand at xs, have these heights.
-pub record DataAt (p : PlanData) (heights : List ℕ) (xs : List ℤ) (vias : List Bool) (halves uppers lowers : List ℕ) : Type 0 where
-  pub raised : heights ≡ heightsOf p xs
-  pub lists : DataOf p vias halves uppers lowers
+-- A plan with these data whose vertices stand at these heights.
+pub record DataAt (p : PlanData) (heights : List ℕ) (vias : List Bool) (halves uppers lowers : List ℕ) : Type 0 where
+  pub raised : HeightsOf p.spacing p.sizes heights
+  pub lists : DataOf p p.spacing p.sizes vias halves uppers lowers
 
--- ---- what all marks ask for, and the n-th
-pub record AskedAll (heights : List ℕ) (vias : List Bool) (halves uppers lowers : List ℕ) (xs : List ℤ) : Type 0 where
+-- ---- by heights
+pub record AskedEach (heights : List ℕ) (vias : List Bool) (halves uppers lowers : List ℕ) (xs : List ℤ) : Type 0 where
   pub standing : Standing heights xs
   pub agreeing : Agreeing vias halves uppers lowers xs
 
-pub record Asked (heights : List ℕ) (vias : List Bool) (halves uppers lowers : List ℕ) (xs : List ℤ) (n : ℕ) : Type 0 where
-  pub lists : AskedAll heights vias halves uppers lowers xs
+pub record AskedAt (heights : List ℕ) (vias : List Bool) (halves uppers lowers : List ℕ) (xs : List ℤ) (n : ℕ) : Type 0 where
+  pub lists : AskedEach heights vias halves uppers lowers xs
   pub number : n < length vias + length uppers
 
 -- r is the n-th mark; `out` is o with the numbers of all marks at its front.
-abbrev pub IsMark : List ℕ → List Bool → List ℕ → List ℕ → List ℕ → List ℤ → ℕ → Mark → Type 0
-IsMark heights vias halves uppers lowers xs n r = (p : PlanData) → DataAt p heights xs vias halves uppers lowers → r ≡ mark_of p xs n
+abbrev pub IsMarkAt : List ℕ → List Bool → List ℕ → List ℕ → List ℕ → List ℤ → ℕ → Mark → Type 0
+IsMarkAt heights vias halves uppers lowers xs n r = (p : PlanData) → DataAt p heights vias halves uppers lowers → r ≡ mark_of p xs n
 
-abbrev pub AreMarks : List ℕ → List Bool → List ℕ → List ℕ → List ℕ → List ℤ → List Float → List Float → Type 0
-AreMarks heights vias halves uppers lowers xs o out =
-    (p : PlanData) → DataAt p heights xs vias halves uppers lowers → out ≡ over (allNumbers p xs) o
+abbrev pub AreMarksAt : List ℕ → List Bool → List ℕ → List ℕ → List ℕ → List ℤ → List Float → List Float → Type 0
+AreMarksAt heights vias halves uppers lowers xs o out =
+    (p : PlanData) → DataAt p heights vias halves uppers lowers → out ≡ over (allNumbers p xs) o
+
+-- ---- by spacing and levels
+-- The spacing and the levels within their limits, and final positions within ±2^40.
+pub record InReach (spacing : ℕ) (sizes : List ℕ) (xs : List ℤ) : Type 0 where
+  pub spaced : spacing ≤ maxSpacing
+  pub levels : length sizes ≤ maxLevels
+  pub within : allWithin xs ≡ true
+
+pub record AskedAll (spacing : ℕ) (sizes : List ℕ) (vias : List Bool) (halves uppers lowers : List ℕ) (xs : List ℤ) : Type 0 where
+  pub near : InReach spacing sizes xs
+  pub agreeing : Agreeing vias halves uppers lowers xs
+
+-- And n the number of a mark.
+pub record Asked (spacing : ℕ) (sizes : List ℕ) (vias : List Bool) (halves uppers lowers : List ℕ) (xs : List ℤ) (n : ℕ) : Type 0 where
+  pub lists : AskedAll spacing sizes vias halves uppers lowers xs
+  pub number : n < length vias + length uppers
+
+-- As above.
+abbrev pub IsMark : ℕ → List ℕ → List Bool → List ℕ → List ℕ → List ℕ → List ℤ → ℕ → Mark → Type 0
+IsMark spacing sizes vias halves uppers lowers xs n r =
+    (p : PlanData) → DataOf p spacing sizes vias halves uppers lowers → r ≡ mark_of p xs n
+
+abbrev pub AreMarks : ℕ → List ℕ → List Bool → List ℕ → List ℕ → List ℕ → List ℤ → List Float → List Float → Type 0
+AreMarks spacing sizes vias halves uppers lowers xs o out =
+    (p : PlanData) → DataOf p spacing sizes vias halves uppers lowers → out ≡ over (allNumbers p xs) o

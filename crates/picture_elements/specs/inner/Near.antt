@@ -2,11 +2,10 @@
 use Rattle.std.specs.Prelude.{ℕ, ◌≤◌, ◌<◌, ℤ}
 use Rattle.ints.specs.Ints.{size}
 use Rattle.ints.specs.Reach.{reach}
-use Rattle.passes.specs.inner.Highest.{maxHeight}
 
 -- x in half steps, y in steps.
 abbrev pub Near : ℤ → ℕ → Type 0
-Near x y = (size x ≤ reach) × (y ≤ maxHeight)
+Near x y = (size x ≤ reach) × (y ≤ 630000)
 
 -- A measure, and the rating of a line.
 abbrev pub Pen : ℕ → ℕ → Type 0

@@ -28,4 +28,4 @@ pub record PictureAsked (p : PlanData) (xs : List ℤ) (text starts ends : List 
 
 -- No picture of a plan with names of at most 65,536 bytes is longer.
 abbrev pub maxPicture : ℕ
-maxPicture = 1398504
+maxPicture = 1306334

@@ -1,6 +1,6 @@
 -- The elements of a picture by the lists that a program holds: of each vertex its height, its kind and its final position, of each segment
 -- its ends and its rating.
-use Rattle.std.specs.Prelude.{◌≡◌, Bool, true, false, cond, List, [], ◌++◌, map, ℕ, ◌+◌, ◌*◌, ◌≤◌, ◌<◌, length, get_or, ℤ}
+use Rattle.std.specs.Prelude.{◌≡◌, Bool, true, false, cond, List, [], ◌++◌, map, ℕ, ◌*◌, ◌≤◌, ◌<◌, length, get_or, ℤ}
 use Rattle.ints.specs.Lists.{concat}
 use Rattle.ints.specs.Ratings.{allRatings}
 use Rattle.ints.specs.Reach.{allWithin}
@@ -12,7 +12,6 @@ use Rattle.marks.specs.Marks.{box, bend, line}
 use Rattle.picture_numbers.specs.Thousandths.{amount}
 use Rattle.picture_view.specs.Measure.{leftmost, rightmost}
 use Rattle.picture_view.specs.View.{head_of, style}
-use Rattle.passes.specs.inner.Highest.{maxHeight}
 use Rattle.picture_view.specs.inner.Edges.{Edged}
 use Rattle.picture_elements.specs.Elements.{line_of, bendOf, boxOf}
 use Rattle.picture_marks.specs.inner.Asked.{NamesAsked}
@@ -25,7 +24,7 @@ walked f n = concat (map f (numbers 0 n))
 pub record Stands (heights : List ℕ) (xs : List ℤ) : Type 0 where
   pub long : length heights ≡ length xs
   pub few : length xs ≤ 1024
-  pub low : (v : ℕ) → v < length xs → get_or heights v 0 ≤ maxHeight
+  pub low : (v : ℕ) → v < length xs → get_or heights v 0 ≤ 630000
   pub within : allWithin xs ≡ true
 
 -- ---- lines
@@ -89,7 +88,7 @@ openingIn u h halves xs =
 pub record OpeningAsked (u h : ℕ) (halves : List ℕ) (xs : List ℤ) : Type 0 where
   pub edged : Edged halves xs
   pub measure : u ≤ 10000
-  pub high : h ≤ maxHeight + 10000
+  pub high : h ≤ 640000
 
 abbrev pub documentIn : ℕ → ℕ → List ℕ → List Bool → List ℕ → List ℕ → List ℕ → List ℕ → List ℤ → (ℕ → List ℕ) → List ℕ
 documentIn u h heights vias halves uppers lowers ratings xs name =

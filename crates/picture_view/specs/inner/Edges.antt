@@ -2,7 +2,6 @@
 use Rattle.std.specs.Prelude.{◌≡◌, true, List, ℕ, ◌+◌, ◌≤◌, ◌<◌, ◌^◌, length, get_or, ℤ}
 use Rattle.ints.specs.Ints.{size}
 use Rattle.ints.specs.Reach.{allWithin}
-use Rattle.passes.specs.inner.Highest.{maxHeight}
 
 -- Half-widths and final positions of some vertices.
 pub record Edged (halves : List ℕ) (xs : List ℤ) : Type 0 where
@@ -16,4 +15,4 @@ pub record Ends (lo hi : ℤ) (u h : ℕ) : Type 0 where
   pub left : size lo ≤ 2 ^ 40 + 400
   pub right : size hi ≤ 2 ^ 40 + 400
   pub measure : u ≤ 10000
-  pub high : h ≤ maxHeight + 10000
+  pub high : h ≤ 640000

@@ -2,12 +2,12 @@
 use Rattle.std.specs.Prelude.{Bool, true, cond, ◌&&◌, List, [], ◌≡◌, ℕ, zero, suc, ◌+◌, ◌<◌, ◌≤◌, ltb, eqb, length, get_or, set}
 use Rattle.ints.specs.Lists.{count_of}
 use Rattle.plan.specs.Limits.{maxLevels, maxVertices, maxSegments}
-use Rattle.plan.specs.Plan.{PlanData, data_of, evenly, levelIn}
+use Rattle.plan.specs.Plan.{PlanData, data_of, levelIn}
 use Rattle.plan.specs.Segments.{Segment}
 
 -- The data of which these lists are part; gap, spacing, half-widths and ratings are left out.
 abbrev pub graph_of : List ℕ → List Bool → List ℕ → List ℕ → PlanData
-graph_of sizes vias uppers lowers = data_of (length sizes) 0 (evenly 0) sizes vias [] uppers lowers []
+graph_of sizes vias uppers lowers = data_of (length sizes) 0 0 sizes vias [] uppers lowers []
 
 -- The segment (seg a b).
 abbrev pub segment : ℕ → ℕ → Segment

@@ -1,11 +1,10 @@
 -- A plan that passes the checks, by the lists that a program holds of it.
 use Rattle.std.specs.Prelude.{Bool, true, List, ◌≡◌, ℕ, length}
 use Rattle.plan.specs.Plan.{PlanData, data_of}
-use Rattle.plan.specs.declared.data.Spacing.{Spacing}
 use Rattle.plan.specs.Acceptable.{acceptable}
 
 -- The plan that these lists hold.
-abbrev pub heldPlan : ℕ → Spacing → List ℕ → List Bool → List ℕ → List ℕ → List ℕ → List ℕ → PlanData
+abbrev pub heldPlan : ℕ → ℕ → List ℕ → List Bool → List ℕ → List ℕ → List ℕ → List ℕ → PlanData
 heldPlan gap spacing sizes vias halves uppers lowers ratings = data_of (length sizes) gap spacing sizes vias halves uppers lowers ratings
 
 -- p has these lists, whatever its spacing and its ratings, and passes the checks.

@@ -1,7 +1,9 @@
--- A drawing in lists, as slices hold it, and the lines of its report. `heights` has the height of each vertex.
-use Rattle.std.specs.Prelude.{◌≡◌, true, List, [], map, ℕ, ◌+◌, ◌≤◌, ◌<◌, length, get_or, take, drop, ℤ}
+-- A drawing in lists, as slices hold it, and the lines of its report.
+use Rattle.std.specs.Prelude.{◌≡◌, true, false, List, [], map, ℕ, ◌+◌, ◌≤◌, ◌<◌, length, get_or, take, drop, replicate, ℤ}
 use Rattle.ints.specs.Lists.{sum, concat}
-use Rattle.plan.specs.Plan.{numbers}
+use Rattle.plan.specs.Limits.{maxLevels, maxVertices}
+use Rattle.plan.specs.Plan.{PlanData, numbers, data_of}
+use Rattle.plan_checks.specs.inner.Heights.{heightAt}
 use Rattle.text_write.specs.inner.Written.{Room}
 use Rattle.passes.specs.State.{position_of}
 use Rattle.passes.specs.Drawing.{Placing, Drawing}
@@ -11,9 +13,18 @@ use Rattle.passes.specs.Words.{maxListed, drawingWithin}
 use Rattle.report_lines.specs.inner.Forms.{placing}
 use Rattle.report.specs.Lines.{atLine, placeLine, reportLines}
 
--- The line of vertex v.
-abbrev pub vertexLine : List ℕ → List ℤ → List ℤ → ℕ → List ℕ
-vertexLine heights preliminary finals v = atLine v (position_of preliminary v) (position_of finals v) (get_or heights v 0)
+-- The data of which these are part, as far as the report asks for them: the level spacing, the levels' sizes and the number of
+-- vertices.
+abbrev pub planPart : ℕ → List ℕ → ℕ → PlanData
+planPart spacing sizes v = data_of 0 0 spacing sizes (replicate v false) [] [] [] []
+
+-- The height of vertex v, by a list that has the height of each.
+abbrev pub heightIn : List ℕ → ℕ → ℕ
+heightIn heights v = get_or heights v 0
+
+-- The line of vertex v, which stands at height y.
+abbrev pub vertexLine : List ℤ → List ℤ → ℕ → ℕ → List ℕ
+vertexLine preliminary finals v y = atLine v (position_of preliminary v) (position_of finals v) y
 
 -- The positions are those of the same vertices, and within reach.
 pub record Positions (preliminary finals : List ℤ) : Type 0 where
@@ -21,25 +32,41 @@ pub record Positions (preliminary finals : List ℤ) : Type 0 where
   pub ofPreliminary : allWithin preliminary ≡ true
   pub ofFinals : allWithin finals ≡ true
 
--- The buffer has room for the line of vertex v.
+-- And the levels and vertices are within their limits.
+pub record AtLists (sizes : List ℕ) (preliminary finals : List ℤ) : Type 0 where
+  pub positions : Positions preliminary finals
+  pub few : length sizes ≤ maxLevels
+  pub inLimit : length preliminary ≤ maxVertices
+
+-- The buffer has room for the line of vertex v, by the heights, and by the spacing and the levels' sizes.
 pub record VertexRoom (heights : List ℕ) (preliminary finals : List ℤ) (v : ℕ) (o : List ℕ) (at : ℕ) : Type 0 where
   pub vertex : v < length preliminary
   pub table : length heights ≡ length preliminary
   pub positions : Positions preliminary finals
-  pub room : Room (vertexLine heights preliminary finals v) o at
+  pub room : Room (vertexLine preliminary finals v (heightIn heights v)) o at
 
--- The lines of the vertices from the n-th at-line on, `count` of them, one after another.
-abbrev pub vertexLines : List ℕ → List ℤ → List ℤ → ℕ → ℕ → List ℕ
-vertexLines heights preliminary finals n count = concat (map (vertexLine heights preliminary finals) (numbers n count))
+pub record AtLineRoom (spacing : ℕ) (sizes : List ℕ) (preliminary finals : List ℤ) (v : ℕ) (o : List ℕ) (at : ℕ) : Type 0 where
+  pub vertex : v < length preliminary
+  pub lists : AtLists sizes preliminary finals
+  pub room : Room (vertexLine preliminary finals v (heightAt spacing sizes v)) o at
 
-abbrev pub allVertexLines : List ℕ → List ℤ → List ℤ → List ℕ
-allVertexLines heights preliminary finals = vertexLines heights preliminary finals 0 (length preliminary)
+-- The lines of the vertices from the n-th at-line on, `count` of them, one after another; `height` has the height of each vertex.
+abbrev pub vertexLines : List ℤ → List ℤ → (ℕ → ℕ) → ℕ → ℕ → List ℕ
+vertexLines preliminary finals height n count =
+    concat (map (λ i. vertexLine preliminary finals i (height i)) (numbers n count))
 
--- The buffer has room for the lines of all vertices.
+abbrev pub allVertexLines : List ℤ → List ℤ → (ℕ → ℕ) → List ℕ
+allVertexLines preliminary finals height = vertexLines preliminary finals height 0 (length preliminary)
+
+-- The buffer has room for the lines of all vertices, by the heights, and by the spacing and the levels' sizes.
 pub record VerticesRoom (heights : List ℕ) (preliminary finals : List ℤ) (o : List ℕ) (at : ℕ) : Type 0 where
   pub table : length heights ≡ length preliminary
   pub positions : Positions preliminary finals
-  pub room : Room (allVertexLines heights preliminary finals) o at
+  pub room : Room (allVertexLines preliminary finals (heightIn heights)) o at
+
+pub record AtLinesRoom (spacing : ℕ) (sizes : List ℕ) (preliminary finals : List ℤ) (o : List ℕ) (at : ℕ) : Type 0 where
+  pub lists : AtLists sizes preliminary finals
+  pub room : Room (allVertexLines preliminary finals (heightAt spacing sizes)) o at
 
 -- The k-th placing, whose boxes start at `start`.
 abbrev pub placingOf : List ℕ → List ℕ → List ℕ → List ℕ → List ℤ → ℕ → ℕ → Placing
@@ -71,25 +98,26 @@ pub record Stored (preliminary finals : List ℤ) (passes levels counts vertices
   pub within : drawingWithin (drawingFrom preliminary finals passes levels counts vertices positions) ≡ true
 
 -- Line n of the report.
-abbrev pub line_of : List ℕ → Drawing → ℕ → List ℕ
-line_of heights d n = get_or (reportLines heights d) n []
+abbrev pub line_of : PlanData → Drawing → ℕ → List ℕ
+line_of p d n = get_or (reportLines p d) n []
 
 -- Line n of the report of such a drawing, and the whole report.
-abbrev pub reportLineOf : List ℕ → List ℤ → List ℤ → List ℕ → List ℕ → List ℕ → List ℕ → List ℤ → ℕ → List ℕ
-reportLineOf heights preliminary finals passes levels counts vertices positions n =
-    line_of heights (drawingFrom preliminary finals passes levels counts vertices positions) n
+abbrev pub reportLineOf : ℕ → List ℕ → List ℤ → List ℤ → List ℕ → List ℕ → List ℕ → List ℕ → List ℤ → ℕ → List ℕ
+reportLineOf spacing sizes preliminary finals passes levels counts vertices positions n =
+    line_of (planPart spacing sizes (length preliminary)) (drawingFrom preliminary finals passes levels counts vertices positions) n
 
-abbrev pub reportOf : List ℕ → List ℤ → List ℤ → List ℕ → List ℕ → List ℕ → List ℕ → List ℤ → List ℕ
-reportOf heights preliminary finals passes levels counts vertices positions =
-    concat (reportLines heights (drawingFrom preliminary finals passes levels counts vertices positions))
+abbrev pub reportOf : ℕ → List ℕ → List ℤ → List ℤ → List ℕ → List ℕ → List ℕ → List ℕ → List ℤ → List ℕ
+reportOf spacing sizes preliminary finals passes levels counts vertices positions =
+    concat (reportLines (planPart spacing sizes (length preliminary)) (drawingFrom preliminary finals passes levels counts vertices positions))
 
 -- There is a line n, and the buffer has room for it.
-pub record LineRoom (heights : List ℕ) (preliminary finals : List ℤ) (passes levels counts vertices : List ℕ) (positions : List ℤ) (n : ℕ)
-    (o : List ℕ) : Type 0 where
-  pub table : length heights ≡ length preliminary
+pub record LineRoom (spacing : ℕ) (sizes : List ℕ) (preliminary finals : List ℤ) (passes levels counts vertices : List ℕ)
+    (positions : List ℤ) (n : ℕ) (o : List ℕ) : Type 0 where
+  pub few : length sizes ≤ maxLevels
+  pub inLimit : length preliminary ≤ maxVertices
   pub stored : Stored preliminary finals passes levels counts vertices positions
   pub line : n < length preliminary + length passes + 2
-  pub room : Room (reportLineOf heights preliminary finals passes levels counts vertices positions n) o 0
+  pub room : Room (reportLineOf spacing sizes preliminary finals passes levels counts vertices positions n) o 0
 
 -- The placings' lines, one after another.
 abbrev pub placeLines : List Placing → List ℕ
@@ -105,16 +133,17 @@ pub record PlacingsRoom (passes levels counts vertices : List ℕ) (positions : 
   pub room : Room (placeLines (placingsFrom passes levels counts vertices positions)) o at
 
 -- The buffer has room for the whole report.
-pub record ReportRoom (heights : List ℕ) (preliminary finals : List ℤ) (passes levels counts vertices : List ℕ) (positions : List ℤ)
-    (o : List ℕ) : Type 0 where
-  pub table : length heights ≡ length preliminary
+pub record ReportRoom (spacing : ℕ) (sizes : List ℕ) (preliminary finals : List ℤ) (passes levels counts vertices : List ℕ)
+    (positions : List ℤ) (o : List ℕ) : Type 0 where
+  pub few : length sizes ≤ maxLevels
+  pub inLimit : length preliminary ≤ maxVertices
   pub stored : Stored preliminary finals passes levels counts vertices positions
-  pub room : Room (reportOf heights preliminary finals passes levels counts vertices positions) o 0
+  pub room : Room (reportOf spacing sizes preliminary finals passes levels counts vertices positions) o 0
 
 -- How many bytes a line has at most: "(place 3 64", 64 boxes as " (1023 -1099511627776)", ")" and LF.
 abbrev pub maxLine : ℕ
 maxLine = 1421
 
--- And a report: 20 for the first line, 57 a vertex, 13 a placing, 22 a box in the placings, 6 for the last line.
+-- And a report: 20 for the first line, 47 a vertex, 13 a placing, 22 a box in the placings, 6 for the last line.
 abbrev pub maxReport : ℕ
-maxReport = 130074
+maxReport = 119834

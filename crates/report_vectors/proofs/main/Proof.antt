@@ -7,7 +7,7 @@ use Rattle.report_vectors.proofs.main.Statement.{statement}
 use Rattle.report_vectors.proofs.main.Tie as tie
 
 abbrev invariant-loop : tie.invariant-loop
-invariant-loop text₀ out₀ i₀ text out i = (length text ≡ 65537) × (length out ≡ 130074)
+invariant-loop text₀ out₀ i₀ text out i = (length text ≡ 65537) × (length out ≡ 119834)
 
 abbrev decreases-loop : tie.decreases-loop
 decreases-loop text₀ out₀ i₀ text out i = 2000 - i

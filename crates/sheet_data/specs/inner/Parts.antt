@@ -6,10 +6,10 @@ use Rattle.plan.specs.Stored.{planData}
 use Rattle.plan.specs.declared.data.Plan.{Plan}
 use Rattle.plan_renumber.specs.Renumber.{ownNumbers}
 use Rattle.report.specs.Refusal13.{isStoredPlan, isDrawingIn}
-use Rattle.passes.specs.Heights.{heightsOf}
 use Rattle.passes.specs.Drawing.{Drawing, drawingOf}
 use Rattle.passes.specs.Demand3.{Demand3}
-use Rattle.report.specs.Numbers.{numberedLines}
+use Rattle.report.specs.Lines.{reportLines}
+use Rattle.report.specs.Numbers.{inNumbers}
 use Rattle.marks.specs.declared.types.Mark.{Mark}
 use Rattle.marks.specs.Marks.{mark_of, allNumbers}
 use Rattle.report.specs.declared.data.Drawing.{Drawing as Arrays}
@@ -37,10 +37,6 @@ areOwnWith p m c = ownNumbers (planWith p c) (numbersIn m c)
 abbrev pub isDrawingWith : Plan → Arrays → Counts → Bool
 isDrawingWith p d c = isDrawingIn p d c.vertices c.segments c.placings
 
--- Of each vertex its height.
-abbrev pub heightsWith : Plan → Arrays → Counts → List ℕ
-heightsWith p d c = heightsOf (planWith p c) (drawingWith d c).final
-
 -- Neither is refused.
 pub record Holds (p : Plan) (d : Arrays) (c : Counts) : Type 0 where
   pub plan : isPlanWith p c ≡ true
@@ -51,7 +47,7 @@ abbrev pub lines_of : Counts → ℕ
 lines_of c = c.vertices + c.placings + 2
 
 abbrev pub linesWith : Plan → List ℕ → Arrays → Counts → List (List ℕ)
-linesWith p m d c = numberedLines (planWith p c) (numbersIn m c) (drawingWith d c)
+linesWith p m d c = reportLines (planWith p c) (inNumbers (numbersIn m c) (drawingWith d c))
 
 abbrev pub lineWith : Plan → List ℕ → Arrays → Counts → ℕ → List ℕ
 lineWith p m d c n = get_or (linesWith p m d c) n []

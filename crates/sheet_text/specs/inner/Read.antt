@@ -9,7 +9,7 @@ use Rattle.plan.specs.inner.Graph.{Below}
 use Rattle.plan_renumber.specs.Renumber.{inverse, renumbered}
 use Rattle.plan_renumber.specs.inner.Words.{Once, EachRated}
 use Rattle.report.specs.declared.data.Counts.{Counts}
-use Rattle.text.specs.Writing.{slopeLines, lines_of}
+use Rattle.text.specs.Writing.{lines_of}
 use Rattle.text_write.specs.inner.Stored.{StoredLimits}
 use Rattle.sheet_data.specs.inner.Parts.{planWith, numbersIn}
 
@@ -34,6 +34,6 @@ pub record Numbered (m : List ℕ) (vias : List Bool) (halves uppers lowers rati
 -- level down.
 pub record AsRead (p : Plan) (m : List ℕ) (c : Counts) (r : Plan) : Type 0 where
   pub is : planWith r c ≡ readWith p m c
-  pub lines : length (lines_of (planWith r c)) ≡ p.levels + c.segments + 2 + length (slopeLines p.spacing)
+  pub lines : length (lines_of (planWith r c)) ≡ p.levels + c.segments + 2
   pub limits : StoredLimits r c.vertices c.segments
   pub three : check3 (planWith r c) ≡ true

@@ -1,9 +1,8 @@
 -- What the inner functions promise. They take the parts of a sheet that they need.
-use Rattle.std.specs.Prelude.{Bool, List, [], ◌∷◌, ℕ, ◌+◌, ltb, length}
+use Rattle.std.specs.Prelude.{Bool, List, [], ◌∷◌, ℕ, ◌+◌, ltb}
 use Rattle.ints.specs.Refusals.{test, check, firstRefusal}
 use Rattle.plan.specs.declared.data.Plan.{Plan}
 use Rattle.report.specs.declared.data.Counts.{Counts}
-use Rattle.text.specs.Writing.{slopeLines}
 use Rattle.text_write.specs.inner.Data.{line_of}
 use Rattle.sheet_data.specs.inner.Parts.{isPlanWith, areOwnWith}
 use Rattle.sheet.specs.declared.types.Stage.{Stage}
@@ -20,7 +19,7 @@ textRefusal t tangled p m =
 
 -- How many lines there are, and what is left of the call by line where it is not refused from the state.
 abbrev pub textLines : Plan → Counts → ℕ
-textLines p c = p.levels + c.segments + 2 + length (slopeLines p.spacing)
+textLines p c = p.levels + c.segments + 2
 
 unfoldable pub textLineFrom : Plan → List ℕ → Counts → ℕ → List ℕ → TextOut
 textLineFrom p m c n buffer =

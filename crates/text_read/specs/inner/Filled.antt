@@ -13,7 +13,6 @@ use Rattle.text.specs.Form.{Vertex, SegmentLine, Lines, levelLine, segmentLine, 
 use Rattle.text.specs.Reading.{maxBytes, halfInLimit, rowInLimit, ratingInLimit, ratingOf, check2, stored}
 use Rattle.text_scan.specs.inner.Scanned.{vertex, headerInLimits}
 use Rattle.text_scan.specs.declared.scanners.FoundHeader.{FoundHeader}
-use Rattle.text_scan.specs.declared.scanners.FoundSlope.{FoundSlope}
 use Rattle.text_read.specs.declared.form.Row.{Row}
 use Rattle.text_read.specs.declared.form.Rows.{Rows}
 use Rattle.text_read.specs.declared.form.Segments.{Segments}
@@ -89,9 +88,9 @@ pub record FindsSegments (s : List ℕ) (at : ℕ) (r : Segments) (uppers lowers
   pub ratings-stored : ratings' ≡ sets ratings 0 (ratingsOf segments)
 
 -- Check 2's questions, of the numbers and counts that the program has.
-abbrev pub inLimits : FoundHeader → FoundSlope → Rows → Segments → Bool
-inLimits h slope r e =
-    headerInLimits h slope r.levels && r.fit && leb r.vertices maxVertices && leb e.count maxSegments && e.fit
+abbrev pub inLimits : FoundHeader → Rows → Segments → Bool
+inLimits h r e =
+    headerInLimits h r.levels && r.fit && leb r.vertices maxVertices && leb e.count maxSegments && e.fit
 
 -- The program holds the data p: its numbers and counts, and its lists at the front of the arrays.
 pub record Kept (p : PlanData) (r : Scanned) (sizes : List ℕ) (vias : List Bool) (halves uppers lowers ratings : List ℕ)

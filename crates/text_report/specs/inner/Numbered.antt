@@ -5,7 +5,8 @@ use Rattle.plan.specs.Plan.{PlanData}
 use Rattle.plan.specs.Acceptable.{acceptable}
 use Rattle.plan_renumber.specs.Renumber.{ownNumbers}
 use Rattle.passes.specs.Drawing.{drawingOf}
-use Rattle.report.specs.Numbers.{numberedLines}
+use Rattle.report.specs.Lines.{reportLines}
+use Rattle.report.specs.Numbers.{inNumbers}
 
 -- The plan passes the checks, and the numbers are its own.
 pub record Remembers (p : PlanData) (m : List ℕ) : Type 0 where
@@ -13,4 +14,4 @@ pub record Remembers (p : PlanData) (m : List ℕ) : Type 0 where
   pub own : ownNumbers p m ≡ true
 
 abbrev pub reportNumbered : PlanData → List ℕ → List ℕ
-reportNumbered p m = concat (numberedLines p m (drawingOf p))
+reportNumbered p m = concat (reportLines p (inNumbers m (drawingOf p)))

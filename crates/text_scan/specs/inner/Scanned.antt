@@ -5,12 +5,10 @@ use Rattle.std.proofs.Math.Option.{Option, none, some}
 use Rattle.plan.specs.Limits.{within, maxLevels, maxGap, maxSpacing}
 use Rattle.text.specs.Bytes.{bytes}
 use Rattle.text.specs.Parser.{got, nothing, Rule, give, ◌>>=◌, ◌>>◌, either, word, digitsAfter, number, then}
-use Rattle.text.specs.Form.{Vertex, SegmentLine, Slope, Lines, box, via, rating, slopeLine, whole}
-use Rattle.text.specs.Reading.{writtenSlopeInLimit}
+use Rattle.text.specs.Form.{Vertex, SegmentLine, Lines, box, via, rating, whole}
 use Rattle.text_scan.specs.declared.scanners.FoundVertex.{FoundVertex}
 use Rattle.text_scan.specs.declared.scanners.FoundSegment.{FoundSegment}
 use Rattle.text_scan.specs.declared.scanners.FoundHeader.{FoundHeader}
-use Rattle.text_scan.specs.declared.scanners.FoundSlope.{FoundSlope}
 
 -- The rule finds a at `at` and leaves the text from `next` on; or, where `found` is false, it finds nothing.
 pub record Finds {A : Type 0} (rule : Rule A) (s : List ℕ) (at : ℕ) (found : Bool) (a : A) (next : ℕ) : Type 0 where
@@ -74,21 +72,11 @@ planLine = do
 abbrev pub headerOf : FoundHeader → Header
 headerOf r = record { levels = r.levels; gap = r.gap; spacing = r.spacing }
 
--- The slope, if one is written.
-abbrev pub slopeOf : FoundSlope → Option Slope
-slopeOf r = cond r.found (some (record { sideways = r.sideways; downward = r.downward })) none
-
--- Whether a slope is written at `at`, which, and where the text goes on.
-pub record MaySlope (s : List ℕ) (at : ℕ) (r : FoundSlope) : Type 0 where
-  pub gives : either slopeLine (give none) (drop at s) ≡ got (slopeOf r) (drop r.next s)
-  pub inside : r.next ≤ length s
-
 -- Whether a text whose lines say l ends at `at`: "(end)", and nothing after it.
 pub record Ends (s : List ℕ) (at : ℕ) (r : Bool) : Type 0 where
   pub gives : (l : Lines) → whole (then (word (bytes "(end)\n") (drop at s)) (λ _ t. got l t)) ≡ cond r (some l) none
 
--- Check 2's questions of the plan line and the slope line, and whether there are K level lines.
-abbrev pub headerInLimits : FoundHeader → FoundSlope → ℕ → Bool
-headerInLimits h s lines =
-    within 1 maxLevels h.levels && within 1 maxGap h.gap && within 1 maxSpacing h.spacing
-    && writtenSlopeInLimit (slopeOf s) && eqb lines h.levels
+-- Check 2's questions of the plan line, and whether there are K level lines.
+abbrev pub headerInLimits : FoundHeader → ℕ → Bool
+headerInLimits h lines =
+    within 1 maxLevels h.levels && within 1 maxGap h.gap && within 1 maxSpacing h.spacing && eqb lines h.levels

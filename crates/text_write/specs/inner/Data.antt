@@ -2,8 +2,7 @@
 use Rattle.std.specs.Prelude.{◌≡◌, Bool, true, List, [], ◌∷◌, map, ℕ, ◌≤◌, ◌<◌, length, take, get_or}
 use Rattle.ints.specs.Lists.{sum, concat}
 use Rattle.plan.specs.Limits.{maxLevels}
-use Rattle.plan.specs.declared.data.Spacing.{Spacing}
-use Rattle.plan.specs.Plan.{PlanData, numbers, data_of, evenly}
+use Rattle.plan.specs.Plan.{PlanData, numbers, data_of}
 use Rattle.plan.specs.Segments.{Rated}
 use Rattle.plan.specs.Acceptable.{limitsHold}
 use Rattle.plan.specs.inner.Graph.{segment}
@@ -12,15 +11,11 @@ use Rattle.text_write.specs.inner.Written.{Room}
 
 -- The data of which these lists are part, as far as a vertex's words ask for them.
 abbrev pub verticesOf : List Bool → List ℕ → PlanData
-verticesOf vias halves = data_of 0 0 (evenly 0) [] vias halves [] [] []
+verticesOf vias halves = data_of 0 0 0 [] vias halves [] [] []
 
 -- The data of which these numbers are part, as far as the plan line asks for them.
 abbrev pub numbersOf : ℕ → ℕ → ℕ → PlanData
-numbersOf levels gap least = data_of levels gap (evenly least) [] [] [] [] [] []
-
--- The slope P over Q, as far as the slope line asks for it.
-abbrev pub sloping : ℕ → ℕ → Spacing
-sloping sideways downward = record { least = 0; sideways = sideways; downward = downward }
+numbersOf levels gap spacing = data_of levels gap spacing [] [] [] [] [] []
 
 -- The vertices of a level, from left to right, one after another: "(box 3) (via)", each with a space before it.
 abbrev pub rowWords : PlanData → List ℕ → List ℕ
@@ -38,9 +33,9 @@ ratedSegment a b w = record { segment = segment a b; rating = w }
 abbrev pub line_of : PlanData → ℕ → List ℕ
 line_of p n = get_or (lines_of p) n []
 
--- "A text of an acceptable plan has at most 51,754 bytes"
+-- "A text of an acceptable plan has at most 51,738 bytes"
 abbrev pub maxText : ℕ
-maxText = 51754
+maxText = 51738
 
 -- The vertices of level l, the first of which is 0 here.
 abbrev pub levelVertices : List ℕ → ℕ → List ℕ

@@ -1,38 +1,46 @@
--- `marks::marks::mark` meets its contract: by `vertex-is` and `segment-is` what the two kinds of mark are made of is the plan's.
-use mathlib.Core.Path.{refl, sym}
-use Prim.Native.Nat.{◌-◌, ◌<◌}
-use borrow.Author.Rules.{rules}
+-- `marks::marks::mark` meets its contract: the list has the height of each vertex.
+use mathlib.Core.Path.{◌≡◌, sym, ◌∙◌}
 use native.Mathlib.Omega.{arith}
-use lib.ListN.{length}
-use Rattle.marks.proofs.Laws.{ends-stand, vertex-is, segment-is}
+use lib.ListN.{length, length-append}
+use lib.Seq.{length-take-le, take_at}
+use Rattle.marks.proofs.Laws.{data-at, asked-each}
 use Rattle.marks.proofs.marks.mark.Statement.{statement}
 use Rattle.marks.proofs.marks.mark.Tie as tie
 
+-- what `heights` wrote is as long as the vertices
+long : (c : tie.After-heights) → length c.heights.new.1.1.0 ≡ length c.before.before.before.before.before.before.before.args.vias.now
+long c = c.heights.auto.1.1.0 ∙ length-take-le _ _ c.before.before.before.before.before.before.before.requires.lists.agreeing.few
+
+array-borrow-prefix-height : tie.Need-array-borrow-prefix-height
+array-borrow-prefix-height c = c.before.before.before.before.before.requires.lists.agreeing.few
+
+slice-aggregate-heights : tie.Need-slice-aggregate-heights
+slice-aggregate-heights c = sym (length-take-le _ _ c.before.before.before.before.before.before.requires.lists.agreeing.few)
+
+heights-requires : tie.Need-heights-requires
+heights-requires c κs =
+    let a = c.before.before.before.before.before.before.requires.lists in
+    (a.near.levels, rw (length-take-le _ _ a.agreeing.few) a.agreeing.few)
+
+array-share-prefix-height : tie.Need-array-share-prefix-height
+array-share-prefix-height c = rw length-append (omega (arith, long c.before))
+
+slice-aggregate-mark-at : tie.Need-slice-aggregate-mark-at
+slice-aggregate-mark-at c = rw (take_at _ _ _ (long c.before.before)) (sym (long c.before.before))
+
+mark-at-requires : tie.Need-mark-at-requires
+mark-at-requires c κs =
+    let l = c.before.before in
+    let s = l.before.before.before.before.before.before.before in
+    rw (take_at _ _ _ (long l)) (record { lists = asked-each l.heights.new.1.1.0 s.requires.lists (long l) l.heights.ensures; number = s.requires.number })
+
 returns : tie.Need-returns
 returns c p d =
-    let s = c.before.before.before.before.before.before.before.before.before.before in
-    let l = s.requires.lists in
-    let here : s.args.n < length s.args.heights.now = omega (arith, l.standing.long, l.agreeing.positions) in
-    rw (c.vertex-mark.ensures, c.before.before.before.point_at.ensures) (sym (vertex-is p _ _ _ _ _ _ s.args.n d (omega arith) here))
-
-segment-mark-requires : tie.Need-segment-mark-requires
-segment-mark-requires c κs =
-    let s = c.before.before.before.before.before.before.before.before in
-    let here : s.args.n - length s.args.vias.now < length s.args.uppers.now = omega (arith, s.requires.number) in
-    let ends = ends-stand s.requires.lists (s.args.n - length s.args.vias.now) here in
-    (s.requires.lists.standing, ends.0, ends.1)
-
-returns-2 : tie.Need-returns-2
-returns-2 c p d =
-    let s = c.before.before.before.before.before.before.before.before.before in
-    let k = s.args.n - length s.args.vias.now in
-    let ends = ends-stand s.requires.lists k (omega (arith, s.requires.number)) in
-    let long = s.requires.lists.standing.long in
-    rw c.segment-mark.ensures (sym (segment-is p _ _ _ _ _ _ s.args.n d k refl (omega arith) (omega (arith, ends.0, long)) (omega (arith, ends.1, long))))
+    let l = c.before.before.before in
+    (rw (take_at _ _ _ (long l)) at c.mark-at.ensures) p (data-at d l.heights.ensures)
 
 pub mark_spec : {M : Type 1} → statement M
 mark_spec =
     tie.close
-    (tie.spec (λ c κs. search rules) (λ c. search rules) (λ c. search rules) (λ c. search rules) (λ c κs. search rules) returns
-    (λ c. search rules) (λ c. search rules) (λ c. search rules) (λ c. search rules) (λ c. search rules) segment-mark-requires
-    returns-2)
+    (tie.spec array-borrow-prefix-height slice-aggregate-heights heights-requires array-share-prefix-height
+    slice-aggregate-mark-at mark-at-requires returns)

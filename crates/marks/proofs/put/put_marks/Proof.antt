@@ -1,43 +1,47 @@
--- `marks::put::put_marks` meets its contract: at each turn the first n marks stand in the slice and the others are left.
-use mathlib.Core.Path.{◌≡◌, refl, ◌∙◌}
-use Prim.Native.Nat.{◌+◌, ◌-◌, ◌≤◌}
+-- `marks::put::put_marks` meets its contract: the list has the height of each vertex.
+use mathlib.Core.Path.{◌≡◌, sym, ◌∙◌}
 use borrow.Author.Rules.{rules}
 use native.Mathlib.Omega.{arith}
-use lib.ListN.{length}
-use Rattle.plan.specs.Plan.{PlanData}
-use Rattle.marks.specs.inner.Asked.{DataAt}
-use Rattle.marks.proofs.All.{Left, none_yet, next-put, all-put}
-use Rattle.marks.proofs.Laws.{count-is}
+use lib.ListN.{length, length-append}
+use lib.Seq.{length-take-le, take_at}
+use Rattle.marks.proofs.Laws.{data-at, asked-each}
 use Rattle.marks.proofs.put.put_marks.Statement.{statement}
 use Rattle.marks.proofs.put.put_marks.Tie as tie
 
-abbrev invariant-loop : tie.invariant-loop
-invariant-loop heights vias halves uppers lowers finals out₀ n₀ out n = (n ≤ length vias + length uppers) × (length out ≡ length out₀)
-    × ((p : PlanData) → DataAt p heights finals vias halves uppers lowers → Left p finals n out₀ out)
+-- what `heights` wrote is as long as the vertices
+long : (c : tie.After-heights) → length c.heights.new.1.1.0 ≡ length c.before.before.before.before.before.before.before.before.args.vias.now
+long c = c.heights.auto.1.1.0 ∙ length-take-le _ _ c.before.before.before.before.before.before.before.before.requires.0.agreeing.few
 
-abbrev decreases-loop : tie.decreases-loop
-decreases-loop heights vias halves uppers lowers finals out₀ n₀ out n = length vias + length uppers - n
+array-borrow-prefix-height : tie.Need-array-borrow-prefix-height
+array-borrow-prefix-height c = c.before.before.before.before.before.before.requires.0.agreeing.few
 
-loop-holds : tie.Need-loop-init invariant-loop decreases-loop
-loop-holds c = let a = c.before.before.before.before.before.before.args in (omega arith, refl, λ p d. none_yet p a.finals.now a.out.now)
+slice-aggregate-heights : tie.Need-slice-aggregate-heights
+slice-aggregate-heights c = sym (length-take-le _ _ c.before.before.before.before.before.before.before.requires.0.agreeing.few)
 
-loop-again : tie.Need-loop-preserved invariant-loop decreases-loop
-loop-again c =
-    let a = c.before.before.before.before.before.before.before.before.before.before.before.before.before.args in
-    let l = c.before.before.before.before.before.before.loop in (
-      omega arith,
-      c.before.before.put-mark.auto.1.1.0 ∙ l.invariant.1,
-      λ p d. rw c.before.before.put-mark.ensures (next-put p a.finals.now l.n a.out.now l.out c.before.before.before.before.mark.result (omega (arith, count-is d.lists)) (c.before.before.before.before.mark.ensures p d) (l.invariant.2 p d)),
-    )
+heights-requires : tie.Need-heights-requires
+heights-requires c κs =
+    let a = c.before.before.before.before.before.before.before.requires.0 in
+    (a.near.levels, rw (length-take-le _ _ a.agreeing.few) a.agreeing.few)
 
-returns : tie.Need-returns invariant-loop decreases-loop
+array-share-prefix-height : tie.Need-array-share-prefix-height
+array-share-prefix-height c = rw length-append (omega (arith, long c.before))
+
+slice-aggregate-put-each : tie.Need-slice-aggregate-put-each
+slice-aggregate-put-each c = rw (take_at _ _ _ (long c.before.before)) (sym (long c.before.before))
+
+put-each-requires : tie.Need-put-each-requires
+put-each-requires c κs =
+    let l = c.before.before.before in
+    let s = l.before.before.before.before.before.before.before.before in
+    rw (take_at _ _ _ (long l)) (asked-each l.heights.new.1.1.0 s.requires.0 (long l) l.heights.ensures, s.requires.1)
+
+returns : tie.Need-returns
 returns c p d =
-    let s = c.before.before.before.before.before.before.before.before in
-    let n = count-is d.lists in
-    all-put p s.args.finals.now c.before.loop.n s.args.out.now c.before.loop.out (omega (arith, c.loop-test.false)) (omega (arith, s.requires.1)) (c.before.loop.invariant.2 p d)
+    let l = c.before.before.before.before.before.before in
+    (rw (take_at _ _ _ (long l)) at c.before.before.put-each.ensures) p (data-at d l.heights.ensures)
 
 pub put-marks-spec : {M : Type 1} → statement M
 put-marks-spec =
     tie.close
-    (tie.spec invariant-loop decreases-loop loop-holds (λ c. search rules) (λ c κs. search rules) (λ c. search rules) (λ c κs. search rules)
-    (λ c. search rules) (λ c. search rules) loop-again (λ c. search rules) returns)
+    (tie.spec array-borrow-prefix-height slice-aggregate-heights heights-requires array-share-prefix-height
+    slice-aggregate-put-each put-each-requires (λ c. search rules) returns)

@@ -14,11 +14,11 @@ put-drawing-requires c κs = rw (first-line c.before.before.before.before.before
 returns : tie.Need-returns
 returns c = fronts c.before.before.before.before.before.before.before.before.before.before.before.requires (first-line c.before.before.before.before.before.before.before.before.before.before.before.requires c.before.before.before.before.if1.true) c.before.before.put-drawing.ensures
 
-put-vertex-requires : tie.Need-put-vertex-requires
-put-vertex-requires c κs = vertex-room c.before.before.before.before.before.before.before.before.before.requires c.before.before.if1.false c.before.if2.true
+put-at-line-requires : tie.Need-put-at-line-requires
+put-at-line-requires c κs = vertex-room c.before.before.before.before.before.before.before.before.before.requires c.before.before.if1.false c.before.if2.true
 
 returns-2 : tie.Need-returns-2
-returns-2 c = fronts c.before.before.before.before.before.before.before.before.before.before.before.before.requires (vertex-line c.before.before.before.before.before.before.before.before.before.before.before.before.requires c.before.before.before.before.before.if1.false c.before.before.before.before.if2.true) c.before.before.put-vertex.ensures
+returns-2 c = fronts c.before.before.before.before.before.before.before.before.before.before.before.before.requires (vertex-line c.before.before.before.before.before.before.before.before.before.before.before.before.requires c.before.before.before.before.before.if1.false c.before.before.before.before.if2.true) c.before.before.put-at-line.ensures
 
 slice-aggregate-total : tie.Need-slice-aggregate-total
 slice-aggregate-total c = sym (length-take-le _ _ (omega (arith, c.before.before.before.before.before.before.before.before.before.before.requires.stored.ofCounts, c.before.if3.true)))
@@ -41,6 +41,6 @@ returns-4 c = fronts c.before.before.before.before.before.before.before.before.b
 pub put-report-line-spec : {M : Type 1} → statement M
 put-report-line-spec =
     tie.close
-    (tie.spec put-drawing-requires (λ c. search rules) returns (λ c. search rules) put-vertex-requires
+    (tie.spec put-drawing-requires (λ c. search rules) returns (λ c. search rules) put-at-line-requires
     (λ c. search rules) returns-2 (λ c. search rules) (λ c. search rules) slice-aggregate-total total-requires
     put-listed-requires (λ c. search rules) returns-3 (λ c. refl) put-word-requires (λ c. search rules) returns-4)

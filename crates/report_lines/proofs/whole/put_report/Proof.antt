@@ -8,20 +8,20 @@ use Rattle.report_lines.proofs.whole.put_report.Tie as tie
 put-drawing-requires : tie.Need-put-drawing-requires
 put-drawing-requires c κs = drawing-room c.before.before.before.before.before.before.before.requires
 
-put-vertices-requires : tie.Need-put-vertices-requires
-put-vertices-requires c κs = at_room c.before.before.before.before.before.before.before.before.before.before.before.requires c.before.before.before.put-drawing.ensures
+put-at-lines-requires : tie.Need-put-at-lines-requires
+put-at-lines-requires c κs = at_room c.before.before.before.before.before.before.before.before.before.before.before.requires c.before.before.before.put-drawing.ensures
 
 put-placings-requires : tie.Need-put-placings-requires
-put-placings-requires c κs = place-room c.before.before.before.before.before.before.before.before.before.before.before.before.before.before.before.requires c.before.before.before.before.before.before.before.put-drawing.ensures c.before.before.before.put-vertices.ensures
+put-placings-requires c κs = place-room c.before.before.before.before.before.before.before.before.before.before.before.before.before.before.before.requires c.before.before.before.before.before.before.before.put-drawing.ensures c.before.before.before.put-at-lines.ensures
 
 put-word-requires : tie.Need-put-word-requires
-put-word-requires c κs = end-room c.before.before.before.before.before.before.before.before.before.before.before.before.before.before.before.before.before.before.before.before.requires c.before.before.before.before.before.before.before.before.before.before.before.before.put-drawing.ensures c.before.before.before.before.before.before.before.before.put-vertices.ensures c.before.before.before.before.put-placings.ensures
+put-word-requires c κs = end-room c.before.before.before.before.before.before.before.before.before.before.before.before.before.before.before.before.before.before.before.before.requires c.before.before.before.before.before.before.before.before.before.before.before.before.put-drawing.ensures c.before.before.before.before.before.before.before.before.put-at-lines.ensures c.before.before.before.before.put-placings.ensures
 
 returns : tie.Need-returns
-returns c = report-fronts c.before.before.before.before.before.before.before.before.before.before.before.before.before.before.before.before.before.before.before.before.before.before.before.requires c.before.before.before.before.before.before.before.before.before.before.before.before.before.before.before.put-drawing.ensures c.before.before.before.before.before.before.before.before.before.before.before.put-vertices.ensures c.before.before.before.before.before.before.before.put-placings.ensures c.before.before.put_word.ensures
+returns c = report-fronts c.before.before.before.before.before.before.before.before.before.before.before.before.before.before.before.before.before.before.before.before.before.before.before.requires c.before.before.before.before.before.before.before.before.before.before.before.before.before.before.before.put-drawing.ensures c.before.before.before.before.before.before.before.before.before.before.before.put-at-lines.ensures c.before.before.before.before.before.before.before.put-placings.ensures c.before.before.put_word.ensures
 
 pub put-report-spec : {M : Type 1} → statement M
 put-report-spec =
     tie.close
-    (tie.spec put-drawing-requires put-vertices-requires put-placings-requires (λ c. refl) put-word-requires (λ c. search rules)
+    (tie.spec put-drawing-requires put-at-lines-requires put-placings-requires (λ c. refl) put-word-requires (λ c. search rules)
     returns)

@@ -53,7 +53,7 @@ returns : tie.Need-returns
 returns c =
     let l = c.before.before.before.before.before.before.before.before.before.before in
     let s = c.before.before.before.before.before.before.before.before.before.before.before.before.before.before.before.before.before.before.before.before.before in
-    rw (line-is s.requires.numbered l.in-numbers.ensures s.args.n) at (rw (take_at _ _ _ (starts-long l), take_at _ _ _ (ends-long l)) at c.before.before.put-report-line.ensures)
+    rw (line-is s.requires.numbered l.in-numbers.ensures s.args.spacing s.args.n) at (rw (take_at _ _ _ (starts-long l), take_at _ _ _ (ends-long l)) at c.before.before.put-report-line.ensures)
 
 pub put-line-by-spec : {M : Type 1} → statement M
 put-line-by-spec =

@@ -19,7 +19,7 @@ returns-3 : tie.Need-returns-3
 returns-3 c = sym (limits-not _ (λ l. never (sym (not-true _ c.if3.true) ∙ c.before.sizes-hold.ensures ∙ l.sizes)))
 
 total-requires : tie.Need-total-requires
-total-requires c κs = let a = c.before.before.before.before.before.before.before.before.before.before.before.before.args in omega (arith, few-levels a.levels a.gap a.spacing.least (sym c.before.before.before.before.before.numbers_fit.ensures ∙ not-false _ c.before.before.before.before.if1.false), c.before.before.if2.false, c.before.before.before.wide.ensures)
+total-requires c κs = let a = c.before.before.before.before.before.before.before.before.before.before.before.before.args in omega (arith, few-levels a.levels a.gap a.spacing (sym c.before.before.before.before.before.numbers_fit.ensures ∙ not-false _ c.before.before.before.before.if1.false), c.before.before.if2.false, c.before.before.before.wide.ensures)
 
 returns-4 : tie.Need-returns-4
 returns-4 c = sym (limits-not _ (λ l. c.if4.true (c.before.total.ensures ∙ l.summed)))
@@ -37,26 +37,21 @@ returns-8 : tie.Need-returns-8
 returns-8 c = sym (limits-not _ (λ l. never (sym (not-true _ c.if8.true) ∙ c.before.ratings-hold.ensures ∙ l.ratings)))
 
 returns-9 : tie.Need-returns-9
-returns-9 c = sym (limits-not _ (λ l. never (sym (not-true _ c.if9.true) ∙ c.before.slope-holds.ensures ∙ l.slope)))
+returns-9 c =
+    let c4 = c.before.before.before.before in
+    let c7 = c4.before.before.before in
+    let c10 = c7.before.before.before in
+    let c13 = c10.before.before.before in
+    limits-last _ (sym c13.before.numbers_fit.ensures ∙ not-false _ c13.if1.false)
+    (c10.before.if2.false ∙ c10.before.before.wide.ensures) (sym c10.sizes-hold.ensures ∙ not-false _ c7.before.before.if3.false)
+    (sym c7.before.total.ensures ∙ c7.if4.false) (sym c4.before.before.halves-hold.ensures ∙ not-false _ c4.before.if5.false)
+    c4.if6.false c.before.before.before.if7.false (sym c.before.before.ratings-hold.ensures ∙ not-false _ c.before.if8.false) c.if9.true
 
 returns-10 : tie.Need-returns-10
-returns-10 c =
-    let c2 = c.before.before in
-    let c6 = c2.before.before.before.before in
-    let c9 = c6.before.before.before in
-    let c12 = c9.before.before.before in
-    let c15 = c12.before.before.before in
-    limits-last _ (sym c15.before.numbers_fit.ensures ∙ not-false _ c15.if1.false)
-    (c12.before.if2.false ∙ c12.before.before.wide.ensures) (sym c12.sizes-hold.ensures ∙ not-false _ c9.before.before.if3.false)
-    (sym c9.before.total.ensures ∙ c9.if4.false) (sym c6.before.before.halves-hold.ensures ∙ not-false _ c6.before.if5.false)
-    c6.if6.false c2.before.before.before.if7.false (sym c2.before.before.ratings-hold.ensures ∙ not-false _ c2.before.if8.false)
-    (sym c2.slope-holds.ensures ∙ not-false _ c.before.if9.false) c.if10.true
-
-returns-11 : tie.Need-returns-11
-returns-11 c = limits-many _ c.if10.false
+returns-10 c = limits-many _ c.if9.false
 
 pub limits-hold-spec : {M : Type 1} → statement M
 limits-hold-spec =
     tie.close
     (tie.spec (λ c κs. search rules) returns (λ c κs. search rules) returns-2 (λ c κs. search rules) returns-3 total-requires
-    returns-4 (λ c κs. search rules) returns-5 returns-6 returns-7 (λ c κs. search rules) returns-8 (λ c κs. search rules) returns-9 returns-10 returns-11)
+    returns-4 (λ c κs. search rules) returns-5 returns-6 returns-7 (λ c κs. search rules) returns-8 returns-9 returns-10)

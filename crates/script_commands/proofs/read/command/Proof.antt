@@ -13,7 +13,7 @@ use Rattle.script_texts.specs.Texts.{unescaped}
 use Rattle.script_words.proofs.PartLaws.{rest}
 use Rattle.script_runs.specs.inner.Filled.{buffers}
 use Rattle.script_commands.specs.Commands.{load, loadTangled}
-use Rattle.script_commands.specs.Table.{calls, numberPokes, planPokes, loadingPokes, drawingPokes, saidBy, isSkipped, loading, walking, placing}
+use Rattle.script_commands.specs.Table.{calls, planPokes, loadingPokes, drawingPokes, saidBy, isSkipped, loading, walking, placing}
 use Rattle.script_commands.specs.inner.Held.{lent, shortened}
 use Rattle.script_commands.proofs.TableLaws.{command-skip, command-load, command-tangled, command-walk, command-place, command-said, bare-command}
 use Rattle.script_commands.proofs.read.command.Statement.{statement}
@@ -123,7 +123,7 @@ returns-6 c =
     let b = lent a.text.now (buffers a.old.now a.distances.now a.counts.now a.neighbours.now a.ratings.now) in
     let n = no-load w in
     let e = command-said l n.0 n.1 n.2 (has-not w.word-at3.ensures c4.if4.false) (has-not c.before.before.word-at4.ensures c.before.if5.false) in
-    rw e (bare-command (saidBy (calls ++ numberPokes ++ planPokes ++ loadingPokes ++ drawingPokes) l) c.said.result b c.said.ensures)
+    rw e (bare-command (saidBy (calls ++ planPokes ++ loadingPokes ++ drawingPokes) l) c.said.result b c.said.ensures)
 
 pub command-spec : {M : Type 1} → statement M
 command-spec =

@@ -1,12 +1,11 @@
 -- `sheet_data::marked::mark_with` meets its contract: the arrays are as long as what the counts cut off, and those parts hold the mark.
-use mathlib.Core.Path.{◌≡◌, sym, ◌∙◌}
+use mathlib.Core.Path.{sym}
 use native.Mathlib.Omega.{arith}
 use borrow.Author.Rules.{rules}
-use lib.ListN.{length, length-append}
-use lib.Seq.{length-take-le, take_at}
+use lib.Seq.{length-take-le}
 use Rattle.sheet_data.specs.inner.Parts.{planWith}
 use Rattle.sheet_data.proofs.Cuts.{PlanArrays, DrawingArrays, PlanCut, DrawingCut}
-use Rattle.sheet_data.proofs.Rooms.{in-plan, in-drawing, finals-near, mark-asked, mark-data}
+use Rattle.sheet_data.proofs.Rooms.{in-plan, in-drawing, mark-asked, mark-data}
 use Rattle.sheet_data.proofs.marked.mark_with.Statement.{statement}
 use Rattle.sheet_data.proofs.marked.mark_with.Tie as tie
 
@@ -30,76 +29,57 @@ of-plan c = in-plan c.args.plan c.args.drawing c.args.counts c.requires.0 (plan-
 of-drawing : (c : tie.Start) → DrawingCut c.args.drawing c.args.counts
 of-drawing c = in-drawing c.args.plan c.args.drawing c.args.counts c.requires.0 (plan-arrays c) (drawing-arrays c)
 
--- what `put_heights` wrote is as long as the vertices
-long : (c : tie.After-put-heights) → length c.put-heights.new.1.1.1.0 ≡ c.before.before.before.before.before.before.before.args.counts.vertices
-long c = c.put-heights.auto.1.1.1.0 ∙ length-take-le _ _ (of-plan c.before.before.before.before.before.before.before).few
-
-array-borrow-prefix-height : tie.Need-array-borrow-prefix-height
-array-borrow-prefix-height c = (of-plan c.before.before.before.before.before).few
-
-slice-aggregate-put-heights : tie.Need-slice-aggregate-put-heights
-slice-aggregate-put-heights c = sym (length-take-le _ _ (of-plan c.before.before.before.before.before.before).few)
-
-put-heights-requires : tie.Need-put-heights-requires
-put-heights-requires c κs =
-    let s = c.before.before.before.before.before.before in
-    let a = s.args in
-    (s.requires.0.plan, finals-near a.plan a.drawing a.counts s.requires.0, length-take-le _ _ (of-plan s).few)
-
-array-share-prefix-height : tie.Need-array-share-prefix-height
-array-share-prefix-height c = rw length-append (omega (arith, long c.before))
+array-share-prefix-sizes : tie.Need-array-share-prefix-sizes
+array-share-prefix-sizes c = omega (arith, (of-plan c.before.before.before.before.before.before.before).sizes, c.before.before.before.before.before.before.wide.ensures)
 
 slice-aggregate-mark : tie.Need-slice-aggregate-mark
-slice-aggregate-mark c = rw (take_at _ _ _ (long c.before.before)) (sym (long c.before.before))
+slice-aggregate-mark c = sym (length-take-le _ _ (omega (arith, (of-plan c.before.before.before.before.before.before.before.before).sizes, c.before.before.before.before.before.before.before.wide.ensures)))
 
 array-share-prefix-vias : tie.Need-array-share-prefix-vias
-array-share-prefix-vias c = (of-plan c.before.before.before.before.before.before.before.before.before).vias
+array-share-prefix-vias c = (of-plan c.before.before.before.before.before.before.before.before).vias
 
 slice-aggregate-mark-2 : tie.Need-slice-aggregate-mark-2
-slice-aggregate-mark-2 c = sym (length-take-le _ _ (of-plan c.before.before.before.before.before.before.before.before.before.before).vias)
+slice-aggregate-mark-2 c = sym (length-take-le _ _ (of-plan c.before.before.before.before.before.before.before.before.before).vias)
 
 array-share-prefix-halves : tie.Need-array-share-prefix-halves
-array-share-prefix-halves c = (of-plan c.before.before.before.before.before.before.before.before.before.before).halves
+array-share-prefix-halves c = (of-plan c.before.before.before.before.before.before.before.before.before).halves
 
 slice-aggregate-mark-3 : tie.Need-slice-aggregate-mark-3
-slice-aggregate-mark-3 c = sym (length-take-le _ _ (of-plan c.before.before.before.before.before.before.before.before.before.before.before).halves)
+slice-aggregate-mark-3 c = sym (length-take-le _ _ (of-plan c.before.before.before.before.before.before.before.before.before.before).halves)
 
 array-share-prefix-uppers : tie.Need-array-share-prefix-uppers
-array-share-prefix-uppers c = (of-plan c.before.before.before.before.before.before.before.before.before.before.before).uppers
+array-share-prefix-uppers c = (of-plan c.before.before.before.before.before.before.before.before.before.before).uppers
 
 slice-aggregate-mark-4 : tie.Need-slice-aggregate-mark-4
-slice-aggregate-mark-4 c = sym (length-take-le _ _ (of-plan c.before.before.before.before.before.before.before.before.before.before.before.before).uppers)
+slice-aggregate-mark-4 c = sym (length-take-le _ _ (of-plan c.before.before.before.before.before.before.before.before.before.before.before).uppers)
 
 array-share-prefix-lowers : tie.Need-array-share-prefix-lowers
-array-share-prefix-lowers c = (of-plan c.before.before.before.before.before.before.before.before.before.before.before.before).lowers
+array-share-prefix-lowers c = (of-plan c.before.before.before.before.before.before.before.before.before.before.before).lowers
 
 slice-aggregate-mark-5 : tie.Need-slice-aggregate-mark-5
-slice-aggregate-mark-5 c = sym (length-take-le _ _ (of-plan c.before.before.before.before.before.before.before.before.before.before.before.before.before).lowers)
+slice-aggregate-mark-5 c = sym (length-take-le _ _ (of-plan c.before.before.before.before.before.before.before.before.before.before.before.before).lowers)
 
 array-share-prefix-finals : tie.Need-array-share-prefix-finals
-array-share-prefix-finals c = (of-drawing c.before.before.before.before.before.before.before.before.before.before.before.before.before).finals
+array-share-prefix-finals c = (of-drawing c.before.before.before.before.before.before.before.before.before.before.before.before).finals
 
 slice-aggregate-mark-6 : tie.Need-slice-aggregate-mark-6
-slice-aggregate-mark-6 c = sym (length-take-le _ _ (of-drawing c.before.before.before.before.before.before.before.before.before.before.before.before.before.before).finals)
+slice-aggregate-mark-6 c = sym (length-take-le _ _ (of-drawing c.before.before.before.before.before.before.before.before.before.before.before.before.before).finals)
 
 mark-requires : tie.Need-mark-requires
 mark-requires c κs =
-    let h = c.before.before.before.before.before.before.before in
-    let s = h.before.before.before.before.before.before.before in
+    let s = c.before.before.before.before.before.before.before.before.before.before.before.before.before in
     let a = s.args in
-    rw (take_at _ _ _ (long h), h.put-heights.ensures) (mark-asked a.plan a.drawing a.counts s.requires.0 (plan-arrays s) (drawing-arrays s) a.n s.requires.1)
+    rw c.before.before.before.before.before.before.before.before.before.before.before.before.wide.ensures (mark-asked a.plan a.drawing a.counts s.requires.0 (plan-arrays s) (drawing-arrays s) a.n s.requires.1)
 
 returns : tie.Need-returns
 returns c =
-    let h = c.before.before.before.before.before.before.before.before in
-    let s = h.before.before.before.before.before.before.before in
+    let s = c.before.before.before.before.before.before.before.before.before.before.before.before.before.before in
     let a = s.args in
-    c.mark.ensures (planWith a.plan a.counts)
-    (rw (take_at _ _ _ (long h), h.put-heights.ensures) (mark-data a.plan a.drawing a.counts s.requires.0))
+    c.mark.ensures (planWith a.plan a.counts) (rw c.before.before.before.before.before.before.before.before.before.before.before.before.before.wide.ensures (mark-data a.plan a.drawing a.counts s.requires.0))
 
 pub mark-with-spec : {M : Type 1} → statement M
 mark-with-spec =
     tie.close
-    (tie.spec array-borrow-prefix-height slice-aggregate-put-heights put-heights-requires array-share-prefix-height slice-aggregate-mark
-    array-share-prefix-vias slice-aggregate-mark-2 array-share-prefix-halves slice-aggregate-mark-3 array-share-prefix-uppers slice-aggregate-mark-4
+    (tie.spec (λ c κs. search rules) array-share-prefix-sizes slice-aggregate-mark array-share-prefix-vias
+    slice-aggregate-mark-2 array-share-prefix-halves slice-aggregate-mark-3 array-share-prefix-uppers slice-aggregate-mark-4
     array-share-prefix-lowers slice-aggregate-mark-5 array-share-prefix-finals slice-aggregate-mark-6 mark-requires returns)

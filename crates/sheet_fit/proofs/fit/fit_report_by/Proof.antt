@@ -11,7 +11,7 @@ use Rattle.report_numbers.proofs.Rooms.{numberable, report-asked, report-is}
 use Rattle.sheet_fit.proofs.fit.fit_report_by.Statement.{statement}
 use Rattle.sheet_fit.proofs.fit.fit_report_by.Tie as tie
 
-numbered : (c : tie.Start) → HasNumbers c.args.m.now c.args.heights.now c.args.preliminary.now c.args.finals.now c.args.passes.now
+numbered : (c : tie.Start) → HasNumbers c.args.m.now c.args.sizes.now c.args.preliminary.now c.args.finals.now c.args.passes.now
     c.args.levels.now c.args.boxes.now c.args.vertices.now c.args.positions.now
 numbered c = (c.requires (replicate maxReport 0) (omega (arith, length-replicate {A = ℕ} maxReport 0))).numbered
 
@@ -60,7 +60,7 @@ returns : tie.Need-returns
 returns c =
     let l = c.before.before.before.before.before.before.before.before.before.before in
     let s = c.before.before.before.before.before.before.before.before.before.before.before.before.before.before.before.before.before.before.before.before.before in
-    rw (report-is (numbered s) l.in-numbers.ensures) at (rw (take_at _ _ _ (starts-long l), take_at _ _ _ (ends-long l)) at c.before.before.fit-report.ensures)
+    rw (report-is (numbered s) l.in-numbers.ensures s.args.spacing) at (rw (take_at _ _ _ (starts-long l), take_at _ _ _ (ends-long l)) at c.before.before.fit-report.ensures)
 
 pub fit-report-by-spec : {M : Type 1} → statement M
 fit-report-by-spec =

@@ -1,14 +1,16 @@
 -- `sheet_show::whole::report_of` meets its contract: the arrays are as long as what the counts cut off, and those parts hold the lines.
-use mathlib.Core.Path.{◌≡◌, sym, ◌∙◌}
+use mathlib.Core.Path.{◌≡◌, sym, ap}
 use native.Mathlib.Omega.{arith}
 use borrow.Author.Rules.{rules}
-use lib.ListN.{length, length-append}
-use lib.Seq.{length-take-le, take_at}
-use Rattle.plan.specs.Limits.{maxVertices}
-use Rattle.sheet_data.specs.inner.Parts.{numbersIn}
+use lib.Seq.{length-take-le}
 use Rattle.sheet_data.proofs.Cuts.{PlanArrays, DrawingArrays, PlanCut, DrawingCut}
-use Rattle.sheet_data.proofs.Rooms.{in-plan, in-drawing, finals-near}
-use Rattle.sheet_data.proofs.Remembered.{report-asked-by}
+use Rattle.sheet_data.proofs.Rooms.{in-plan, in-drawing}
+use Rattle.sheet_data.proofs.Remembered.{report-asked-by, report-same-by}
+use Rattle.sheet_data.specs.inner.Parts.{numbersIn}
+use Rattle.plan.specs.Limits.{maxVertices}
+use lib.ListN.{length}
+use Rattle.sheet_fit.specs.inner.Fitted.{fittedText}
+use Rattle.sheet_fit.proofs.FitLaws.{writes}
 use Rattle.sheet_show.proofs.whole.report_of.Statement.{statement}
 use Rattle.sheet_show.proofs.whole.report_of.Tie as tie
 
@@ -35,90 +37,74 @@ of-drawing c = in-drawing c.args.plan c.args.drawing c.args.counts c.requires.0 
 numbers-long : (c : tie.Start) → length c.args.t2 ≡ maxVertices
 numbers-long c = search rules
 
--- what `put_heights` wrote is as long as the vertices
-long : (c : tie.After-put-heights) → length c.put-heights.new.1.1.1.0 ≡ c.before.before.before.before.before.before.before.before.before.before.args.counts.vertices
-long c = c.put-heights.auto.1.1.1.0 ∙ length-take-le _ _ (of-plan c.before.before.before.before.before.before.before.before.before.before).few
-
-array-borrow-prefix-height : tie.Need-array-borrow-prefix-height
-array-borrow-prefix-height c = (of-plan c.before.before.before.before.before.before.before.before).few
-
-slice-aggregate-put-heights : tie.Need-slice-aggregate-put-heights
-slice-aggregate-put-heights c = sym (length-take-le _ _ (of-plan c.before.before.before.before.before.before.before.before.before).few)
-
-put-heights-requires : tie.Need-put-heights-requires
-put-heights-requires c κs =
-    let s = c.before.before.before.before.before.before.before.before.before in
-    let a = s.args in
-    (s.requires.0.plan, finals-near a.plan a.drawing a.counts s.requires.0, length-take-le _ _ (of-plan s).few)
-
 array-share-prefix-remembered : tie.Need-array-share-prefix-remembered
-array-share-prefix-remembered c = omega (arith, (of-plan c.before.before.before.before.before.before.before.before.before.before.before).few, numbers-long c.before.before.before.before.before.before.before.before.before.before.before)
+array-share-prefix-remembered c = omega (arith, (of-plan c.before.before.before.before.before.before.before.before.before.before).few, numbers-long c.before.before.before.before.before.before.before.before.before.before)
 
 slice-aggregate-fit-report-by : tie.Need-slice-aggregate-fit-report-by
-slice-aggregate-fit-report-by c = sym (length-take-le _ _ (omega (arith, (of-plan c.before.before.before.before.before.before.before.before.before.before.before.before).few, numbers-long c.before.before.before.before.before.before.before.before.before.before.before.before)))
+slice-aggregate-fit-report-by c = sym (length-take-le _ _ (omega (arith, (of-plan c.before.before.before.before.before.before.before.before.before.before.before).few, numbers-long c.before.before.before.before.before.before.before.before.before.before.before)))
 
-array-share-prefix-height : tie.Need-array-share-prefix-height
-array-share-prefix-height c = rw length-append (omega (arith, long c.before.before))
+array-share-prefix-sizes : tie.Need-array-share-prefix-sizes
+array-share-prefix-sizes c = omega (arith, (of-plan c.before.before.before.before.before.before.before.before.before.before.before).sizes, c.before.before.before.before.before.before.before.before.before.wide.ensures)
 
 slice-aggregate-fit-report-by-2 : tie.Need-slice-aggregate-fit-report-by-2
-slice-aggregate-fit-report-by-2 c = rw (take_at _ _ _ (long c.before.before.before)) (sym (long c.before.before.before))
+slice-aggregate-fit-report-by-2 c = sym (length-take-le _ _ (omega (arith, (of-plan c.before.before.before.before.before.before.before.before.before.before.before.before).sizes, c.before.before.before.before.before.before.before.before.before.before.wide.ensures)))
 
 array-share-prefix-preliminary : tie.Need-array-share-prefix-preliminary
-array-share-prefix-preliminary c = (of-drawing c.before.before.before.before.before.before.before.before.before.before.before.before.before).preliminary
+array-share-prefix-preliminary c = (of-drawing c.before.before.before.before.before.before.before.before.before.before.before.before).preliminary
 
 slice-aggregate-fit-report-by-3 : tie.Need-slice-aggregate-fit-report-by-3
-slice-aggregate-fit-report-by-3 c = sym (length-take-le _ _ (of-drawing c.before.before.before.before.before.before.before.before.before.before.before.before.before.before).preliminary)
+slice-aggregate-fit-report-by-3 c = sym (length-take-le _ _ (of-drawing c.before.before.before.before.before.before.before.before.before.before.before.before.before).preliminary)
 
 array-share-prefix-finals : tie.Need-array-share-prefix-finals
-array-share-prefix-finals c = (of-drawing c.before.before.before.before.before.before.before.before.before.before.before.before.before.before).finals
+array-share-prefix-finals c = (of-drawing c.before.before.before.before.before.before.before.before.before.before.before.before.before).finals
 
 slice-aggregate-fit-report-by-4 : tie.Need-slice-aggregate-fit-report-by-4
-slice-aggregate-fit-report-by-4 c = sym (length-take-le _ _ (of-drawing c.before.before.before.before.before.before.before.before.before.before.before.before.before.before.before).finals)
+slice-aggregate-fit-report-by-4 c = sym (length-take-le _ _ (of-drawing c.before.before.before.before.before.before.before.before.before.before.before.before.before.before).finals)
 
 array-share-prefix-passes : tie.Need-array-share-prefix-passes
-array-share-prefix-passes c = (of-drawing c.before.before.before.before.before.before.before.before.before.before.before.before.before.before.before).passes
+array-share-prefix-passes c = (of-drawing c.before.before.before.before.before.before.before.before.before.before.before.before.before.before).passes
 
 slice-aggregate-fit-report-by-5 : tie.Need-slice-aggregate-fit-report-by-5
-slice-aggregate-fit-report-by-5 c = sym (length-take-le _ _ (of-drawing c.before.before.before.before.before.before.before.before.before.before.before.before.before.before.before.before).passes)
+slice-aggregate-fit-report-by-5 c = sym (length-take-le _ _ (of-drawing c.before.before.before.before.before.before.before.before.before.before.before.before.before.before.before).passes)
 
 array-share-prefix-levels : tie.Need-array-share-prefix-levels
-array-share-prefix-levels c = (of-drawing c.before.before.before.before.before.before.before.before.before.before.before.before.before.before.before.before).levels
+array-share-prefix-levels c = (of-drawing c.before.before.before.before.before.before.before.before.before.before.before.before.before.before.before).levels
 
 slice-aggregate-fit-report-by-6 : tie.Need-slice-aggregate-fit-report-by-6
-slice-aggregate-fit-report-by-6 c = sym (length-take-le _ _ (of-drawing c.before.before.before.before.before.before.before.before.before.before.before.before.before.before.before.before.before).levels)
+slice-aggregate-fit-report-by-6 c = sym (length-take-le _ _ (of-drawing c.before.before.before.before.before.before.before.before.before.before.before.before.before.before.before.before).levels)
 
 array-share-prefix-boxes : tie.Need-array-share-prefix-boxes
-array-share-prefix-boxes c = (of-drawing c.before.before.before.before.before.before.before.before.before.before.before.before.before.before.before.before.before).counts
+array-share-prefix-boxes c = (of-drawing c.before.before.before.before.before.before.before.before.before.before.before.before.before.before.before.before).counts
 
 slice-aggregate-fit-report-by-7 : tie.Need-slice-aggregate-fit-report-by-7
-slice-aggregate-fit-report-by-7 c = sym (length-take-le _ _ (of-drawing c.before.before.before.before.before.before.before.before.before.before.before.before.before.before.before.before.before.before).counts)
+slice-aggregate-fit-report-by-7 c = sym (length-take-le _ _ (of-drawing c.before.before.before.before.before.before.before.before.before.before.before.before.before.before.before.before.before).counts)
 
 slice-aggregate-fit-report-by-8 : tie.Need-slice-aggregate-fit-report-by-8
-slice-aggregate-fit-report-by-8 c = sym (drawing-arrays c.before.before.before.before.before.before.before.before.before.before.before.before.before.before.before.before.before.before.before).vertices
+slice-aggregate-fit-report-by-8 c = sym (drawing-arrays c.before.before.before.before.before.before.before.before.before.before.before.before.before.before.before.before.before.before).vertices
 
 slice-aggregate-fit-report-by-9 : tie.Need-slice-aggregate-fit-report-by-9
-slice-aggregate-fit-report-by-9 c = sym (drawing-arrays c.before.before.before.before.before.before.before.before.before.before.before.before.before.before.before.before.before.before.before.before).positions
+slice-aggregate-fit-report-by-9 c = sym (drawing-arrays c.before.before.before.before.before.before.before.before.before.before.before.before.before.before.before.before.before.before.before).positions
 
 fit-report-by-requires : tie.Need-fit-report-by-requires
 fit-report-by-requires c κs =
-    let h = c.before.before.before.before.before.before.before.before.before.before.before in
-    let s = h.before.before.before.before.before.before.before.before.before.before in
+    let s = c.before.before.before.before.before.before.before.before.before.before.before.before.before.before.before.before.before.before.before.before in
     let a = s.args in
-    rw (take_at _ _ _ (long h), h.put-heights.ensures)
-    (λ o k. report-asked-by a.plan a.drawing a.counts s.requires.0 (plan-arrays s) (drawing-arrays s) (numbersIn a.t2 a.counts) s.requires.1 k)
+    rw c.before.before.before.before.before.before.before.before.before.before.before.before.before.before.before.before.before.before.wide.ensures (λ o k. report-asked-by a.plan a.drawing a.counts s.requires.0 (plan-arrays s) (drawing-arrays s) (numbersIn a.t2 a.counts) s.requires.1 k)
 
 same_length : tie.Need-same-length
-same_length c = c.before.before.fit-report-by.auto.1.1.1.1.1.1.1.1.1.0
+same_length c = c.before.before.fit-report-by.auto.1.1.1.1.1.1.1.1.1.1.0
 
 returns : tie.Need-returns
 returns c =
-    let h = c.before.before.before.before.before.before.before.before.before.before.before.before.before.before in
-    rw (take_at _ _ _ (long h), h.put-heights.ensures) at c.before.before.fit-report-by.ensures
+    let s = c.before.before.before.before.before.before.before.before.before.before.before.before.before.before.before.before.before.before.before.before.before.before.before in
+    let a = s.args in
+    writes (ap (λ w. fittedText w a.out.now) (report-same-by a.plan a.drawing a.counts s.requires.0 (plan-arrays s) (drawing-arrays s) (numbersIn a.t2 a.counts) s.requires.1)) (rw c.before.before.before.before.before.before.before.before.before.before.before.before.before.before.before.before.before.before.before.before.before.wide.ensures at c.before.before.fit-report-by.ensures)
 
 pub report-of-spec : {M : Type 1} → statement M
 report-of-spec =
     tie.close
-    (tie.spec array-borrow-prefix-height slice-aggregate-put-heights put-heights-requires array-share-prefix-remembered slice-aggregate-fit-report-by
-    array-share-prefix-height slice-aggregate-fit-report-by-2 array-share-prefix-preliminary slice-aggregate-fit-report-by-3 array-share-prefix-finals
-    slice-aggregate-fit-report-by-4 array-share-prefix-passes slice-aggregate-fit-report-by-5 array-share-prefix-levels slice-aggregate-fit-report-by-6
-    array-share-prefix-boxes slice-aggregate-fit-report-by-7 slice-aggregate-fit-report-by-8 slice-aggregate-fit-report-by-9 fit-report-by-requires same_length returns)
+    (tie.spec (λ c κs. search rules) array-share-prefix-remembered slice-aggregate-fit-report-by array-share-prefix-sizes slice-aggregate-fit-report-by-2 array-share-prefix-preliminary
+    slice-aggregate-fit-report-by-3 array-share-prefix-finals slice-aggregate-fit-report-by-4 array-share-prefix-passes
+    slice-aggregate-fit-report-by-5 array-share-prefix-levels slice-aggregate-fit-report-by-6 array-share-prefix-boxes
+    slice-aggregate-fit-report-by-7 slice-aggregate-fit-report-by-8 slice-aggregate-fit-report-by-9
+    fit-report-by-requires same_length returns)

@@ -11,7 +11,6 @@ use Rattle.report_validity.proofs.Stored.{stored_of}
 use Rattle.text.specs.Writing.{lines_of}
 use Rattle.text_write.specs.inner.Data.{line_of}
 use Rattle.text_write.specs.inner.Stored.{StoredPlan}
-use Rattle.text_write.proofs.LineLaws.{slopes-few}
 use Rattle.sheet_data.specs.inner.Parts.{planWith}
 use Rattle.sheet_fit.proofs.FitLaws.{writes, front_long, front-is}
 use Rattle.sheet_text.proofs.Short.{line-short}
@@ -22,30 +21,23 @@ use Rattle.sheet_text.proofs.line.text_line_of.Tie as tie
 stored : (c : tie.Start) → StoredPlan c.args.plan c.args.counts.vertices c.args.counts.segments
 stored c = stored_of c.args.plan c.args.counts.vertices c.args.counts.segments c.requires.0
 
-add-lines : tie.Need-overflow-add-lines
-add-lines c = omega (arith, c.before.wide.ensures, (stored c.before.before.before).levels, (stored c.before.before.before).segments)
+add-if1 : tie.Need-overflow-add-if1
+add-if1 c = omega (arith, c.before.wide.ensures, (stored c.before.before.before).levels, (stored c.before.before.before).segments)
 
-add-lines-2 : tie.Need-overflow-add-lines-2
-add-lines-2 c = omega (arith, c.before.wide.ensures, (stored c.before.before.before).levels, (stored c.before.before.before).segments)
-
-add-lines-3 : tie.Need-overflow-add-lines-3
-add-lines-3 c =
-    let s = c.before.before.before.before in
-    omega (arith, c.before.before.wide.ensures, (stored s).levels, (stored s).segments, c.slope-lines.ensures, slopes-few s.args.plan.spacing)
+add-if1-2 : tie.Need-overflow-add-if1-2
+add-if1-2 c = omega (arith, c.before.wide.ensures, (stored c.before.before.before).levels, (stored c.before.before.before).segments)
 
 returns : tie.Need-returns
 returns c =
-    let a = c.before.before.before.before.before.args in
-    writes (no_line a.plan a.remembered a.counts a.n a.out.now (omega (arith, c.if1.true, c.before.before.before.wide.ensures, c.before.slope-lines.ensures)))
-    (record { answered = refl; left = refl })
+    let a = c.before.before.before.before.args in
+    writes (no_line a.plan a.remembered a.counts a.n a.out.now (omega (arith, c.if1.true, c.before.before.wide.ensures))) (record { answered = refl; left = refl })
 
 stored-line-requires : tie.Need-stored-line-requires
 stored-line-requires c κs =
-    let a = c.before.before.before.before.before.before.before.args in
+    let a = c.before.before.before.before.before.before.args in
     let r = c.before.as_read in
     let is = r.ensures in
-    let line : a.n < length (lines_of (planWith r.result a.counts)) =
-    omega (arith, is.lines, c.before.before.if1.false, c.before.before.before.before.before.wide.ensures, c.before.before.before.slope-lines.ensures) in
+    let line : a.n < length (lines_of (planWith r.result a.counts)) = omega (arith, is.lines, c.before.before.if1.false, c.before.before.before.before.wide.ensures) in
     (is.limits, record { plan = is.limits.plan; line = line; room = rw length-replicate (omega (arith, line-short (planWith r.result a.counts) is.limits.plan is.three a.n line)) })
 
 array-share-prefix-room : tie.Need-array-share-prefix-room
@@ -56,14 +48,13 @@ slice-aggregate-fit c = sym (length-take-le _ _ (front_long c.before.before.stor
 
 returns-2 : tie.Need-returns-2
 returns-2 c =
-    let a = c.before.before.before.before.before.before.before.before.before.before.before.before.before.before.args in
+    let a = c.before.before.before.before.before.before.before.before.before.before.before.before.before.args in
     let r = c.before.before.before.before.before.before.before.before.as_read in
     let line = front-is {w = line_of (planWith r.result a.counts) a.n} c.before.before.before.before.before.before.stored-line.ensures ∙ ap (λ (d : PlanData). line_of d a.n) r.ensures.is in
-    writes (a-line a.plan a.remembered a.counts a.n a.out.now (omega (arith, c.before.before.before.before.before.before.before.before.before.if1.false, c.before.before.before.before.before.before.before.before.before.before.before.before.wide.ensures, c.before.before.before.before.before.before.before.before.before.before.slope-lines.ensures)))
-    (rw line at c.before.before.fit.ensures)
+    writes (a-line a.plan a.remembered a.counts a.n a.out.now (omega (arith, c.before.before.before.before.before.before.before.before.before.if1.false, c.before.before.before.before.before.before.before.before.before.before.before.wide.ensures))) (rw line at c.before.before.fit.ensures)
 
 pub text-line-of-spec : {M : Type 1} → statement M
 text-line-of-spec =
     tie.close
-    (tie.spec (λ c κs. search rules) add-lines add-lines-2 (λ c κs. search rules) add-lines-3 returns (λ c κs. search rules) (λ c. search rules) stored-line-requires
-    array-share-prefix-room slice-aggregate-fit (λ c κs. search rules) (λ c. search rules) returns-2)
+    (tie.spec (λ c κs. search rules) add-if1 add-if1-2 returns (λ c κs. search rules) (λ c. search rules) stored-line-requires array-share-prefix-room
+    slice-aggregate-fit (λ c κs. search rules) (λ c. search rules) returns-2)

@@ -10,11 +10,9 @@ use Rattle.ints.proofs.FrontLaws.{first-fit, first-is, first_count}
 use Rattle.plan.specs.Plan.{PlanData}
 use Rattle.plan.specs.inner.Held.{heldPlan}
 use Rattle.plan.proofs.HeldLaws.{holds-held, few-vertices}
-use Rattle.passes.specs.Heights.{heightsOf}
 use Rattle.passes.specs.Drawing.{drawingOf}
-use Rattle.sheet_data.proofs.ReadBack.{final-long}
 use Rattle.sheet_fit.proofs.FitLaws.{writes}
-use Rattle.text_marks.proofs.Shown.{heights-asked, framed, marks-asked}
+use Rattle.text_marks.proofs.Shown.{marks-asked}
 use Rattle.text_marks.proofs.Texts.{marks-of}
 use Rattle.text_marks.proofs.all_marks.marks_plan.Statement.{statement}
 use Rattle.text_marks.proofs.all_marks.marks_plan.Tie as tie
@@ -65,73 +63,21 @@ draw-positions-requires c κs =
 array-share-prefix-finals : tie.Need-array-share-prefix-finals
 array-share-prefix-finals c = let d = c.before.before in first-fit (drawn d) (rest (count d)) (count d) (long d)
 
-slice-aggregate-heights : tie.Need-slice-aggregate-heights
-slice-aggregate-heights c = let d = c.before.before.before in first_count (drawn d) (rest (count d)) (count d) (long d)
-
--- heights, as many as there are vertices
-abbrev raised : tie.After-heights → List ℕ
-raised c = c.heights.new.1.1.1.1.1.0
-
-abbrev noughts : List ℕ
-noughts = replicate 1024 0
-
-noughts-long : (c : tie.Start) → length (take (length c.args.vias.now) noughts) ≡ length c.args.vias.now
-noughts-long c = length-take-le _ noughts (few-vertices (held c) c.requires)
-
-raised_long : (c : tie.After-heights) → length (raised c) ≡ count c.before.before.before.before.before
-raised_long c = c.heights.auto.1.1.1.1.1.0 ∙ noughts-long (start c.before.before.before.before.before)
-
-array-borrow-prefix-height : tie.Need-array-borrow-prefix-height
-array-borrow-prefix-height c = few-vertices (held c.before.before.before.before.before.before.before.before.before.before.before.before.before) c.before.before.before.before.before.before.before.before.before.before.before.before.before.requires
-
-slice-aggregate-heights-2 : tie.Need-slice-aggregate-heights-2
-slice-aggregate-heights-2 c = sym (noughts-long c.before.before.before.before.before.before.before.before.before.before.before.before.before.before)
-
-heights-requires : tie.Need-heights-requires
-heights-requires c κs =
-    let d = c.before.before.before.before in
-    let p = held (start d) in
-    rw (final d) (heights-asked p (start d).requires, noughts-long (start d) ∙ sym (final-long p (start d).requires))
-
--- they are those of the drawing
-heights-are : (c : tie.After-heights) →
-    let d = c.before.before.before.before.before in
-    let p = held (start d) in
-    take (count d) (raised c ++ drop (count d) noughts) ≡ heightsOf p (drawingOf p).final
-heights-are c =
-    let d = c.before.before.before.before.before in
-    let p = held (start d) in
-    first-is (raised c) (drop (count d) noughts) (count d) (raised_long c) ∙ (rw (final d) at c.heights.ensures) p (framed p (start d).requires)
-
-array-share-prefix-height : tie.Need-array-share-prefix-height
-array-share-prefix-height c = let h = c.before in let d = h.before.before.before.before.before in first-fit (raised h) (drop (count d) noughts) (count d) (raised_long h)
-
 slice-aggregate-fit-marks : tie.Need-slice-aggregate-fit-marks
-slice-aggregate-fit-marks c = let h = c.before.before in let d = h.before.before.before.before.before in first_count (raised h) (drop (count d) noughts) (count d) (raised_long h)
-
-array-share-prefix-finals-2 : tie.Need-array-share-prefix-finals-2
-array-share-prefix-finals-2 c = let d = c.before.before.before.before.before.before.before in first-fit (drawn d) (rest (count d)) (count d) (long d)
-
-slice-aggregate-fit-marks-2 : tie.Need-slice-aggregate-fit-marks-2
-slice-aggregate-fit-marks-2 c = let d = c.before.before.before.before.before.before.before.before in first_count (drawn d) (rest (count d)) (count d) (long d)
+slice-aggregate-fit-marks c = let d = c.before.before.before in first_count (drawn d) (rest (count d)) (count d) (long d)
 
 fit-marks-requires : tie.Need-fit-marks-requires
-fit-marks-requires c κs =
-    let h = c.before.before.before.before in
-    let d = h.before.before.before.before.before in
-    rw (final d, heights-are h) (marks-asked (held (start d)) (start d).requires)
+fit-marks-requires c κs = let d = c.before.before.before.before in rw (final d) (marks-asked (held (start d)) (start d).requires)
 
 returns : tie.Need-returns
 returns c =
-    let h = c.before.before.before.before.before.before.before in
-    let d = h.before.before.before.before.before in
+    let d = c.before.before.before.before.before.before.before in
     let p = held (start d) in
-    writes (marks-of p (start d).args.out.now) ((rw (final d, heights-are h) at c.before.before.fit-marks.ensures) p (record { raised = refl; lists = refl }))
+    writes (marks-of p (start d).args.out.now) (rw (final d) at (c.before.before.fit-marks.ensures p refl))
 
 pub marks-plan-spec : {M : Type 1} → statement M
 marks-plan-spec =
     tie.close
     (tie.spec array-borrow-prefix-preliminary slice-aggregate-draw-positions array-borrow-prefix-finals
-    slice-aggregate-draw-positions-2 draw-positions-requires array-share-prefix-finals slice-aggregate-heights array-borrow-prefix-height slice-aggregate-heights-2
-    heights-requires array-share-prefix-height slice-aggregate-fit-marks array-share-prefix-finals-2 slice-aggregate-fit-marks-2
+    slice-aggregate-draw-positions-2 draw-positions-requires array-share-prefix-finals slice-aggregate-fit-marks
     fit-marks-requires (λ c. search rules) returns)

@@ -3,21 +3,18 @@ use mathlib.Core.Path.{◌≡◌, refl, ◌∙◌}
 use mathlib.Core.Bool.{true, false}
 use borrow.Author.Rules.{rules}
 use borrow.Author.Tests.{not-true, not-false}
-use Rattle.text_scan.specs.inner.Scanned.{headerOf, slopeOf}
+use Rattle.text_scan.specs.inner.Scanned.{headerOf}
 use Rattle.text_read.proofs.Texts.{form-none, form-broken, form-ends, scans-none, scans-lines}
 use Rattle.text_scan.proofs.Lines.{found, found-not}
 use Rattle.text_read.proofs.form.scan.Statement.{statement}
 use Rattle.text_read.proofs.form.scan.Tie as tie
 
--- from the segment lines back to the level lines, from there to the slope line and to the plan line, and to the start
+-- from the segment lines back to the level lines, from there to the plan line, and to the start
 abbrev rows : tie.After-segment-lines → tie.After-level-lines
 rows c = c.before.before.before.before.before.before.before.before.before.before.before.before
 
-abbrev slope : tie.After-level-lines → tie.After-slope-at
-slope c = c.before.before.before.before
-
-abbrev header : tie.After-slope-at → tie.After-header-at
-header c = c.before.before.before
+abbrev header : tie.After-level-lines → tie.After-header-at
+header c = c.before.before.before.before.before.before
 
 abbrev start : tie.After-header-at → tie.Start
 start c = c.before.before.before.before.before.before.before.before
@@ -30,43 +27,37 @@ returns c =
 returns-2 : tie.Need-returns-2
 returns-2 c =
     let r = c.before.before.before.before.before.before.before.before.level-lines in
-    let l = slope c.before.before.before.before.before.before.before.before in
-    let h = (header l).header_at in
-    let a = (start (header l)).args in
+    let h = (header c.before.before.before.before.before.before.before.before).header_at in
+    let a = (start (header c.before.before.before.before.before.before.before.before)).args in
     scans-none a.text.now _ _ _ _ _ _ _ _ _ _ _ _ _ refl
-    (form-broken a.text.now (headerOf h.result) (slopeOf l.slope-at.result) _ _ _ r.ensures.rows (found h.ensures (not-false _ l.before.if1.left)) l.slope-at.ensures.gives r.ensures.gives _ (r.ensures.broken (not-true _ c.if2.true)))
+    (form-broken a.text.now (headerOf h.result) _ _ r.ensures.rows (found h.ensures (not-false _ c.before.before.before.before.before.before.before.before.before.before.before.before.if1.false)) r.ensures.gives _ (r.ensures.broken (not-true _ c.if2.true)))
 
 returns-3 : tie.Need-returns-3
 returns-3 c =
     let s = c.before.before.before.before.before.before.before.before.segment-lines in
     let r = (rows c.before.before.before.before.before.before.before.before).level-lines in
-    let l = slope (rows c.before.before.before.before.before.before.before.before) in
-    let h = (header l).header_at in
-    let a = (start (header l)).args in
+    let h = (header (rows c.before.before.before.before.before.before.before.before)).header_at in
+    let a = (start (header (rows c.before.before.before.before.before.before.before.before))).args in
     let f : c.before.ends.result ≡ false = not-true _ c.if3.true in
     scans-none a.text.now _ _ _ _ _ _ _ _ _ _ _ _ _ refl
-    (form-ends a.text.now (headerOf h.result) (slopeOf l.slope-at.result) _ _ _ r.ensures.rows (found h.ensures (not-false _ l.before.if1.left)) l.slope-at.ensures.gives r.ensures.gives
-    s.ensures.segments s.result.next _ s.ensures.gives c.before.ends.ensures ∙ rw f)
+    (form-ends a.text.now (headerOf h.result) _ _ r.ensures.rows (found h.ensures (not-false _ c.before.before.before.before.before.before.before.before.before.before.before.before.before.before.before.before.before.before.before.before.before.before.before.before.if1.false)) r.ensures.gives s.ensures.segments s.result.next _ s.ensures.gives c.before.ends.ensures ∙ rw f)
 
 returns-4 : tie.Need-returns-4
 returns-4 c =
-    let s = c.before.before.before.before.before.before.before.before.before.before.segment-lines in
-    let r = (rows c.before.before.before.before.before.before.before.before.before.before).level-lines in
-    let l = slope (rows c.before.before.before.before.before.before.before.before.before.before) in
-    let h = (header l).header_at in
-    let a = (start (header l)).args in
-    let p = (start (header l)).requires in
-    let f : c.before.before.before.ends.result ≡ true = not-false _ c.before.before.if3.false in
-    scans-lines a.text.now _ _ _ _ _ _ _ _ _ _ _ _ h.result l.slope-at.result _ _ r.result s.result r.ensures s.ensures (not-false _ c.before.before.before.before.before.before.before.before.before.before.before.before.before.before.if2.false) p.sizes-fit p.vias-fit
-    p.halves-fit p.uppers-fit p.lowers-fit p.ratings-fit c.before.in-limits.result c.spacing-of.result c.before.in-limits.ensures c.spacing-of.ensures
-    (form-ends a.text.now (headerOf h.result) (slopeOf l.slope-at.result) _ _ _ r.ensures.rows (found h.ensures (not-false _ l.before.if1.left)) l.slope-at.ensures.gives r.ensures.gives
-    s.ensures.segments s.result.next _ s.ensures.gives c.before.before.before.ends.ensures ∙ rw f)
+    let s = c.before.before.before.before.before.before.before.before.before.segment-lines in
+    let r = (rows c.before.before.before.before.before.before.before.before.before).level-lines in
+    let h = (header (rows c.before.before.before.before.before.before.before.before.before)).header_at in
+    let a = (start (header (rows c.before.before.before.before.before.before.before.before.before))).args in
+    let p = (start (header (rows c.before.before.before.before.before.before.before.before.before))).requires in
+    let f : c.before.before.ends.result ≡ true = not-false _ c.before.if3.false in
+    scans-lines a.text.now _ _ _ _ _ _ _ _ _ _ _ _ h.result _ _ r.result s.result r.ensures s.ensures (not-false _ c.before.before.before.before.before.before.before.before.before.before.before.before.before.if2.false) p.sizes-fit p.vias-fit
+    p.halves-fit p.uppers-fit p.lowers-fit p.ratings-fit c.in-limits.result c.in-limits.ensures
+    (form-ends a.text.now (headerOf h.result) _ _ r.ensures.rows (found h.ensures (not-false _ c.before.before.before.before.before.before.before.before.before.before.before.before.before.before.before.before.before.before.before.before.before.before.before.before.before.if1.false)) r.ensures.gives s.ensures.segments s.result.next _ s.ensures.gives c.before.before.ends.ensures ∙ rw f)
 
 pub scan-spec : {M : Type 1} → statement M
 scan-spec =
     tie.close
-    (tie.spec (λ c κs. search rules) returns (λ c κs. search rules) (λ c κs. search rules) (λ c. search rules) (λ c. search rules)
-    (λ c. search rules) returns-2 (λ c κs. search rules) (λ c κs. search rules) (λ c. search rules) (λ c. search rules)
-    (λ c. search rules) (λ c. search rules) (λ c. search rules) (λ c. search rules) returns-3 (λ c κs. search rules)
-    (λ c κs. search rules) (λ c. search rules) (λ c. search rules) (λ c. search rules) (λ c. search rules) (λ c. search rules)
-    (λ c. search rules) returns-4)
+    (tie.spec (λ c κs. search rules) returns (λ c κs. search rules) (λ c. search rules) (λ c. search rules) (λ c. search rules)
+    returns-2 (λ c κs. search rules) (λ c κs. search rules) (λ c. search rules) (λ c. search rules) (λ c. search rules)
+    (λ c. search rules) (λ c. search rules) (λ c. search rules) returns-3 (λ c κs. search rules) (λ c. search rules)
+    (λ c. search rules) (λ c. search rules) (λ c. search rules) (λ c. search rules) (λ c. search rules) returns-4)

@@ -10,11 +10,10 @@ use Rattle.ints.proofs.FrontLaws.{first-fit, first-is, first_count}
 use Rattle.plan.specs.Plan.{PlanData}
 use Rattle.plan.specs.inner.Held.{heldPlan}
 use Rattle.plan.proofs.HeldLaws.{holds-held, few-vertices}
-use Rattle.passes.specs.Heights.{heightsOf}
 use Rattle.pass_draw.specs.inner.Made.{Made}
 use Rattle.sheet_fit.specs.inner.Fitted.{fittedText}
 use Rattle.sheet_fit.proofs.FitLaws.{writes}
-use Rattle.text_report.proofs.Shown.{heights-asked, framed, in-passes, in-levels, in-counts, report-asked-by, report-is-by}
+use Rattle.text_report.proofs.Shown.{in-passes, in-levels, in-counts, report-asked-by, report-is-by}
 use Rattle.text_report.proofs.tangled.report_untangled.Statement.{statement}
 use Rattle.text_report.proofs.tangled.report_untangled.Tie as tie
 
@@ -83,109 +82,60 @@ draw-requires c κs =
       noPositions = refl;
     }
 
-array-share-prefix-finals : tie.Need-array-share-prefix-finals
-array-share-prefix-finals c = let d = c.before.before.before.before.before.before.before in first-fit (finals d) (rest (count d)) (count d) (finals-long d)
-
-slice-aggregate-heights : tie.Need-slice-aggregate-heights
-slice-aggregate-heights c = let d = c.before.before.before.before.before.before.before.before in first_count (finals d) (rest (count d)) (count d) (finals-long d)
-
--- as many heights as there are vertices
-abbrev noughts : List ℕ
-noughts = replicate 1024 0
-
-noughts-long : (c : tie.Start) → length (take (length c.args.vias.now) noughts) ≡ length c.args.vias.now
-noughts-long c = length-take-le _ noughts (few-vertices (held c) c.requires.ok)
-
-abbrev drawn : tie.After-heights → tie.After-draw
-drawn c = c.before.before.before.before.before.before.before.before.before.before
-
-abbrev raised : tie.After-heights → List ℕ
-raised c = c.heights.new.1.1.1.1.1.0
-
-raised_long : (c : tie.After-heights) → length (raised c) ≡ count (drawn c)
-raised_long c = c.heights.auto.1.1.1.1.1.0 ∙ noughts-long (start (drawn c))
-
-array-borrow-prefix-height : tie.Need-array-borrow-prefix-height
-array-borrow-prefix-height c = let d = c.before.before.before.before.before.before.before.before in few-vertices (held (start d)) (start d).requires.ok
-
-slice-aggregate-heights-2 : tie.Need-slice-aggregate-heights-2
-slice-aggregate-heights-2 c = let d = c.before.before.before.before.before.before.before.before.before in sym (noughts-long (start d))
-
-heights-requires : tie.Need-heights-requires
-heights-requires c κs =
-    let d = c.before.before.before.before.before.before.before.before.before in
-    rw (finals-are d) (heights-asked (held (start d)) (start d).requires.ok (made d), noughts-long (start d) ∙ sym (finals-long d))
-
--- they are those of the drawing
-heights-are : (c : tie.After-heights) →
-    take (count (drawn c)) (raised c ++ drop (count (drawn c)) noughts) ≡ heightsOf (held (start (drawn c))) (finals (drawn c))
-heights-are c =
-    let d = drawn c in
-    let p = held (start d) in
-    first-is (raised c) (drop (count d) noughts) (count d) (raised_long c) ∙ (rw (finals-are d) at c.heights.ensures) p (framed p (start d).pre.ok (made d))
-
-array-share-prefix-height : tie.Need-array-share-prefix-height
-array-share-prefix-height c = let h = c.before in first-fit (raised h) (drop (count (drawn h)) noughts) (count (drawn h)) (raised_long h)
+array-share-prefix-preliminary : tie.Need-array-share-prefix-preliminary
+array-share-prefix-preliminary c = let d = c.before.before.before.before.before.before.before in first-fit (firsts d) (rest (count d)) (count d) (firsts-long d)
 
 slice-aggregate-fit-report-by : tie.Need-slice-aggregate-fit-report-by
-slice-aggregate-fit-report-by c = let h = c.before.before in first_count (raised h) (drop (count (drawn h)) noughts) (count (drawn h)) (raised_long h)
+slice-aggregate-fit-report-by c = let d = c.before.before.before.before.before.before.before.before in first_count (firsts d) (rest (count d)) (count d) (firsts-long d)
 
-array-share-prefix-preliminary : tie.Need-array-share-prefix-preliminary
-array-share-prefix-preliminary c = let d = c.before.before.before.before.before.before.before.before.before.before.before.before in first-fit (firsts d) (rest (count d)) (count d) (firsts-long d)
+array-share-prefix-finals : tie.Need-array-share-prefix-finals
+array-share-prefix-finals c = let d = c.before.before.before.before.before.before.before.before in first-fit (finals d) (rest (count d)) (count d) (finals-long d)
 
 slice-aggregate-fit-report-by-2 : tie.Need-slice-aggregate-fit-report-by-2
-slice-aggregate-fit-report-by-2 c = let d = c.before.before.before.before.before.before.before.before.before.before.before.before.before in first_count (firsts d) (rest (count d)) (count d) (firsts-long d)
-
-array-share-prefix-finals-2 : tie.Need-array-share-prefix-finals-2
-array-share-prefix-finals-2 c = let d = c.before.before.before.before.before.before.before.before.before.before.before.before.before in first-fit (finals d) (rest (count d)) (count d) (finals-long d)
-
-slice-aggregate-fit-report-by-3 : tie.Need-slice-aggregate-fit-report-by-3
-slice-aggregate-fit-report-by-3 c = let d = c.before.before.before.before.before.before.before.before.before.before.before.before.before.before in first_count (finals d) (rest (count d)) (count d) (finals-long d)
+slice-aggregate-fit-report-by-2 c = let d = c.before.before.before.before.before.before.before.before.before in first_count (finals d) (rest (count d)) (count d) (finals-long d)
 
 array-share-prefix-passes : tie.Need-array-share-prefix-passes
-array-share-prefix-passes c = let d = c.before.before.before.before.before.before.before.before.before.before.before.before.before.before in in-passes (held (start d)) (start d).requires.ok (made d)
+array-share-prefix-passes c = let d = c.before.before.before.before.before.before.before.before.before in in-passes (held (start d)) (start d).requires.ok (made d)
 
-slice-aggregate-fit-report-by-4 : tie.Need-slice-aggregate-fit-report-by-4
-slice-aggregate-fit-report-by-4 c =
-    let d = c.before.before.before.before.before.before.before.before.before.before.before.before.before.before.before in
+slice-aggregate-fit-report-by-3 : tie.Need-slice-aggregate-fit-report-by-3
+slice-aggregate-fit-report-by-3 c =
+    let d = c.before.before.before.before.before.before.before.before.before.before in
     sym (length-take-le _ _ (in-passes (held (start d)) (start d).requires.ok (made d)))
 
 array-share-prefix-levels : tie.Need-array-share-prefix-levels
-array-share-prefix-levels c = let d = c.before.before.before.before.before.before.before.before.before.before.before.before.before.before.before in in-levels (held (start d)) (start d).requires.ok (made d)
+array-share-prefix-levels c = let d = c.before.before.before.before.before.before.before.before.before.before in in-levels (held (start d)) (start d).requires.ok (made d)
 
-slice-aggregate-fit-report-by-5 : tie.Need-slice-aggregate-fit-report-by-5
-slice-aggregate-fit-report-by-5 c =
-    let d = c.before.before.before.before.before.before.before.before.before.before.before.before.before.before.before.before in
+slice-aggregate-fit-report-by-4 : tie.Need-slice-aggregate-fit-report-by-4
+slice-aggregate-fit-report-by-4 c =
+    let d = c.before.before.before.before.before.before.before.before.before.before.before in
     sym (length-take-le _ _ (in-levels (held (start d)) (start d).requires.ok (made d)))
 
 array-share-prefix-boxes : tie.Need-array-share-prefix-boxes
-array-share-prefix-boxes c = let d = c.before.before.before.before.before.before.before.before.before.before.before.before.before.before.before.before in in-counts (held (start d)) (start d).requires.ok (made d)
+array-share-prefix-boxes c = let d = c.before.before.before.before.before.before.before.before.before.before.before in in-counts (held (start d)) (start d).requires.ok (made d)
 
-slice-aggregate-fit-report-by-6 : tie.Need-slice-aggregate-fit-report-by-6
-slice-aggregate-fit-report-by-6 c =
-    let d = c.before.before.before.before.before.before.before.before.before.before.before.before.before.before.before.before.before in
+slice-aggregate-fit-report-by-5 : tie.Need-slice-aggregate-fit-report-by-5
+slice-aggregate-fit-report-by-5 c =
+    let d = c.before.before.before.before.before.before.before.before.before.before.before.before in
     sym (length-take-le _ _ (in-counts (held (start d)) (start d).requires.ok (made d)))
 
 fit-report-by-requires : tie.Need-fit-report-by-requires
 fit-report-by-requires c κs =
-    let h = c.before.before.before.before.before.before.before.before.before.before in
-    let d = drawn h in
-    rw (heights-are h, firsts-are d, finals-are d) (λ o k. report-asked-by (held (start d)) (start d).pre.ok (made d) (start d).args.numbers.now (start d).pre.own k)
+    let d = c.before.before.before.before.before.before.before.before.before.before.before.before.before.before.before in
+    rw (firsts-are d, finals-are d) (λ o k. report-asked-by (held (start d)) (start d).requires.ok (made d) (start d).args.numbers.now (start d).requires.own k)
 
 returns : tie.Need-returns
 returns c =
-    let h = c.before.before.before.before.before.before.before.before.before.before.before.before.before in
-    let d = drawn h in
+    let d = c.before.before.before.before.before.before.before.before.before.before.before.before.before.before.before.before.before.before in
     let p = held (start d) in
     let b = (start d).args.out.now in
-    writes (ap (λ w. fittedText w b) (report-is-by p (start d).pre.ok (made d) (start d).args.numbers.now (start d).pre.own)) (rw (heights-are h, firsts-are d, finals-are d) at c.before.before.fit-report-by.ensures)
+    writes (ap (λ w. fittedText w b) (report-is-by p (start d).requires.ok (made d) (start d).args.numbers.now (start d).requires.own)) (rw (firsts-are d, finals-are d) at c.before.before.fit-report-by.ensures)
 
 pub report-untangled-spec : {M : Type 1} → statement M
 report-untangled-spec =
     tie.close
     (tie.spec array-borrow-prefix-preliminary slice-aggregate-draw array-borrow-prefix-finals slice-aggregate-draw-2
     (λ c. search rules) (λ c. search rules) (λ c. search rules) (λ c. search rules) (λ c. search rules) draw-requires
-    array-share-prefix-finals slice-aggregate-heights array-borrow-prefix-height slice-aggregate-heights-2 heights-requires
-    array-share-prefix-height slice-aggregate-fit-report-by array-share-prefix-preliminary slice-aggregate-fit-report-by-2 array-share-prefix-finals-2
-    slice-aggregate-fit-report-by-3 array-share-prefix-passes slice-aggregate-fit-report-by-4 array-share-prefix-levels slice-aggregate-fit-report-by-5
-    array-share-prefix-boxes slice-aggregate-fit-report-by-6 (λ c. search rules) (λ c. search rules) fit-report-by-requires (λ c. search rules) returns)
+    array-share-prefix-preliminary slice-aggregate-fit-report-by array-share-prefix-finals slice-aggregate-fit-report-by-2
+    array-share-prefix-passes slice-aggregate-fit-report-by-3 array-share-prefix-levels slice-aggregate-fit-report-by-4
+    array-share-prefix-boxes slice-aggregate-fit-report-by-5 (λ c. search rules) (λ c. search rules) fit-report-by-requires
+    (λ c. search rules) returns)

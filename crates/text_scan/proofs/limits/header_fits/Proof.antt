@@ -1,20 +1,10 @@
--- `text_scan::limits::header_fits` meets its contract: its three tests are those of `headerInLimits`.
+-- `text_scan::limits::header_fits` meets its contract: its two tests are those of `headerInLimits`.
 use borrow.Author.Rules.{rules}
 use Rattle.text_scan.proofs.limits.header_fits.Statement.{statement}
 use Rattle.text_scan.proofs.limits.header_fits.Tie as tie
 
 returns : tie.Need-returns
-returns c =
-    simp (
-      c.both2.ensures,
-      c.before.wide.ensures,
-      c.before.before.both.ensures,
-      c.before.before.before.slope-in-limit.ensures,
-      c.before.before.before.before.numbers_fit.ensures,
-    )
+returns c = simp (c.both.ensures, c.before.wide.ensures, c.before.before.numbers_fit.ensures)
 
 pub header-fits-spec : {M : Type 1} → statement M
-header-fits-spec =
-    tie.close
-    (tie.spec (λ c κs. search rules) (λ c κs. search rules) (λ c κs. search rules) (λ c κs. search rules) (λ c κs. search rules)
-    returns)
+header-fits-spec = tie.close (tie.spec (λ c κs. search rules) (λ c κs. search rules) (λ c κs. search rules) returns)

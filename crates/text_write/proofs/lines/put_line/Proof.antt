@@ -1,4 +1,4 @@
-use Rattle.text_write.proofs.LineLaws.{Even, line-0, line-s, line-l, line-r, line-e}
+use Rattle.text_write.proofs.LineLaws.{Even, line-0, line-l, line-segment, line-last}
 use Rattle.text_write.proofs.Written.{wrote-long}
 use Rattle.plan.specs.Plan.{data_of, PlanData}
 use Rattle.plan.proofs.LimitLaws.{Limits}
@@ -19,10 +19,6 @@ limits c = laws.limits (plan c) c.requires.plan
 even : (c : tie.Start) → Even (plan c)
 even c = ((limits c).ends-long, (limits c).ratings-long)
 
--- from the slope lines' number back to the start
-abbrev start : tie.After-slope-lines → tie.Start
-start c = c.before.before.before.before.before.before.before.before.before
-
 put-plan-requires : tie.Need-put-plan-requires
 put-plan-requires c κs = let s = c.before.before.before.before.before.before.before.before.before in rw (line-0 (plan s) s.args.n c.before.if1.true) at s.requires.room
 
@@ -32,83 +28,51 @@ same_length c = wrote-long c.before.before.put-plan.ensures
 returns : tie.Need-returns
 returns c = let s = c.before.before.before.before.before.before.before.before.before.before.before.before in rw (line-0 (plan s) s.args.n c.before.before.before.before.if1.true) c.before.before.put-plan.ensures
 
-put-slope-requires : tie.Need-put-slope-requires
-put-slope-requires c κs =
-    let k = c.before.before in
-    let s = start k in
-    rw (line-s (plan s) s.args.n _ k.slope-lines.ensures k.before.if1.false c.before.if2.true) at s.pre.room
-
-same-length-2 : tie.Need-same-length-2
-same-length-2 c = wrote-long c.before.before.put-slope.ensures
-
-returns-2 : tie.Need-returns-2
-returns-2 c =
-    let k = c.before.before.before.before.before in
-    let s = start k in
-    rw (line-s (plan s) s.args.n _ k.slope-lines.ensures k.before.if1.false c.before.before.before.before.if2.true) c.before.before.put-slope.ensures
-
 put-level-requires : tie.Need-put-level-requires
 put-level-requires c κs =
-    let k = c.before.before.before in
-    let s = start k in
+    let s = c.before.before.before.before.before.before.before.before.before.before in
     record {
       levels = (limits s).lists.levels;
-      level = c.before.if3.true;
+      level = omega (arith, c.before.before.if1.false, c.before.if2.true);
       vertices = (limits s).sizes-sum;
       half = (limits s).halves_long;
-      room = rw (line-l (plan s) s.args.n _ k.slope-lines.ensures c.before.before.if2.false c.before.if3.true) at s.pre.room;
+      room = rw (line-l (plan s) s.args.n c.before.before.if1.false c.before.if2.true) at s.requires.room;
     }
 
-same-length-3 : tie.Need-same-length-3
-same-length-3 c = wrote-long c.before.before.put-level.ensures
+same-length-2 : tie.Need-same-length-2
+same-length-2 c = wrote-long c.before.before.put-level.ensures
 
-returns-3 : tie.Need-returns-3
-returns-3 c =
-    let k = c.before.before.before.before.before.before in
-    let s = start k in
-    rw (line-l (plan s) s.args.n _ k.slope-lines.ensures c.before.before.before.before.before.if2.false c.before.before.before.before.if3.true) c.before.before.put-level.ensures
+returns-2 : tie.Need-returns-2
+returns-2 c = let s = c.before.before.before.before.before.before.before.before.before.before.before.before.before in rw (line-l (plan s) s.args.n c.before.before.before.before.before.if1.false c.before.before.before.before.if2.true) c.before.before.put-level.ensures
 
 shared-slice-read-put-segment-2 : tie.Need-shared-slice-read-put-segment-2
-shared-slice-read-put-segment-2 c = omega (arith, even (start c.before.before.before.before.before.before), c.before.before.before.if4.true)
+shared-slice-read-put-segment-2 c = omega (arith, even c.before.before.before.before.before.before.before.before.before.before.before.before.before, c.before.before.before.if3.true)
 
 shared-slice-read-put-segment-3 : tie.Need-shared-slice-read-put-segment-3
-shared-slice-read-put-segment-3 c = omega (arith, even (start c.before.before.before.before.before.before.before), c.before.before.before.before.if4.true)
+shared-slice-read-put-segment-3 c = omega (arith, even c.before.before.before.before.before.before.before.before.before.before.before.before.before.before, c.before.before.before.before.if3.true)
 
 put-segment-requires : tie.Need-put-segment-requires
-put-segment-requires c κs =
-    let k = c.before.before.before.before.before.before.before in
-    let s = start k in
-    rw (line-r (plan s) s.args.n _ k.slope-lines.ensures c.before.before.before.before.before.before.if2.false c.before.before.before.before.before.if3.false (even s) c.before.before.before.before.if4.true) at s.pre.room
+put-segment-requires c κs = let s = c.before.before.before.before.before.before.before.before.before.before.before.before.before.before in rw (line-segment (plan s) s.args.n c.before.before.before.before.before.if2.false (even s) c.before.before.before.before.if3.true) at s.requires.room
 
-same-length-4 : tie.Need-same-length-4
-same-length-4 c = wrote-long c.before.before.put-segment.ensures
+same-length-3 : tie.Need-same-length-3
+same-length-3 c = wrote-long c.before.before.put-segment.ensures
 
-returns-4 : tie.Need-returns-4
-returns-4 c =
-    let k = c.before.before.before.before.before.before.before.before.before.before in
-    let s = start k in
-    rw (line-r (plan s) s.args.n _ k.slope-lines.ensures c.before.before.before.before.before.before.before.before.before.if2.false c.before.before.before.before.before.before.before.before.if3.false (even s) c.before.before.before.before.before.before.before.if4.true) c.before.before.put-segment.ensures
+returns-3 : tie.Need-returns-3
+returns-3 c = let s = c.before.before.before.before.before.before.before.before.before.before.before.before.before.before.before.before.before in rw (line-segment (plan s) s.args.n c.before.before.before.before.before.before.before.before.if2.false (even s) c.before.before.before.before.before.before.before.if3.true) c.before.before.put-segment.ensures
 
 put-word-requires : tie.Need-put-word-requires
-put-word-requires c κs =
-    let k = c.before.before.before.before.before in
-    let s = start k in
-    rw (line-e (plan s) s.args.n _ k.slope-lines.ensures c.before.before.before.before.if2.false c.before.before.before.if3.false (even s) c.before.before.if4.false s.pre.line) at s.pre.room
+put-word-requires c κs = let s = c.before.before.before.before.before.before.before.before.before.before.before.before in rw (line-last (plan s) s.args.n c.before.before.before.if2.false (even s) c.before.before.if3.false s.requires.line) at s.requires.room
 
-same-length-5 : tie.Need-same-length-5
-same-length-5 c = wrote-long c.before.before.put_word.ensures
+same-length-4 : tie.Need-same-length-4
+same-length-4 c = wrote-long c.before.before.put_word.ensures
 
-returns-5 : tie.Need-returns-5
-returns-5 c =
-    let k = c.before.before.before.before.before.before.before.before in
-    let s = start k in
-    rw (line-e (plan s) s.args.n _ k.slope-lines.ensures c.before.before.before.before.before.before.before.if2.false c.before.before.before.before.before.before.if3.false (even s) c.before.before.before.before.before.if4.false s.pre.line) c.before.before.put_word.ensures
+returns-4 : tie.Need-returns-4
+returns-4 c = let s = c.before.before.before.before.before.before.before.before.before.before.before.before.before.before.before in rw (line-last (plan s) s.args.n c.before.before.before.before.before.before.if2.false (even s) c.before.before.before.before.before.if3.false s.requires.line) c.before.before.put_word.ensures
 
 pub put-line-spec : {M : Type 1} → statement M
 put-line-spec =
     tie.close
-    (tie.spec put-plan-requires same_length returns (λ c κs. search rules) put-slope-requires same-length-2 returns-2
-    (λ c. search rules) (λ c. search rules) put-level-requires same-length-3 returns-3 (λ c. search rules) (λ c. search rules)
-    (λ c. search rules) (λ c. search rules) shared-slice-read-put-segment-2 (λ c. search rules)
-    shared-slice-read-put-segment-3 put-segment-requires same-length-4 returns-4 (λ c. refl) put-word-requires same-length-5
-    returns-5)
+    (tie.spec put-plan-requires same_length returns (λ c. search rules) put-level-requires same-length-2 returns-2
+    (λ c. search rules) (λ c. search rules) (λ c. search rules) (λ c. search rules) (λ c. search rules)
+    shared-slice-read-put-segment-2 (λ c. search rules) shared-slice-read-put-segment-3 put-segment-requires same-length-3
+    returns-3 (λ c. refl) put-word-requires same-length-4 returns-4)

@@ -1,4 +1,4 @@
-use Rattle.text_write.proofs.LineLaws.{lines-count, slopes-few, text-none, text-more, text-room, text-all}
+use Rattle.text_write.proofs.LineLaws.{lines-count, text-none, text-more, text-room, text-all}
 use Rattle.plan.specs.Plan.{data_of, PlanData}
 use Rattle.text_write.specs.inner.Written.{Wrote}
 use Rattle.plan.proofs.LimitLaws.{limits}
@@ -8,7 +8,6 @@ use Rattle.ints.specs.Lists.{concat}
 use lib.ListN.{length, take}
 use Prim.Native.Nat.{◌+◌, ◌-◌, ◌≤◌}
 use native.Mathlib.Omega.{arith}
-use borrow.Author.Rules.{rules}
 use mathlib.Core.Path.{◌≡◌, refl, ◌∙◌}
 use Rattle.text_write.proofs.lines.text.Statement.{statement}
 use Rattle.text_write.proofs.lines.text.Tie as tie
@@ -27,16 +26,8 @@ plan c =
 few : (c : tie.Start invariant-loop decreases-loop) → InLimits c.args.sizes.now c.args.vias.now c.args.uppers.now c.args.lowers.now
 few c = (limits (plan c) c.requires.0).lists
 
--- from the slope lines' number back to the start
-abbrev start : tie.After-slope-lines invariant-loop decreases-loop → tie.Start invariant-loop decreases-loop
-start c = c.before.before.before.before.before.before.before.before
-
-count : (c : tie.After-slope-lines invariant-loop decreases-loop)
-    → length (lines_of (plan (start c))) ≡ length (start c).args.sizes.now + length (start c).args.uppers.now + 2 + c.slope-lines.result
-count c =
-    let s = start c in
-    let l = limits (plan s) s.pre.0 in
-    omega (arith, lines-count (plan s) (l.ends-long, l.ratings-long), c.slope-lines.ensures)
+count : (c : tie.Start invariant-loop decreases-loop) → length (lines_of (plan c)) ≡ length c.args.sizes.now + length c.args.uppers.now + 2
+count c = let l = limits (plan c) c.requires.0 in lines-count (plan c) (l.ends-long, l.ratings-long)
 
 add-lines : tie.Need-overflow-add-lines invariant-loop decreases-loop
 add-lines c = omega (arith, few c.before.before.before.before.before.before.before)
@@ -44,42 +35,35 @@ add-lines c = omega (arith, few c.before.before.before.before.before.before.befo
 add-lines-2 : tie.Need-overflow-add-lines-2 invariant-loop decreases-loop
 add-lines-2 c = omega (arith, few c.before.before.before.before.before.before.before)
 
-add-lines-3 : tie.Need-overflow-add-lines-3 invariant-loop decreases-loop
-add-lines-3 c = omega (arith, few (start c), c.slope-lines.ensures, slopes-few (start c).args.spacing)
-
 loop-holds : tie.Need-loop-init invariant-loop decreases-loop
-loop-holds c = (omega arith, refl, text-none (plan (start c)) (start c).args.out.now)
+loop-holds c = (omega arith, refl, text-none (plan c.before.before.before.before.before.before.before) c.before.before.before.before.before.before.before.args.out.now)
 
 put-line-requires : tie.Need-put-line-requires invariant-loop decreases-loop
 put-line-requires c κs =
-    let k = c.before.before.before in
-    let s = start k in
-    text-room (plan s) c.before.before.loop.n s.pre.0 s.pre.1 (omega (arith, count k, c.before.loop-test.true)) c.before.before.loop.invariant.2
+    let s = c.before.before.before.before.before.before.before.before.before.before in
+    text-room (plan s) c.before.before.loop.n s.requires.0 s.requires.1 (omega (arith, count s, c.before.loop-test.true)) c.before.before.loop.invariant.2
 
 add-n : tie.Need-overflow-add-n invariant-loop decreases-loop
-add-n c =
-    let k = c.before.before.before.before.before.before in
-    omega (arith, few (start k), k.slope-lines.ensures, slopes-few (start k).args.spacing, c.before.before.before.before.loop-test.true)
+add-n c = omega (arith, few c.before.before.before.before.before.before.before.before.before.before.before.before.before, c.before.before.before.before.loop-test.true)
 
 loop-less : tie.Need-loop-smaller invariant-loop decreases-loop
 loop-less c = omega (arith, c.before.before.before.before.loop-test.true)
 
 loop-again : tie.Need-loop-preserved invariant-loop decreases-loop
 loop-again c =
-    let k = c.before.before.before.before.before.before in (
+    let s = c.before.before.before.before.before.before.before.before.before.before.before.before.before in (
       omega (arith, c.before.before.before.before.loop-test.true),
       c.before.before.put-line.auto.0 ∙ c.before.before.before.before.before.loop.invariant.1,
-      text-more (plan (start k)) c.before.before.before.before.before.loop.n (omega (arith, count k, c.before.before.before.before.loop-test.true)) c.before.before.before.before.before.loop.invariant.2 c.before.before.put-line.ensures,
+      text-more (plan s) c.before.before.before.before.before.loop.n (omega (arith, count s, c.before.before.before.before.loop-test.true)) c.before.before.before.before.before.loop.invariant.2 c.before.before.put-line.ensures,
     )
 
 same_length : tie.Need-same-length invariant-loop decreases-loop
 same_length c = c.before.loop.invariant.1
 
 returns : tie.Need-returns invariant-loop decreases-loop
-returns c = let k = c.before.before in text-all (plan (start k)) c.before.loop.n (start k).requires.1 (omega (arith, count k, c.loop-test.false)) c.before.loop.invariant.2
+returns c = let s = c.before.before.before.before.before.before.before.before.before in text-all (plan s) c.before.loop.n s.requires.1 (omega (arith, count s, c.loop-test.false)) c.before.loop.invariant.2
 
 pub text-spec : {M : Type 1} → statement M
 text-spec =
     tie.close
-    (tie.spec invariant-loop decreases-loop add-lines add-lines-2 (λ c κs. search rules) add-lines-3 loop-holds put-line-requires add-n
-    loop-less loop-again same_length returns)
+    (tie.spec invariant-loop decreases-loop add-lines add-lines-2 loop-holds put-line-requires add-n loop-less loop-again same_length returns)

@@ -1,3 +1,0 @@
--- Words of inner contracts: what loops keep and which arrays hold what. No public promise rests on them.
-pub mod Asked
-pub mod Steps
