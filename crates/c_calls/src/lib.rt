@@ -1,20 +1,20 @@
 // The calls for C and Rust: numbers and slices alone.
 ghost use Rattle.run.specs.Call.{call_of};
-ghost use Rattle.text.specs.Reading.{reading, tangledReading};
+ghost use Rattle.text.specs.Reading.{reading, tangled_reading};
 ghost use Rattle.text_write.specs.Again.{rewritten};
-ghost use Rattle.script_told.specs.Scripts.{scriptOf};
-ghost use Rattle.sheet_text.specs.Back.{textBack};
-ghost use Rattle.text_marks.specs.Marks.{marksOf};
-ghost use Rattle.text_marks.specs.Positions.{positionsOf};
-ghost use Rattle.text_report.specs.Tangled.{tangledReportOf};
-ghost use Rattle.text_report.specs.Texts.{reportOf};
-ghost use Rattle.text_untangle.specs.Text.{untangledText};
-ghost use Rattle.picture_text.specs.Text.{pictureIn};
+ghost use Rattle.script_told.specs.Scripts.{script_of};
+ghost use Rattle.sheet_text.specs.Back.{text_back};
+ghost use Rattle.text_marks.specs.Marks.{marks_of};
+ghost use Rattle.text_marks.specs.Positions.{positions_of};
+ghost use Rattle.text_report.specs.Tangled.{tangled_report_of};
+ghost use Rattle.text_report.specs.Texts.{report_of};
+ghost use Rattle.text_untangle.specs.Text.{untangled_text};
+ghost use Rattle.picture_text.specs.Text.{picture_in};
 ghost use Rattle.c_codes.specs.Code.{Codes};
 ghost use Rattle.c_codes.specs.Again as again;
 ghost use Rattle.c_codes.specs.Picture as picture;
 ghost use Rattle.c_codes.specs.Untangled as untangled;
-ghost use Rattle.c_codes.specs.Run.{boundOf, Answers};
+ghost use Rattle.c_codes.specs.Run.{bound_of, Answers};
 
 use c_codes::{again_code, bound, code, picture_code, run_code};
 use picture_text::whole::picture_text;
@@ -32,7 +32,7 @@ use text_write::again::rewrite;
 // -14 if the buffer is shorter than the lines. Where it is negative the buffer stays as it is.
 #[unsafe(no_mangle)]
 pub extern "C" fn report_c(text: &[u8], out: &mut [u8]) -> i64
-    ensures { Codes (reportOf (reading text.now) out.old) result out.new }
+    ensures { Codes (report_of (reading text.now) out.old) result out.new }
 {
     let answer = report_text(text, out);
     code(answer)
@@ -42,7 +42,7 @@ pub extern "C" fn report_c(text: &[u8], out: &mut [u8]) -> i64
 // refused with N, -14 if the buffer is shorter than the marks. Where it is negative the buffer stays as it is.
 #[unsafe(no_mangle)]
 pub extern "C" fn marks_c(text: &[u8], out: &mut [f64]) -> i64
-    ensures { Codes (marksOf (reading text.now) out.old) result out.new }
+    ensures { Codes (marks_of (reading text.now) out.old) result out.new }
 {
     let answer = marks_text(text, out);
     code(answer)
@@ -52,7 +52,7 @@ pub extern "C" fn marks_c(text: &[u8], out: &mut [f64]) -> i64
 // if the text is refused with N, -14 if the buffer is shorter than that. Where it is negative the buffer stays as it is.
 #[unsafe(no_mangle)]
 pub extern "C" fn draw_c(text: &[u8], out: &mut [i64]) -> i64
-    ensures { Codes (positionsOf (reading text.now) out.old) result out.new }
+    ensures { Codes (positions_of (reading text.now) out.old) result out.new }
 {
     let answer = positions_text(text, out);
     code(answer)
@@ -72,7 +72,7 @@ pub extern "C" fn reread_c(text: &[u8], out: &mut [u8]) -> i64
 // or 14 only.
 #[unsafe(no_mangle)]
 pub extern "C" fn report_tangled_c(text: &[u8], out: &mut [u8]) -> i64
-    ensures { Codes (tangledReportOf (tangledReading text.now) out.old) result out.new }
+    ensures { Codes (tangled_report_of (tangled_reading text.now) out.old) result out.new }
 {
     let answer = report_tangled_text(text, out);
     code(answer)
@@ -81,7 +81,7 @@ pub extern "C" fn report_tangled_c(text: &[u8], out: &mut [u8]) -> i64
 // How many bytes the text has again, loaded by E1's way and given back in the numbers of the text; else as for `report_tangled_c`.
 #[unsafe(no_mangle)]
 pub extern "C" fn text_back_c(text: &[u8], out: &mut [u8]) -> i64
-    ensures { Codes (textBack text.now out.old) result out.new }
+    ensures { Codes (text_back text.now out.old) result out.new }
 {
     let answer = text_back(text, out);
     code(answer)
@@ -91,7 +91,7 @@ pub extern "C" fn text_back_c(text: &[u8], out: &mut [u8]) -> i64
 // number in the text of each vertex; -N if the text is refused with N, -14 if a buffer is too short. Where it is negative both stay as they are.
 #[unsafe(no_mangle)]
 pub extern "C" fn untangle_c(text: &[u8], out: &mut [u8], numbers: &mut [u16]) -> i64
-    ensures { untangled.Codes (untangledText (tangledReading text.now) out.old numbers.old) result out.new numbers.new }
+    ensures { untangled.Codes (untangled_text (tangled_reading text.now) out.old numbers.old) result out.new numbers.new }
 {
     let answer = untangle_text(text, out, numbers);
     again_code(answer)
@@ -102,7 +102,7 @@ pub extern "C" fn untangle_c(text: &[u8], out: &mut [u8], numbers: &mut [u16]) -
 // buffer is shorter than the picture. Where it is negative the buffer stays as it is.
 #[unsafe(no_mangle)]
 pub extern "C" fn picture_c(text: &[u8], names: &[u8], out: &mut [u8]) -> i64
-    ensures { picture.Codes (pictureIn (reading text.now) names.now out.old) result out.new }
+    ensures { picture.Codes (picture_in (reading text.now) names.now out.old) result out.new }
 {
     let answer = picture_text(text, names, out);
     picture_code(answer)
@@ -112,7 +112,7 @@ pub extern "C" fn picture_c(text: &[u8], names: &[u8], out: &mut [u8]) -> i64
 // answers. Where it is negative the buffer stays as it is.
 #[unsafe(no_mangle)]
 pub extern "C" fn script_c(script: &[u8], out: &mut [u8]) -> i64
-    ensures { Codes (scriptOf script.now out.old) result out.new }
+    ensures { Codes (script_of script.now out.old) result out.new }
 {
     let answer = answers(script, out);
     code(answer)
@@ -135,8 +135,8 @@ pub extern "C" fn place_run_c(
 ) -> u32
     ensures { Answers (call_of (record {
       boxes = r;
-      left = boundOf has_left left;
-      right = boundOf has_right right;
+      left = bound_of has_left left;
+      right = bound_of has_right right;
       old = old.now;
       distances = distances.now;
       counts = counts.now;

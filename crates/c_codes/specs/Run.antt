@@ -5,8 +5,8 @@ use Rattle.run.specs.declared.types.Bound.{Bound}
 use Rattle.run.specs.declared.types.Bound.TheVariants.{Free, At}
 
 -- A flag that is not 0 means that there is that bound; else its value is ignored.
-abbrev pub boundOf : ℕ → ℤ → Bound
-boundOf flag value = cond (eqb flag 0) Free (At value)
+abbrev pub bound_of : ℕ → ℤ → Bound
+bound_of flag value = cond (eqb flag 0) Free (At value)
 
 -- The program answers with document 01's number, 0 where nothing is refused, and leaves the buffer so.
 pub record Answers (o : Out) (answered : ℕ) (left : List ℤ) : Type 0 where

@@ -7,4 +7,4 @@ use Rattle.c_codes.specs.Again.{code_of}
 pub record Codes (l : Left) (r : ℤ) (out numbers : List ℕ) : Type 0 where
   pub code : r ≡ code_of l.answer
   pub buffer : out ≡ l.buffer
-  pub numbers-left : numbers ≡ l.numbers
+  pub numbers_left : numbers ≡ l.numbers

@@ -1,11 +1,11 @@
 // Answers and bounds as the numbers that calls for C give and take.
 ghost use Rattle.std.specs.Prelude.{◌≡◌};
 ghost use Rattle.run.specs.Call.{number_of};
-ghost use Rattle.sheet.specs.Results.{lineResultOf};
+ghost use Rattle.sheet.specs.Results.{line_result_of};
 ghost use Rattle.c_codes.specs.Code.{code_of};
 ghost use Rattle.c_codes.specs.Again as again;
 ghost use Rattle.c_codes.specs.Picture as picture;
-ghost use Rattle.c_codes.specs.Run.{boundOf};
+ghost use Rattle.c_codes.specs.Run.{bound_of};
 ghost use Rattle.c_codes.specs.inner.Few.{Few, FewAgain, FewDrawn};
 
 use ints::{minus, plus};
@@ -17,7 +17,7 @@ use text_write::again::Rewritten;
 // What a call answers.
 pub fn code(answer: LineAnswer) -> i64
     requires { Few answer }
-    ensures { result ≡ code_of (lineResultOf answer) }
+    ensures { result ≡ code_of (line_result_of answer) }
 {
     match answer {
         LineAnswer::Written(n) => plus(0, n as u64),
@@ -61,7 +61,7 @@ pub fn run_code(answer: Answer) -> u32
 
 // A flag and a value as a bound.
 pub fn bound(flag: u32, value: i64) -> Bound
-    ensures { result ≡ boundOf flag value }
+    ensures { result ≡ bound_of flag value }
 {
     if flag == 0 {
         Bound::Free

@@ -7,13 +7,13 @@ use Rattle.sheet.specs.declared.types.Sheet.{Sheet}
 use Rattle.sheet.specs.declared.types.Answer.{Answer}
 use Rattle.sheet.specs.declared.types.LineAnswer.{LineAnswer}
 use Rattle.sheet.specs.declared.types.MarkAnswer.{MarkAnswer}
-use Rattle.sheet.specs.Results.{lineResultOf, markResultOf}
+use Rattle.sheet.specs.Results.{line_result_of, mark_result_of}
 use Rattle.sheet.specs.Calls as sheet
 use Rattle.sheet.specs.Calls.{SheetOut, Leaves, Draws, Writes}
 use Rattle.calls.specs.declared.types.Call.{Call}
 use Rattle.calls.specs.declared.types.Call.TheVariants.{Load, LoadTangled, Draw, Line, Report, TextLine, WholeText, Mark, Marks, Clear}
 use Rattle.calls.specs.declared.types.Reply.{Reply}
-use Rattle.calls.specs.Replies.{done, written, marked, replyOf, each}
+use Rattle.calls.specs.Replies.{done, written, marked, reply_of, each}
 use Rattle.calls.specs.Step.{Lent, Steps, step, changed}
 use Rattle.calls.specs.inner.Replied.{Changes}
 
@@ -33,7 +33,7 @@ module _ (l : Lent) (s : Sheet) where
     unfolding step
     load-steps e h k = rw e (changes _ h k)
 
-    pub tangled-steps : q ≡ LoadTangled → Leaves (sheet.loadTangled s l.text) a t → Changes a t r u → Steps (step q l s) r u l.buffer l.numbers
+    pub tangled-steps : q ≡ LoadTangled → Leaves (sheet.load_tangled s l.text) a t → Changes a t r u → Steps (step q l s) r u l.buffer l.numbers
     unfolding step
     tangled-steps e h k = rw e (changes _ h k)
 
@@ -47,32 +47,32 @@ module _ (l : Lent) (s : Sheet) where
 
   -- calls that write
   module _ {q : Call} {a : LineAnswer} {r : Reply} where
-    pub line-steps : {n : ℕ} {b : List ℕ} → q ≡ Line n → Writes (sheet.line s n l.buffer) a b → replyOf r ≡ each written (lineResultOf a)
+    pub line-steps : {n : ℕ} {b : List ℕ} → q ≡ Line n → Writes (sheet.line s n l.buffer) a b → reply_of r ≡ each written (line_result_of a)
         → Steps (step q l s) r s b l.numbers
     unfolding step
     line-steps e h k = rw e (record { answered = k ∙ ap (each written) h.answered; left = refl; bytes = h.left; floats = refl })
 
-    pub report-steps : {b : List ℕ} → q ≡ Report → Writes (sheet.report s l.buffer) a b → replyOf r ≡ each written (lineResultOf a)
+    pub report-steps : {b : List ℕ} → q ≡ Report → Writes (sheet.report s l.buffer) a b → reply_of r ≡ each written (line_result_of a)
         → Steps (step q l s) r s b l.numbers
     unfolding step
     report-steps e h k = rw e (record { answered = k ∙ ap (each written) h.answered; left = refl; bytes = h.left; floats = refl })
 
-    pub text-line-steps : {n : ℕ} {b : List ℕ} → q ≡ TextLine n → Writes (sheet.textLine s n l.buffer) a b → replyOf r ≡ each written (lineResultOf a)
+    pub text-line-steps : {n : ℕ} {b : List ℕ} → q ≡ TextLine n → Writes (sheet.text_line s n l.buffer) a b → reply_of r ≡ each written (line_result_of a)
         → Steps (step q l s) r s b l.numbers
     unfolding step
     text-line-steps e h k = rw e (record { answered = k ∙ ap (each written) h.answered; left = refl; bytes = h.left; floats = refl })
 
-    pub whole-text-steps : {b : List ℕ} → q ≡ WholeText → Writes (sheet.wholeText s l.buffer) a b → replyOf r ≡ each written (lineResultOf a)
+    pub whole-text-steps : {b : List ℕ} → q ≡ WholeText → Writes (sheet.whole_text s l.buffer) a b → reply_of r ≡ each written (line_result_of a)
         → Steps (step q l s) r s b l.numbers
     unfolding step
     whole-text-steps e h k = rw e (record { answered = k ∙ ap (each written) h.answered; left = refl; bytes = h.left; floats = refl })
 
-    pub marks-steps : {b : List Float} → q ≡ Marks → Writes (sheet.marks s l.numbers) a b → replyOf r ≡ each written (lineResultOf a)
+    pub marks-steps : {b : List Float} → q ≡ Marks → Writes (sheet.marks s l.numbers) a b → reply_of r ≡ each written (line_result_of a)
         → Steps (step q l s) r s l.buffer b
     unfolding step
     marks-steps e h k = rw e (record { answered = k ∙ ap (each written) h.answered; left = refl; bytes = refl; floats = h.left })
 
-  pub mark-steps : {q : Call} (a : MarkAnswer) {r : Reply} {n : ℕ} → q ≡ Mark n → markResultOf a ≡ sheet.mark s n
-      → replyOf r ≡ each marked (markResultOf a) → Steps (step q l s) r s l.buffer l.numbers
+  pub mark-steps : {q : Call} (a : MarkAnswer) {r : Reply} {n : ℕ} → q ≡ Mark n → mark_result_of a ≡ sheet.mark s n
+      → reply_of r ≡ each marked (mark_result_of a) → Steps (step q l s) r s l.buffer l.numbers
   unfolding step
   mark-steps a e h k = rw e (record { answered = k ∙ ap (each marked) h; left = refl; bytes = refl; floats = refl })

@@ -12,11 +12,11 @@ pub data Value : Type 0 where
   marked : Mark → Value
 
 -- Document 01's number and values for each answer.
-abbrev pub replyOf : Reply → Result Value
-replyOf Done = gives done
-replyOf (Written n) = gives (written n)
-replyOf (Given m) = gives (marked m)
-replyOf (Refused n) = refuses n
+abbrev pub reply_of : Reply → Result Value
+reply_of Done = gives done
+reply_of (Written n) = gives (written n)
+reply_of (Given m) = gives (marked m)
+reply_of (Refused n) = refuses n
 
 -- What one of the sheet's calls gives, as a value of this kind.
 abbrev pub each : {A : Type 0} → (A → Value) → Result A → Result Value

@@ -1,7 +1,7 @@
 // Any call of a sheet.
 ghost use Rattle.std.specs.Prelude.{◌≡◌};
-ghost use Rattle.sheet.specs.Results.{result_of, lineResultOf, markResultOf};
-ghost use Rattle.calls.specs.Replies.{done, written, marked, replyOf, each};
+ghost use Rattle.sheet.specs.Results.{result_of, line_result_of, mark_result_of};
+ghost use Rattle.calls.specs.Replies.{done, written, marked, reply_of, each};
 ghost use Rattle.calls.specs.Step as spec;
 ghost use Rattle.calls.specs.Step.{Steps, lent};
 ghost use Rattle.calls.specs.inner.Replied.{Changes};
@@ -21,7 +21,7 @@ use sheet_text::whole::whole_text;
 
 // The answers of the sheet's calls, as those of any call.
 fn of_answer(a: Answer) -> Reply
-    ensures { replyOf result ≡ each (λ u. done) (result_of a) }
+    ensures { reply_of result ≡ each (λ u. done) (result_of a) }
 {
     match a {
         Answer::Accepted => Reply::Done,
@@ -30,7 +30,7 @@ fn of_answer(a: Answer) -> Reply
 }
 
 fn of_line(a: LineAnswer) -> Reply
-    ensures { replyOf result ≡ each written (lineResultOf a) }
+    ensures { reply_of result ≡ each written (line_result_of a) }
 {
     match a {
         LineAnswer::Written(n) => Reply::Written(n),
@@ -39,7 +39,7 @@ fn of_line(a: LineAnswer) -> Reply
 }
 
 fn of_mark(a: MarkAnswer) -> Reply
-    ensures { replyOf result ≡ each marked (markResultOf a) }
+    ensures { reply_of result ≡ each marked (mark_result_of a) }
 {
     match a {
         MarkAnswer::Given(m) => Reply::Given(m),

@@ -12,9 +12,9 @@ use lib.IntN.{ℤ, pos}
 use Rattle.ints.specs.Ints.{◌⊑◌, gap}
 use Rattle.ints.proofs.Laws.{gap-r, gap-l}
 use Rattle.plan.specs.Plan.{numbers}
-use Rattle.plan.specs.Segments.{Segment, ratedFrom}
+use Rattle.plan.specs.Segments.{Segment, rated_from}
 use Rattle.passes.specs.State.{position_of, put}
-use Rattle.passes.specs.Words.{place_of, sidewaysFrom, sidewaysSum}
+use Rattle.passes.specs.Words.{place_of, sideways_from, sideways_sum}
 use Rattle.plan.proofs.All.{All, all_nil, all_cons}
 use Rattle.passes.proofs.Put.{put_in}
 
@@ -54,14 +54,14 @@ place_in a m ys xs b l e h k = let z : a + (b - a) ≡ b = omega arith in
 
 -- ---- the sum
 abbrev pub SteadyFrom : List ℕ → List ℤ → List ℤ → List ℤ → List ℤ → ℕ → ℕ → Type 0
-SteadyFrom vs ys zs xs fs b n = sidewaysFrom vs zs fs b n + sidewaysFrom vs ys xs b n ≡ sidewaysFrom vs ys fs b n + sidewaysFrom vs zs xs b n
+SteadyFrom vs ys zs xs fs b n = sideways_from vs zs fs b n + sideways_from vs ys xs b n ≡ sideways_from vs ys fs b n + sideways_from vs zs xs b n
 
 pub steady-from : (vs : List ℕ) (ys zs xs fs : List ℤ) (b n : ℕ) (y z : ℤ) → place_of vs ys b ≡ some y → place_of vs zs b ≡ some z → Steady y z (position_of xs n) (position_of fs n) → SteadyFrom vs ys zs xs fs b n
-unfolding sidewaysFrom
+unfolding sideways_from
 steady-from vs ys zs xs fs b n y z e f h = rw (e, f) h
 
 pub steady-none : (vs : List ℕ) (ys zs xs fs : List ℤ) (b n : ℕ) → place_of vs ys b ≡ none → place_of vs zs b ≡ none → SteadyFrom vs ys zs xs fs b n
-unfolding sidewaysFrom
+unfolding sideways_from
 steady-none vs ys zs xs fs b n e f = rw (e, f) refl
 
 -- the ends of a segment: the box, and its neighbour on the preceding level
@@ -73,8 +73,8 @@ factor : (f a b c d : ℕ) → a + b ≡ c + d → f * a + f * b ≡ f * c + f *
 factor f a b c d e = omega (arith, ap (λ n. f * n) e)
 
 pub sum-steady : (t : Bool) (q : ℕ) (vs : List ℕ) (ys zs xs fs : List ℤ) {ss : List Segment} (ws : List ℕ) → eqb q 2 ≡ t → All (SteadyAt t vs ys zs xs fs) ss
-    → sidewaysSum q vs zs fs (ratedFrom ss ws) + sidewaysSum q vs ys xs (ratedFrom ss ws) ≡ sidewaysSum q vs ys fs (ratedFrom ss ws) + sidewaysSum q vs zs xs (ratedFrom ss ws)
-unfolding sidewaysSum ratedFrom
+    → sideways_sum q vs zs fs (rated_from ss ws) + sideways_sum q vs ys xs (rated_from ss ws) ≡ sideways_sum q vs ys fs (rated_from ss ws) + sideways_sum q vs zs xs (rated_from ss ws)
+unfolding sideways_sum rated_from
 sum-steady t q vs ys zs xs fs ws e all_nil = refl
 sum-steady t q vs ys zs xs fs [] e (all_cons h hs) = refl
 sum-steady true q vs ys zs xs fs (w ∷ ws) e (all_cons {x = s} h hs) = rw e (omega (arith, factor w _ _ _ _ h, sum-steady true q vs ys zs xs fs ws e hs))

@@ -5,26 +5,26 @@ use Prim.Native.Nat.{ℕ, ◌≤◌, ◌<◌}
 use lib.ListN.{length}
 use Rattle.plan.specs.Plan.{PlanData}
 use Rattle.plan.specs.Acceptable.{acceptable}
-use Rattle.passes.specs.Runs.{isBounded}
+use Rattle.passes.specs.Runs.{is_bounded}
 use Rattle.passes.specs.State.{Step}
-use Rattle.passes.specs.Drawing.{listed, traceOf, drawingOf}
-use Rattle.passes.specs.Words.{run_of, finished, stepAt}
+use Rattle.passes.specs.Drawing.{listed, trace_of, drawing_of}
+use Rattle.passes.specs.Words.{run_of, finished, step_at}
 use Rattle.passes.specs.Demand3.{Best, Demand3}
 use Rattle.passes.proofs.Sound.{Sound, sound}
 use Rattle.passes.proofs.Moments.{step, final-trace, reached-final, finished-is, moment-of, run_is, drawing, drawing-is}
 use Rattle.demand3.proofs.Upright.{order-kept, inner-upright}
 use Rattle.demand3.proofs.Bends.{bends-twice}
 use Rattle.passes.proofs.Due.{placed-as-due}
-use Rattle.demand3.proofs.BestThen.{stepAt-is, best-then}
+use Rattle.demand3.proofs.BestThen.{step_at-is, best-then}
 use Rattle.demand3.proofs.Lasting.{best-last}
 use Rattle.passes.proofs.DrawingWithin.{drawing-within}
 use Rattle.passes.proofs.Preliminary.{Preliminary}
 use Rattle.passes.proofs.Kept.{kept}
 
 module _ {p : PlanData} (so : Sound p) (pre : Preliminary p) where
-  last-bounded : (i : ℕ) (m : i < length (traceOf p)) → isBounded (run_of p (stepAt (traceOf p) i)) ≡ true → (stepAt (traceOf p) i).pass ≤ 2 → Best p (traceOf p) i (finished p (traceOf p))
-  last-bounded i h b q = let m = moment-of so pre i h in let e = stepAt-is so pre m in
-      best-last so pre m (ap isBounded (sym (ap (run_of p) e ∙ run_is so pre m)) ∙ b) (subst (λ (s : Step). s.pass ≤ 2) e q)
+  last-bounded : (i : ℕ) (m : i < length (trace_of p)) → is_bounded (run_of p (step_at (trace_of p) i)) ≡ true → (step_at (trace_of p) i).pass ≤ 2 → Best p (trace_of p) i (finished p (trace_of p))
+  last-bounded i h b q = let m = moment-of so pre i h in let e = step_at-is so pre m in
+      best-last so pre m (ap is_bounded (sym (ap (run_of p) e ∙ run_is so pre m)) ∙ b) (subst (λ (s : Step). s.pass ≤ 2) e q)
 
   holds : Demand3 p (drawing p)
   unfolding drawing
@@ -43,5 +43,5 @@ module _ {p : PlanData} (so : Sound p) (pre : Preliminary p) where
     within = drawing-within so pre;
   }
 
-pub demand3 : (p : PlanData) → acceptable p ≡ true → Demand3 p (drawingOf p)
+pub demand3 : (p : PlanData) → acceptable p ≡ true → Demand3 p (drawing_of p)
 demand3 p e = subst (Demand3 p) (sym (drawing-is p)) (holds (sound p e) (kept p e))

@@ -7,7 +7,7 @@
 --     abs z              nat_abs z is P z + N z
 --     gap-ge, gap-r, gap-l, gap-turn    the distance of two, with no case split
 --     least, most, min-l ..   the lesser and the greater of two
---     cases, casesZ      by the order of two, as a term
+--     cases, cases_z      by the order of two, as a term
 --     fit-sum, fit-dif   are rules too, for a need that a sum or a difference fits an i64: `omega (arith, fit-sum)`
 --     cast-make, cast-dif     what the cast of a signed number or difference to u64 needs
 --     back, back', of-nat     what the machine reads back from a signed local's bits
@@ -19,7 +19,7 @@ use lib.Dec.{T, ltb, leb, ltb→lt, nltb→le, leb→le}
 use borrow.Author.Tests.{ltb-true, ltb-false, leb-true, leb-false, lt-ltb, le-ltb, le-leb, lt-leb}
 use lib.IntN.{ℤ, pos, negsuc, neg_ℤ, sub_ℕ, ◌+ℤ◌, ◌-ℤ◌, nat_abs}
 use lib.Signed.{mag, non_neg, lt_z, le_z, ◌≤ℤ◌, ◌<ℤ◌}
-use Rattle.ints.specs.Ints.{P, N, minZ, maxZ, gap}
+use Rattle.ints.specs.Ints.{P, N, min_z, max_z, gap}
 use mir.Syntax.{w64}
 use mir.Val.{SFits, Fits, to_z, of_z}
 use mir.ValLaws as L
@@ -212,11 +212,11 @@ pub record Max (a b m : ℤ) : Type 0 where
   pub p : P m ≡ max (P a) (P b)
   pub n : N m ≡ min (N a) (N b)
 
-pub least : (a b : ℤ) → Min a b (minZ a b)
+pub least : (a b : ℤ) → Min a b (min_z a b)
 least a b = if-ind (lt_z b a) b a (λ z. Min a b z)
     (λ t. let h = lt-true b a t in omega (arith, apart a, apart b)) (λ t. let h = lt-false b a t in omega (arith, apart a, apart b))
 
-pub most : (a b : ℤ) → Max a b (maxZ a b)
+pub most : (a b : ℤ) → Max a b (max_z a b)
 most a b = if-ind (lt_z a b) b a (λ z. Max a b z)
     (λ t. let h = lt-true a b t in omega (arith, apart a, apart b)) (λ t. let h = lt-false a b t in omega (arith, apart a, apart b))
 
@@ -228,8 +228,8 @@ cases a b {G} f g = go (leb a b) refl
     go true e = f (leb-true a b e)
     go false e = g (leb-false a b e)
 
-pub casesZ : (a b : ℤ) {G : Type 0} → (P a + N b ≤ P b + N a → G) → (P b + N a < P a + N b → G) → G
-casesZ a b f g = cases (P a + N b) (P b + N a) f g
+pub cases_z : (a b : ℤ) {G : Type 0} → (P a + N b ≤ P b + N a → G) → (P b + N a < P a + N b → G) → G
+cases_z a b f g = cases (P a + N b) (P b + N a) f g
 
 -- ---- the distance of two
 -- at least the difference, either way
@@ -252,7 +252,7 @@ gap-l x n h = omega (arith, dif x n, abs (x -ℤ n), apart (x -ℤ n))
 
 -- from either end
 pub gap-turn : (x n : ℤ) → gap x n ≡ gap n x
-gap-turn x n = casesZ x n (λ h. omega (arith, gap-l x n h, gap-r n x h)) (λ h. omega (arith, gap-r x n (omega arith), gap-l n x (omega arith)))
+gap-turn x n = cases_z x n (λ h. omega (arith, gap-l x n h, gap-r n x h)) (λ h. omega (arith, gap-r x n (omega arith), gap-l n x (omega arith)))
 
 -- ---- the sets
 pub ruleset reads = (eq-read, lt-true, lt-false, le-true, le-false, ≤-read, <-read, fit-size)

@@ -13,71 +13,71 @@ use lib.Seq.{drop-cons}
 use lib.IntN.{ℤ, pos, negsuc}
 use lib.Signed.{le_z}
 use Rattle.ints.specs.Ints.{size, SizedTo}
-use Rattle.ints.specs.Reach.{reach, isWithin, allWithin}
+use Rattle.ints.specs.Reach.{reach, is_within, all_within}
 use Rattle.ints.proofs.Tests.{and_left, and_right, and_assoc}
 
 -- ---- one position
-pub within-size : (x : ℤ) → isWithin x ≡ true → size x ≤ reach
+pub within-size : (x : ℤ) → is_within x ≡ true → size x ≤ reach
 within-size (pos n) e = omega (arith, leb-true n reach e)
 within-size (negsuc n) e = omega (arith, leb-true (suc n) reach e)
 
-pub within-make : (x : ℤ) → size x ≤ reach → isWithin x ≡ true
+pub within-make : (x : ℤ) → size x ≤ reach → is_within x ≡ true
 within-make (pos n) h = le-leb n reach (omega arith)
 within-make (negsuc n) h = le-leb (suc n) reach (omega arith)
 
 -- the test from below, then that from above
-pub within-high : (x : ℤ) → le_z (negsuc 1099511627775) x ≡ true → le_z x (pos reach) ≡ isWithin x
+pub within-high : (x : ℤ) → le_z (negsuc 1099511627775) x ≡ true → le_z x (pos reach) ≡ is_within x
 within-high (pos n) e = refl
 within-high (negsuc n) e = let h = leb-true n 1099511627775 e in sym (le-leb (suc n) reach (omega arith))
 
-pub within_low : (x : ℤ) → le_z (negsuc 1099511627775) x ≡ false → isWithin x ≡ false
+pub within_low : (x : ℤ) → le_z (negsuc 1099511627775) x ≡ false → is_within x ≡ false
 within_low (pos n) e = absurd (subst T e tt)
 within_low (negsuc n) e = let h = leb-false n 1099511627775 e in lt-leb (suc n) reach (omega arith)
 
 -- ---- all of a list; past its end stands 0
-pub within-get : (xs : List ℤ) (i : ℕ) → allWithin xs ≡ true → isWithin (get_or xs i (pos 0)) ≡ true
-unfolding allWithin
+pub within-get : (xs : List ℤ) (i : ℕ) → all_within xs ≡ true → is_within (get_or xs i (pos 0)) ≡ true
+unfolding all_within
 within-get [] i e = refl
-within-get (x ∷ xs) zero e = and_left (isWithin x) (allWithin xs) e
-within-get (x ∷ xs) (suc i) e = within-get xs i (and_right (isWithin x) (allWithin xs) e)
+within-get (x ∷ xs) zero e = and_left (is_within x) (all_within xs) e
+within-get (x ∷ xs) (suc i) e = within-get xs i (and_right (is_within x) (all_within xs) e)
 
-pub within-at : (xs : List ℤ) (i : ℕ) → allWithin xs ≡ true → size (get_or xs i (pos 0)) ≤ reach
+pub within-at : (xs : List ℤ) (i : ℕ) → all_within xs ≡ true → size (get_or xs i (pos 0)) ≤ reach
 within-at xs i e = within-size (get_or xs i (pos 0)) (within-get xs i e)
 
-pub within-each : (xs : List ℤ) → ((i : ℕ) → i < length xs → isWithin (get_or xs i (pos 0)) ≡ true) → allWithin xs ≡ true
-unfolding allWithin
+pub within-each : (xs : List ℤ) → ((i : ℕ) → i < length xs → is_within (get_or xs i (pos 0)) ≡ true) → all_within xs ≡ true
+unfolding all_within
 within-each [] f = refl
 within-each (x ∷ xs) f = rw (f 0 (omega arith), within-each xs (λ i h. f (suc i) (omega arith)))
 
-pub within-cut : (n : ℕ) (xs : List ℤ) → allWithin xs ≡ (allWithin (take n xs) && allWithin (drop n xs))
-unfolding allWithin
+pub within-cut : (n : ℕ) (xs : List ℤ) → all_within xs ≡ (all_within (take n xs) && all_within (drop n xs))
+unfolding all_within
 within-cut zero xs = refl
 within-cut (suc n) [] = refl
-within-cut (suc n) (x ∷ xs) = ap (λ t. isWithin x && t) (within-cut n xs) ∙ and_assoc (isWithin x) (allWithin (take n xs)) (allWithin (drop n xs))
+within-cut (suc n) (x ∷ xs) = ap (λ t. is_within x && t) (within-cut n xs) ∙ and_assoc (is_within x) (all_within (take n xs)) (all_within (drop n xs))
 
-pub within-take : (n : ℕ) (xs : List ℤ) → allWithin xs ≡ true → allWithin (take n xs) ≡ true
-within-take n xs e = and_left (allWithin (take n xs)) (allWithin (drop n xs)) (sym (within-cut n xs) ∙ e)
+pub within-take : (n : ℕ) (xs : List ℤ) → all_within xs ≡ true → all_within (take n xs) ≡ true
+within-take n xs e = and_left (all_within (take n xs)) (all_within (drop n xs)) (sym (within-cut n xs) ∙ e)
 
-pub within-drop : (n : ℕ) (xs : List ℤ) → allWithin xs ≡ true → allWithin (drop n xs) ≡ true
-within-drop n xs e = and_right (allWithin (take n xs)) (allWithin (drop n xs)) (sym (within-cut n xs) ∙ e)
+pub within-drop : (n : ℕ) (xs : List ℤ) → all_within xs ≡ true → all_within (drop n xs) ≡ true
+within-drop n xs e = and_right (all_within (take n xs)) (all_within (drop n xs)) (sym (within-cut n xs) ∙ e)
 
-pub within-right : (xs ys : List ℤ) → allWithin (xs ++ ys) ≡ true → allWithin ys ≡ true
-unfolding allWithin
+pub within-right : (xs ys : List ℤ) → all_within (xs ++ ys) ≡ true → all_within ys ≡ true
+unfolding all_within
 within-right [] ys e = e
-within-right (x ∷ xs) ys e = within-right xs ys (and_right (isWithin x) (allWithin (xs ++ ys)) e)
+within-right (x ∷ xs) ys e = within-right xs ys (and_right (is_within x) (all_within (xs ++ ys)) e)
 
 -- ---- what is left of a list after the first i
 module _ (xs : List ℤ) (i : ℕ) where
-  pub within_on : i < length xs → isWithin (get_or xs i (pos 0)) ≡ true → allWithin (drop i xs) ≡ allWithin (drop (i + 1) xs)
-  unfolding allWithin
+  pub within_on : i < length xs → is_within (get_or xs i (pos 0)) ≡ true → all_within (drop i xs) ≡ all_within (drop (i + 1) xs)
+  unfolding all_within
   within_on h e = rw (add-one, drop-cons xs i (pos 0) h, e)
 
-  pub within-stop : i < length xs → isWithin (get_or xs i (pos 0)) ≡ false → allWithin (drop i xs) ≡ false
-  unfolding allWithin
+  pub within-stop : i < length xs → is_within (get_or xs i (pos 0)) ≡ false → all_within (drop i xs) ≡ false
+  unfolding all_within
   within-stop h e = rw (drop-cons xs i (pos 0) h, e)
 
-  pub within_end : length xs ≤ i → allWithin (drop i xs) ≡ true
-  unfolding allWithin
+  pub within_end : length xs ≤ i → all_within (drop i xs) ≡ true
+  unfolding all_within
   within_end h = rw (drop_of_length-le xs h)
 
 -- ---- not further than m from 0

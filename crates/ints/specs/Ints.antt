@@ -25,11 +25,11 @@ abbrev pub ◌⊏◌ : ℤ → ℤ → Type 0
 a ⊏ b = P a + N b < P b + N a
 
 -- The lesser and the greater of two.
-abbrev pub minZ : ℤ → ℤ → ℤ
-minZ a b = cond (lt_z b a) b a
+abbrev pub min_z : ℤ → ℤ → ℤ
+min_z a b = cond (lt_z b a) b a
 
-abbrev pub maxZ : ℤ → ℤ → ℤ
-maxZ a b = cond (lt_z a b) b a
+abbrev pub max_z : ℤ → ℤ → ℤ
+max_z a b = cond (lt_z a b) b a
 
 -- How far apart two stand.
 unfoldable pub gap : ℤ → ℤ → ℕ

@@ -29,12 +29,12 @@ chosen t (x ∷ xs) =
     cond (t x) here more
 
 -- How many members of a list pass a test, and how often v is one of them.
-unfoldable pub countIf : {A : Type 0} → (A → Bool) → List A → ℕ
-countIf t [] = 0
-countIf t (x ∷ xs) =
-    let more = countIf t xs in
+unfoldable pub count_if : {A : Type 0} → (A → Bool) → List A → ℕ
+count_if t [] = 0
+count_if t (x ∷ xs) =
+    let more = count_if t xs in
     let here = suc more in
     cond (t x) here more
 
 unfoldable pub count_of : ℕ → List ℕ → ℕ
-count_of v xs = countIf (λ x. eqb x v) xs
+count_of v xs = count_if (λ x. eqb x v) xs

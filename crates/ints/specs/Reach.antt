@@ -4,10 +4,10 @@ use Rattle.std.specs.Prelude.{Bool, true, ◌&&◌, List, [], ◌∷◌, ℕ, su
 abbrev pub reach : ℕ
 reach = 1099511627776
 
-abbrev pub isWithin : ℤ → Bool
-isWithin (pos n) = leb n reach
-isWithin (negsuc n) = leb (suc n) reach
+abbrev pub is_within : ℤ → Bool
+is_within (pos n) = leb n reach
+is_within (negsuc n) = leb (suc n) reach
 
-unfoldable pub allWithin : List ℤ → Bool
-allWithin [] = true
-allWithin (x ∷ xs) = isWithin x && allWithin xs
+unfoldable pub all_within : List ℤ → Bool
+all_within [] = true
+all_within (x ∷ xs) = is_within x && all_within xs

@@ -13,22 +13,22 @@ abbrev pub check : ℕ → Bool → Test
 check n passed = test n (not passed)
 
 -- The number of the first test that refuses; 0 if none does.
-unfoldable pub firstRefusal : List Test → ℕ
-firstRefusal [] = 0
-firstRefusal (t ∷ ts) =
-    let more = firstRefusal ts in
+unfoldable pub first_refusal : List Test → ℕ
+first_refusal [] = 0
+first_refusal (t ∷ ts) =
+    let more = first_refusal ts in
     cond t.refuses t.number more
 
 -- Whether m is the number of the first test that refuses: a test by m refuses, and none before it does.
-unfoldable pub isFirst : ℕ → List Test → Bool
-isFirst m [] = false
-isFirst m (t ∷ ts) =
-    let more = isFirst m ts in
+unfoldable pub is_first : ℕ → List Test → Bool
+is_first m [] = false
+is_first m (t ∷ ts) =
+    let more = is_first m ts in
     cond t.refuses (eqb t.number m) more
 
 -- Whether no test refuses.
-unfoldable pub noneRefuses : List Test → Bool
-noneRefuses [] = true
-noneRefuses (t ∷ ts) =
-    let more = noneRefuses ts in
+unfoldable pub none_refuses : List Test → Bool
+none_refuses [] = true
+none_refuses (t ∷ ts) =
+    let more = none_refuses ts in
     cond t.refuses false more

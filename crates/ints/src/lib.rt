@@ -4,7 +4,7 @@ pub mod within;
 
 ghost use Rattle.std.specs.Prelude.{◌≡◌, ◌+◌, ◌≤◌, ◌<◌, ◌^◌, length, ℤ, pos, ◌+ℤ◌, ◌-ℤ◌};
 ghost use Rattle.std.specs.Int.Signed.{lt_z};
-ghost use Rattle.ints.specs.Ints.{size, minZ, maxZ, gap};
+ghost use Rattle.ints.specs.Ints.{size, min_z, max_z, gap};
 ghost use Rattle.ints.specs.Lists.{sum as sum_of};
 
 pub fn sum(a: i64, b: i64) -> i64
@@ -38,13 +38,13 @@ pub fn minus(a: i64, d: u64) -> i64
 }
 
 pub fn lesser(a: i64, b: i64) -> i64
-    ensures { result ≡ minZ a b }
+    ensures { result ≡ min_z a b }
 {
     if b < a { b } else { a }
 }
 
 pub fn greater(a: i64, b: i64) -> i64
-    ensures { result ≡ maxZ a b }
+    ensures { result ≡ max_z a b }
 {
     if a < b { b } else { a }
 }

@@ -6,9 +6,9 @@ use mathlib.Core.List.{List, [], ◌∷◌, map}
 use lib.IntN.{ℤ, pos, negsuc}
 use lib.Count.{count_trailing_zeros}
 use lib.Ieee.{Float, fin, mul, round, of_int, of_bits, of_fields, odd, size, units, span, climb}
-use Rattle.plan.specs.Plan.{levelIn, levelOf, heightOf}
+use Rattle.plan.specs.Plan.{level_in, level_of, height_of}
 use Rattle.marks.specs.Half.{point5, half_of, whole_of}
-use Rattle.marks.specs.Marks.{wholeMarkOf, mark_of, fiveOf}
+use Rattle.marks.specs.Marks.{whole_mark_of, mark_of, five_of}
 use Rattle.plan.proofs.Case1.{case1}
 
 abbrev finals : List ℤ
@@ -33,7 +33,7 @@ n10 = fin false 5 (pos 1)
 abbrev left : Float
 left = fin true 5 (negsuc 0)
 
-box-bend-line : map (λ n. fiveOf (mark_of case1 finals n)) (0 ∷ 2 ∷ 5 ∷ [])
+box-bend-line : map (λ n. five_of (mark_of case1 finals n)) (0 ∷ 2 ∷ 5 ∷ [])
     ≡ (n0 ∷ left ∷ n0 ∷ n3 ∷ n0 ∷ []) ∷ (n1 ∷ left ∷ n10 ∷ n0 ∷ n0 ∷ []) ∷ (n2 ∷ left ∷ n0 ∷ left ∷ n10 ∷ []) ∷ []
-unfolding mark_of wholeMarkOf fiveOf heightOf levelOf levelIn half_of whole_of point5 mul of_int of_bits of_fields round odd units size span climb count_trailing_zeros
+unfolding mark_of whole_mark_of five_of height_of level_of level_in half_of whole_of point5 mul of_int of_bits of_fields round odd units size span climb count_trailing_zeros
 box-bend-line = refl

@@ -16,12 +16,12 @@ use lib.Ieee.Fits.{down_pos}
 use lib.Ieee.Exact.{HasValue, round_exact}
 use lib.Ieee.Back.{round_whole}
 use Rattle.ints.specs.Reach.{reach}
-use Rattle.plan.specs.Plan.{PlanData, vertexCount, isVia, halfWidth, levelOf, heightOf}
+use Rattle.plan.specs.Plan.{PlanData, vertex_count, is_via, half_width, level_of, height_of}
 use Rattle.passes.specs.State.{position_of}
 use Rattle.marks.specs.declared.types.Mark.{Mark}
 use Rattle.marks.specs.declared.types.Mark.TheVariants.{Box, Bend, Line}
-use Rattle.marks.specs.Half.{point5, half_of, whole_of, maxWhole}
-use Rattle.marks.specs.Marks.{WholeMark, box, bend, line, depth_of, upperEnd, lowerEnd, segmentMark, wholeMarkOf, point_of, inF64, mark_of, fiveOf}
+use Rattle.marks.specs.Half.{point5, half_of, whole_of, max_whole}
+use Rattle.marks.specs.Marks.{WholeMark, box, bend, line, depth_of, upper_end, lower_end, segment_mark, whole_mark_of, point_of, in_f64, mark_of, five_of}
 use Rattle.marks.specs.Exact.{IsHalf, IsWhole, ExactPoint, ExactMark, ExactFive}
 use Rattle.marks.specs.inner.Asked.{InReach}
 use Rattle.marks.proofs.Laws.{height-low, within-at}
@@ -32,7 +32,7 @@ unfolding in_float
 cast-holds (pos n) h = le→leb n (2 ^ 53) (omega arith)
 cast-holds (negsuc n) h = lt→ltb n (2 ^ 53) (omega arith)
 
-pub whole-holds : (n : ℕ) → n ≤ maxWhole → T (in_float binary64 (pos n))
+pub whole-holds : (n : ℕ) → n ≤ max_whole → T (in_float binary64 (pos n))
 unfolding in_float
 whole-holds n h = le→leb n (2 ^ 53) h
 
@@ -41,7 +41,7 @@ unfolding of_int
 int-exact (pos n) h = round_whole binary64 false n (omega arith)
 int-exact (negsuc n) h = round_whole binary64 true (suc n) (omega arith)
 
-pub whole-exact : (n : ℕ) → n ≤ maxWhole → IsWhole n (whole_of n)
+pub whole-exact : (n : ℕ) → n ≤ max_whole → IsWhole n (whole_of n)
 unfolding whole_of of_int
 whole-exact n h = round_whole binary64 false n h
 
@@ -85,17 +85,17 @@ pub half-exact : (x : ℤ) → nat_abs x ≤ reach → IsHalf x (half_of x)
 unfolding half_of
 half-exact x h = rw point5-is (halved (of_int binary64 x) (not (non_neg x)) (nat_abs x) h (int-exact x h))
 
-pub point-exact : (x : ℤ) (y : ℕ) → nat_abs x ≤ reach → y ≤ maxWhole → ExactPoint x y (point_of x y)
+pub point-exact : (x : ℤ) (y : ℕ) → nat_abs x ≤ reach → y ≤ max_whole → ExactPoint x y (point_of x y)
 point-exact x y h l = record { across = half-exact x h; down = whole-exact y l }
 
 -- ---- marks
 -- So near, so low and so narrow that f64 has them.
 abbrev pub Fits : WholeMark → Type 0
-Fits (box x y w) = (nat_abs x ≤ reach) × (y ≤ maxWhole) × (w ≤ maxWhole)
-Fits (bend x y) = (nat_abs x ≤ reach) × (y ≤ maxWhole)
-Fits (line x y u v) = (nat_abs x ≤ reach) × (y ≤ maxWhole) × (nat_abs u ≤ reach) × (v ≤ maxWhole)
+Fits (box x y w) = (nat_abs x ≤ reach) × (y ≤ max_whole) × (w ≤ max_whole)
+Fits (bend x y) = (nat_abs x ≤ reach) × (y ≤ max_whole)
+Fits (line x y u v) = (nat_abs x ≤ reach) × (y ≤ max_whole) × (nat_abs u ≤ reach) × (v ≤ max_whole)
 
-in-f64-exact : (m : WholeMark) → Fits m → ExactMark m (inF64 m)
+in-f64-exact : (m : WholeMark) → Fits m → ExactMark m (in_f64 m)
 in-f64-exact (box x y w) h = (point-exact x y h.0 h.1, whole-exact w h.2)
 in-f64-exact (bend x y) h = point-exact x y h.0 h.1
 in-f64-exact (line x y u v) h = (point-exact x y h.0 h.1, point-exact u v h.2 h.3)
@@ -107,30 +107,30 @@ either-fits false via x y w m h k = k
 
 -- those of a plan
 module _ (p : PlanData) (xs : List ℤ) (h : InReach p.spacing p.sizes xs) where
-  low : (v : ℕ) → depth_of p v ≤ maxWhole
-  unfolding heightOf levelOf
+  low : (v : ℕ) → depth_of p v ≤ max_whole
+  unfolding height_of level_of
   low v = omega (arith, height-low h v)
 
   near : (v : ℕ) → nat_abs (position_of xs v) ≤ reach
   near v = within-at xs v h.within
 
-  pub fits : (n : ℕ) → halfWidth p n ≤ maxWhole → Fits (wholeMarkOf p xs n)
-  unfolding wholeMarkOf
+  pub fits : (n : ℕ) → half_width p n ≤ max_whole → Fits (whole_mark_of p xs n)
+  unfolding whole_mark_of
   fits n w =
-      let k = n - vertexCount p in
-      let a = upperEnd p k in let b = lowerEnd p k in
-      either-fits (ltb n (vertexCount p)) (isVia p n) (position_of xs n) (depth_of p n) (halfWidth p n) (segmentMark p xs k) (near n, low n, w) (near a, low a, near b, low b)
+      let k = n - vertex_count p in
+      let a = upper_end p k in let b = lower_end p k in
+      either-fits (ltb n (vertex_count p)) (is_via p n) (position_of xs n) (depth_of p n) (half_width p n) (segment_mark p xs k) (near n, low n, w) (near a, low a, near b, low b)
 
-  pub mark-exact : (n : ℕ) → halfWidth p n ≤ maxWhole → ExactMark (wholeMarkOf p xs n) (mark_of p xs n)
+  pub mark-exact : (n : ℕ) → half_width p n ≤ max_whole → ExactMark (whole_mark_of p xs n) (mark_of p xs n)
   unfolding mark_of
-  mark-exact n w = in-f64-exact (wholeMarkOf p xs n) (fits n w)
+  mark-exact n w = in-f64-exact (whole_mark_of p xs n) (fits n w)
 
 -- ---- five numbers
 whole-kind : (k : ℕ) → k ≤ 2 → IsWhole k (whole_of k)
 whole-kind k h = whole-exact k (omega arith)
 
-pub five-exact : (w : WholeMark) (m : Mark) (more : List Float) → ExactMark w m → ExactFive w (fiveOf m ++ more)
-unfolding fiveOf
+pub five-exact : (w : WholeMark) (m : Mark) (more : List Float) → ExactMark w m → ExactFive w (five_of m ++ more)
+unfolding five_of
 five-exact (box x y w) (Box q z) more e = (whole-kind 0 (omega arith), e.0.across, e.0.down, e.1, whole-kind 0 (omega arith))
 five-exact (bend x y) (Bend q) more e = (whole-kind 1 (omega arith), e.across, e.down, whole-kind 0 (omega arith), whole-kind 0 (omega arith))
 five-exact (line x y u v) (Line q r) more e = (whole-kind 2 (omega arith), e.0.across, e.0.down, e.1.across, e.1.down)

@@ -10,30 +10,30 @@ use lib.ListN.{length, get_or}
 use lib.IntN.{ℤ, nat_abs}
 use Rattle.ints.proofs.Laws.{abs}
 use Rattle.ints.proofs.Reach.{within-at as size-at}
-use Rattle.plan.specs.Plan.{PlanData, levelIn, levelOf, heightOf}
+use Rattle.plan.specs.Plan.{PlanData, level_in, level_of, height_of}
 use Rattle.plan.proofs.LevelLaws.{level-most}
-use Rattle.plan_checks.specs.inner.Heights.{heightAt, HeightsOf}
+use Rattle.plan_checks.specs.inner.Heights.{height_at, HeightsOf}
 use Rattle.passes.specs.State.{position_of}
-use Rattle.ints.specs.Reach.{reach, allWithin}
+use Rattle.ints.specs.Reach.{reach, all_within}
 use Rattle.marks.specs.declared.types.Mark.TheVariants.{Box, Bend}
-use Rattle.marks.specs.Half.{half_of, whole_of, maxWhole}
-use Rattle.marks.specs.Marks.{box, bend, point_of, wholeMarkOf, inF64, mark_of, markCount}
-use Rattle.marks.specs.inner.Asked.{pointIn, lineIn, DataOf, DataAt, AskedEach, InReach, AskedAll}
+use Rattle.marks.specs.Half.{half_of, whole_of, max_whole}
+use Rattle.marks.specs.Marks.{box, bend, point_of, whole_mark_of, in_f64, mark_of, mark_count}
+use Rattle.marks.specs.inner.Asked.{point_in, line_in, DataOf, DataAt, AskedEach, InReach, AskedAll}
 
-pub height-low : {spacing : ℕ} {sizes : List ℕ} {xs : List ℤ} → InReach spacing sizes xs → (v : ℕ) → heightAt spacing sizes v < maxWhole
-unfolding heightOf levelOf
+pub height-low : {spacing : ℕ} {sizes : List ℕ} {xs : List ℤ} → InReach spacing sizes xs → (v : ℕ) → height_at spacing sizes v < max_whole
+unfolding height_of level_of
 height-low {spacing} {sizes} h v =
-    let few : levelIn sizes v - 1 ≤ 64 = omega (arith, level-most sizes v, h.levels) in
-    let low : spacing * (levelIn sizes v - 1) ≤ 10000 * 64 = mul-le-mul h.spaced few in
+    let few : level_in sizes v - 1 ≤ 64 = omega (arith, level-most sizes v, h.levels) in
+    let low : spacing * (level_in sizes v - 1) ≤ 10000 * 64 = mul-le-mul h.spaced few in
     omega arith
 
-pub within-at : (xs : List ℤ) (v : ℕ) → allWithin xs ≡ true → nat_abs (position_of xs v) ≤ reach
+pub within-at : (xs : List ℤ) (v : ℕ) → all_within xs ≡ true → nat_abs (position_of xs v) ≤ reach
 within-at xs v e = omega (arith, abs (position_of xs v), size-at xs v e)
 
 -- ---- a plan with these data
 module _ {p : PlanData} {spacing : ℕ} {sizes : List ℕ} {vias : List Bool} {halves uppers lowers : List ℕ} (d : DataOf p spacing sizes vias halves uppers lowers) where
   -- how many marks it has
-  pub count-is : markCount p ≡ length vias + length uppers
+  pub count-is : mark_count p ≡ length vias + length uppers
   count-is = rw (ap (λ (q : PlanData). q.vias) d, ap (λ (q : PlanData). q.uppers) d)
 
   pub data-at : {heights : List ℕ} → HeightsOf spacing sizes heights → DataAt p heights vias halves uppers lowers
@@ -57,7 +57,7 @@ ends-stand h k l =
     (omega (arith, a.upper k l, a.positions), omega (arith, a.lower k (omega (arith, a.ends)), a.positions))
 
 -- ---- the n-th mark, by the plan's lists
-either-in-f64 : (via : Bool) (x : ℤ) (y w : ℕ) → inF64 (cond via (bend x y) (box x y w)) ≡ cond via (Bend (point_of x y)) (Box (point_of x y) (whole_of w))
+either-in-f64 : (via : Bool) (x : ℤ) (y w : ℕ) → in_f64 (cond via (bend x y) (box x y w)) ≡ cond via (Bend (point_of x y)) (Box (point_of x y) (whole_of w))
 either-in-f64 true x y w = refl
 either-in-f64 false x y w = refl
 
@@ -66,20 +66,20 @@ module _ (p : PlanData) (heights : List ℕ) (vias : List Bool) (halves uppers l
   abbrev e-vias : p.vias ≡ vias
   e-vias = ap (λ (q : PlanData). q.vias) d.lists
 
-  stands : (v : ℕ) → v < length heights → heightOf p (levelOf p v) ≡ get_or heights v 0
-  unfolding heightOf levelOf
+  stands : (v : ℕ) → v < length heights → height_of p (level_of p v) ≡ get_or heights v 0
+  unfolding height_of level_of
   stands v h = sym (d.raised.each v h)
 
   pub vertex-is : n < length vias → n < length heights
-      → mark_of p xs n ≡ cond (get_or vias n false) (Bend (pointIn heights xs n)) (Box (pointIn heights xs n) (whole_of (get_or halves n 0)))
-  unfolding mark_of wholeMarkOf heightOf levelOf
+      → mark_of p xs n ≡ cond (get_or vias n false) (Bend (point_in heights xs n)) (Box (point_in heights xs n) (whole_of (get_or halves n 0)))
+  unfolding mark_of whole_mark_of height_of level_of
   vertex-is h k =
       rw (e-vias, stands n k, ap (λ (q : PlanData). q.halves) d.lists, lt-ltb n (length vias) h)
       (either-in-f64 (get_or vias n false) (position_of xs n) (get_or heights n 0) (get_or halves n 0))
 
   pub segment-is : (k : ℕ) → k ≡ n - length vias → length vias ≤ n → get_or uppers k 0 < length heights → get_or lowers k 0 < length heights
-      → mark_of p xs n ≡ lineIn heights xs (get_or uppers k 0) (get_or lowers k 0)
-  unfolding mark_of wholeMarkOf heightOf levelOf half_of whole_of
+      → mark_of p xs n ≡ line_in heights xs (get_or uppers k 0) (get_or lowers k 0)
+  unfolding mark_of whole_mark_of height_of level_of half_of whole_of
   segment-is k e h a b =
       rw (
         e-vias,

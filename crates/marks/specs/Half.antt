@@ -15,5 +15,5 @@ unfoldable pub whole_of : ℕ → Float
 whole_of n = of_int binary64 (pos n)
 
 -- Every whole number up to this is an f64.
-abbrev pub maxWhole : ℕ
-maxWhole = 2 ^ 53
+abbrev pub max_whole : ℕ
+max_whole = 2 ^ 53

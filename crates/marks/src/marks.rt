@@ -1,7 +1,7 @@
 // One mark, out of a plan's arrays and the final positions.
 ghost use Rattle.std.specs.Prelude.{◌≡◌, cond, ◌<◌, length};
 ghost use Rattle.marks.specs.Half.{whole_of};
-ghost use Rattle.marks.specs.inner.Asked.{Standing, pointIn, lineIn, AskedAt, IsMarkAt, Asked, IsMark};
+ghost use Rattle.marks.specs.inner.Asked.{Standing, point_in, line_in, AskedAt, IsMarkAt, Asked, IsMark};
 
 use crate::types::{Mark, Point};
 use plan::data::Plan;
@@ -10,7 +10,7 @@ use plan_checks::levels::heights;
 // Where vertex v stands.
 fn point_at(heights: &[u64], finals: &[i64], v: usize) -> Point
     requires { Standing heights.now finals.now × (v < length finals.now) }
-    ensures { result ≡ pointIn heights.now finals.now v }
+    ensures { result ≡ point_in heights.now finals.now v }
 {
     Point::new(finals[v], heights[v])
 }
@@ -28,7 +28,7 @@ fn vertex_mark(via: bool, half: u16, at: Point) -> Mark
 // The mark of the segment from a down to b.
 fn segment_mark(heights: &[u64], finals: &[i64], a: u32, b: u32) -> Mark
     requires { Standing heights.now finals.now × (a < length finals.now) × (b < length finals.now) }
-    ensures { result ≡ lineIn heights.now finals.now a b }
+    ensures { result ≡ line_in heights.now finals.now a b }
 {
     let upper = point_at(heights, finals, a as usize);
     let lower = point_at(heights, finals, b as usize);

@@ -1,7 +1,7 @@
 // Marks as numbers in a lent slice.
 ghost use Rattle.std.specs.Prelude.{◌≡◌, [], ◌∷◌, ◌+◌, ◌*◌, ◌≤◌, length};
 ghost use Rattle.std.proofs.lemmas.List.Edits.{sets};
-ghost use Rattle.marks.specs.Marks.{fiveOf};
+ghost use Rattle.marks.specs.Marks.{five_of};
 ghost use Rattle.marks.specs.inner.Asked.{AskedEach, AreMarksAt, AskedAll, AreMarks};
 
 use crate::marks::mark_at;
@@ -24,7 +24,7 @@ fn put_five(kind: f64, c: Point, d: f64, e: f64, at: usize, out: &mut [f64])
 // Writes a mark as five numbers.
 pub fn put_mark(m: Mark, at: usize, out: &mut [f64])
     requires { at + 5 ≤ length out.old }
-    ensures { out.new ≡ sets out.old at (fiveOf m) }
+    ensures { out.new ≡ sets out.old at (five_of m) }
 {
     match m {
         Mark::Box(c, w) => put_five(0.0, c, w, 0.0, at, out),

@@ -1,7 +1,7 @@
 // A mark, and the points in it.
 ghost use Rattle.std.specs.Prelude.{nat_abs, ◌≤◌};
 ghost use Rattle.ints.specs.Reach.{reach};
-ghost use Rattle.marks.specs.Half.{maxWhole};
+ghost use Rattle.marks.specs.Half.{max_whole};
 ghost use Rattle.marks.specs.Exact.{MadePoint};
 
 // A point in steps.
@@ -14,7 +14,7 @@ pub struct Point {
 impl Point {
     // The point x half steps to the right of 0 and y steps below the top level.
     pub fn new(x: i64, y: u64) -> Self
-        requires { (nat_abs x ≤ reach) × (y ≤ maxWhole) }
+        requires { (nat_abs x ≤ reach) × (y ≤ max_whole) }
         ensures { MadePoint x y result }
     {
         Self {

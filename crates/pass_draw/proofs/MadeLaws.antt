@@ -7,48 +7,48 @@ use lib.ListN.{take}
 use lib.IntN.{ℤ}
 use Rattle.plan.specs.Plan.{PlanData}
 use Rattle.preliminary.specs.Positions as spec
-use Rattle.passes.specs.Drawing.{drawingOf}
+use Rattle.passes.specs.Drawing.{drawing_of}
 use Rattle.passes.specs.Demand3.{Demand3}
-use Rattle.passes.specs.Stored.{placingsFrom}
+use Rattle.passes.specs.Stored.{placings_from}
 use Rattle.demand3.proofs.Theorem as theorem
 use Rattle.pass_list.proofs.Decoded.{decoded}
 use Rattle.plan.specs.inner.Held.{HoldsPlan}
 use Rattle.pass_tables.specs.inner.Moments.{Some}
 use Rattle.pass_list.specs.inner.Listing.{columns}
-use Rattle.pass_draw.specs.inner.Drawn.{Wanted, Drawn, Unlisted, planLists, Outset}
-use Rattle.pass_draw.specs.inner.Made.{Blank, Made, BlankIfWanted, MadeIfWanted, drawingAt}
+use Rattle.pass_draw.specs.inner.Drawn.{Wanted, Drawn, Unlisted, plan_lists, Outset}
+use Rattle.pass_draw.specs.inner.Made.{Blank, Made, BlankIfWanted, MadeIfWanted, drawing_at}
 
 -- The arrays of an empty list.
 pub room : {gap : ℕ} {ns : List ℕ} {vias : List Bool} {halves uppers lowers ratings : List ℕ} {xs ys : List ℤ} {passes levels counts vertices : List ℕ} {positions : List ℤ}
     → Blank gap ns vias halves uppers lowers ratings xs ys passes levels counts vertices positions → BlankIfWanted gap ns vias halves uppers lowers ratings xs ys passes levels counts vertices positions
 room b = record {
   some = b.some;
-  preliminaryRoom = b.preliminaryRoom;
-  finalRoom = b.finalRoom;
-  noList = λ w. record { noPasses = b.noPasses; noLevels = b.noLevels; noSizes = b.noCounts; noVertices = b.noVertices; noPositions = b.noPositions };
+  preliminary_room = b.preliminary_room;
+  final_room = b.final_room;
+  no_list = λ w. record { no_passes = b.no_passes; no_levels = b.no_levels; no_sizes = b.no_counts; no_vertices = b.no_vertices; no_positions = b.no_positions };
 }
 
 -- With the preliminary positions in place the three passes can begin.
 pub ready : {gap : ℕ} {ns : List ℕ} {vias : List Bool} {halves uppers lowers ratings : List ℕ} {xs ys at : List ℤ} {passes levels counts vertices : List ℕ} {positions : List ℤ}
     → (b : BlankIfWanted gap ns vias halves uppers lowers ratings xs ys passes levels counts vertices positions)
     → at ≡ spec.preliminary b.some.plan
-    → Some (Outset (planLists gap ns vias halves uppers lowers ratings) at) × (Wanted (columns passes levels counts vertices positions) → Unlisted (columns passes levels counts vertices positions))
+    → Some (Outset (plan_lists gap ns vias halves uppers lowers ratings) at) × (Wanted (columns passes levels counts vertices positions) → Unlisted (columns passes levels counts vertices positions))
 ready b e = (
-  record { it = b.some.plan; is = record { lists = b.some.lists.lists; ratingsAre = b.some.lists.ratingsAre; preliminaries = e } },
-  b.noList,
+  record { it = b.some.plan; is = record { lists = b.some.lists.lists; ratings_are = b.some.lists.ratings_are; preliminaries = e } },
+  b.no_list,
 )
 
-preliminary-of : (p : PlanData) → (drawingOf p).preliminary ≡ spec.preliminary p
-unfolding drawingOf
+preliminary-of : (p : PlanData) → (drawing_of p).preliminary ≡ spec.preliminary p
+unfolding drawing_of
 preliminary-of p = refl
 
 module _ {p : PlanData} {n b : ℕ} {xs ys : List ℤ} {passes levels counts vertices : List ℕ} {positions : List ℤ} (from : xs ≡ spec.preliminary p) (d : Drawn n b ys (columns passes levels counts vertices positions) p) where
   -- the arrays' list, if it is wanted, is the definition's
-  list-is : Wanted (columns passes levels counts vertices positions) → placingsFrom (take n passes) (take n levels) (take n counts) vertices positions ≡ (drawingOf p).placings
+  list-is : Wanted (columns passes levels counts vertices positions) → placings_from (take n passes) (take n levels) (take n counts) vertices positions ≡ (drawing_of p).placings
   list-is w = rw (d.listed w).placings (decoded (d.listed w).lists)
 
   -- the arrays' drawing is the definition's
-  drawing-is : Wanted (columns passes levels counts vertices positions) → drawingAt n xs ys passes levels counts vertices positions ≡ drawingOf p
+  drawing-is : Wanted (columns passes levels counts vertices positions) → drawing_at n xs ys passes levels counts vertices positions ≡ drawing_of p
   drawing-is w = rw (from ∙ sym (preliminary-of p), d.final, list-is w)
 
   made : {gap : ℕ} {ns : List ℕ} {vias : List Bool} {halves uppers lowers : List ℕ} → HoldsPlan p gap ns vias halves uppers lowers → Wanted (columns passes levels counts vertices positions) → Made p n xs ys passes levels counts vertices positions

@@ -7,18 +7,18 @@ use native.Mathlib.Omega.{arith}
 use borrow.Author.Tests.{eq-eqb, ne_eqb}
 use lib.ListN.{length}
 use lib.IntN.{ℤ}
-use Rattle.ints.specs.Ratings.{allRatings}
-use Rattle.run_columns.specs.inner.Sums.{ratingsBetween}
-use Rattle.plan.specs.Plan.{PlanData, vertexCount}
+use Rattle.ints.specs.Ratings.{all_ratings}
+use Rattle.run_columns.specs.inner.Sums.{ratings_between}
+use Rattle.plan.specs.Plan.{PlanData, vertex_count}
 use Rattle.plan.proofs.LimitLaws.{Limits}
 use Rattle.plan.proofs.Sound.{sound}
 use Rattle.plan.specs.inner.Graph.{Below}
 use Rattle.pass_tables.specs.inner.Moments.{AtPass}
 use Rattle.pass_tables.specs.inner.Tables.{Rows, Sortable}
-use Rattle.pass_neighbours.specs.inner.Ends.{ownEnds, farEnds}
+use Rattle.pass_neighbours.specs.inner.Ends.{own_ends, far_ends}
 use Rattle.pass_tables.proofs.Near.{near-above, near-below}
 use Rattle.plan.proofs.HeldLaws.{bounds as proper}
-use Rattle.pass_visits.specs.inner.Passing.{passWork, PassNext}
+use Rattle.pass_visits.specs.inner.Passing.{pass_work, PassNext}
 use Rattle.plan.proofs.CountLaws.{by-same}
 use Rattle.pass_draw.specs.inner.Turn.{Graph, TurnNext}
 
@@ -45,25 +45,25 @@ module _ {q : ℕ} {h : Graph} {at : List ℤ} {apart : List ℕ} {marks : List 
   limits = (sound p k.held.ok).limits
 
   upper-ends : Below (length vias) uppers
-  upper-ends = rw (k.viasAre, k.uppersAre) (proper p k.held.ok).upperEnds
+  upper-ends = rw (k.vias_are, k.uppers_are) (proper p k.held.ok).upper_ends
 
   lower-ends : Below (length vias) lowers
-  lower-ends = rw (k.viasAre, k.lowersAre) (proper p k.held.ok).lowerEnds
+  lower-ends = rw (k.vias_are, k.lowers_are) (proper p k.held.ok).lower_ends
 
   pub segments-few : length uppers ≤ 2048
-  segments-few = rw k.uppersAre (proper p k.held.ok).segments
+  segments-few = rw k.uppers_are (proper p k.held.ok).segments
 
   even : length uppers ≡ length lowers
-  even = rw (k.uppersAre, k.lowersAre) (proper p k.held.ok).ends
+  even = rw (k.uppers_are, k.lowers_are) (proper p k.held.ok).ends
 
   even-ratings : length h.ratings ≡ length uppers
-  even-ratings = rw (k.ratingsAre, k.uppersAre) limits.ratings-long
+  even-ratings = rw (k.ratings_are, k.uppers_are) limits.ratings_long
 
-  rated : allRatings h.ratings ≡ true
-  rated = rw k.ratingsAre limits.ratings
+  rated : all_ratings h.ratings ≡ true
+  rated = rw k.ratings_are limits.ratings
 
   pub vertices-few : length vias + 1 ≤ 1025
-  vertices-few = omega (arith, ap length k.viasAre, limits.vertices)
+  vertices-few = omega (arith, ap length k.vias_are, limits.vertices)
 
   module _ {first ends sums : List ℕ} (t : CutTo (length vias) (length uppers) first ends sums) where
     pub sortable : Sortable uppers lowers h.ratings first ends sums × Sortable lowers uppers h.ratings first ends sums
@@ -75,7 +75,7 @@ module _ {q : ℕ} {h : Graph} {at : List ℤ} {apart : List ℕ} {marks : List 
         rated = even-ratings;
         within = rated;
         room = t.others;
-        sumRoom = t.ratings;
+        sum_room = t.ratings;
       },
       record {
         few = omega (arith, segments-few, even);
@@ -84,29 +84,29 @@ module _ {q : ℕ} {h : Graph} {at : List ℤ} {apart : List ℕ} {marks : List 
         rated = even-ratings ∙ even;
         within = rated;
         room = t.others ∙ even;
-        sumRoom = omega (arith, t.ratings, even);
+        sum_room = omega (arith, t.ratings, even);
       },
     )
 
-    rows_long : length first ≡ suc (vertexCount p)
-    rows_long = omega (arith, t.rows, ap length k.viasAre)
+    rows_long : length first ≡ suc (vertex_count p)
+    rows_long = omega (arith, t.rows, ap length k.vias_are)
 
     rows_all : length ends ≡ length p.uppers
-    rows_all = t.others ∙ ap length k.uppersAre
+    rows_all = t.others ∙ ap length k.uppers_are
 
     sums-all : length sums ≡ length p.uppers + 1
-    sums-all = omega (arith, t.ratings, ap length k.uppersAre)
+    sums-all = omega (arith, t.ratings, ap length k.uppers_are)
 
     -- the pass comes next, with its neighbours
-    pub pass-next : Rows (ownEnds q uppers lowers) (farEnds q uppers lowers) first ends × Rows (ownEnds q uppers lowers) h.ratings first (ratingsBetween sums)
-        → PassNext q h.levels vias (passWork first ends sums at apart marks) m
+    pub pass-next : Rows (own_ends q uppers lowers) (far_ends q uppers lowers) first ends × Rows (own_ends q uppers lowers) h.ratings first (ratings_between sums)
+        → PassNext q h.levels vias (pass_work first ends sums at apart marks) m
     pass-next x = record {
       held = k.held;
-      startsAre = k.startsAre;
-      viasAre = k.viasAre;
+      starts_are = k.starts_are;
+      vias_are = k.vias_are;
       near = by-same q 2
-          (λ two. let e = eq-eqb q 2 two in let y = rw (e, k.uppersAre, k.lowersAre, k.ratingsAre) at x in
+          (λ two. let e = eq-eqb q 2 two in let y = rw (e, k.uppers_are, k.lowers_are, k.ratings_are) at x in
           near-below p k.held.ok first ends sums rows_long rows_all sums-all q two y.0 y.1)
-          (λ two. let e = ne_eqb q 2 two in let y = rw (e, k.uppersAre, k.lowersAre, k.ratingsAre) at x in
+          (λ two. let e = ne_eqb q 2 two in let y = rw (e, k.uppers_are, k.lowers_are, k.ratings_are) at x in
           near-above p k.held.ok first ends sums rows_long rows_all sums-all q two y.0 y.1);
     }

@@ -5,7 +5,7 @@ ghost use Rattle.pass_visits.specs.inner.Passing.{PassDone};
 ghost use Rattle.pass_list.specs.inner.Listing.{columns};
 ghost use Rattle.pass_list.specs.inner.Ended.{Copied, Ending, ending, PassEnding, PassListed};
 ghost use Rattle.pass_draw.specs.inner.Turn.{Graph, graph, Lent, TurnNext};
-ghost use Rattle.pass_draw.specs.inner.Drawn.{Wanted, Drawn, Begun, begun, AtStart, AtFirst, Unlisted, PlanLists, planLists, Outset};
+ghost use Rattle.pass_draw.specs.inner.Drawn.{Wanted, Drawn, Begun, begun, AtStart, AtFirst, Unlisted, PlanLists, plan_lists, Outset};
 
 use pass_list::pass::{Listed, list_pass};
 use pass_neighbours::neighbours;
@@ -207,7 +207,7 @@ pub fn three_passes(
     positions: &mut [i64],
 ) -> Listed
     ghost l: { PlanLists }
-    requires ratings_value { planLists gap lengths.now vias.now halves.now uppers.now lowers.now ratings.now ≡ l }
+    requires ratings_value { plan_lists gap lengths.now vias.now halves.now uppers.now lowers.now ratings.now ≡ l }
     requires some { Some (Outset l at.old) × (Wanted (columns passes.old levels.old sizes.old vertices.old positions.old)
         → Unlisted (columns passes.old levels.old sizes.old vertices.old positions.old)) }
     ensures { Leaves (Outset l at.old) (Drawn result.placings result.boxes at.new

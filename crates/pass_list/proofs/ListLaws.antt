@@ -9,54 +9,54 @@ use lib.Dec.{eqb, ltb}
 use lib.ListN.{get_or}
 use lib.IntN.{ℤ}
 use Rattle.passes.specs.Drawing.{Placing}
-use Rattle.passes.specs.Words.{boxesListed}
+use Rattle.passes.specs.Words.{boxes_listed}
 use Rattle.pass_list.specs.inner.Listing.{Columns, Lies, Stored}
 use Rattle.pass_tables.proofs.Due.{and_no}
-use Rattle.pass_list.specs.inner.Added.{placingOf, ListRoom}
+use Rattle.pass_list.specs.inner.Added.{placing_of, ListRoom}
 use Rattle.pass_list.proofs.Added.{placings-then, boxes-then}
-use Rattle.pass_list.specs.inner.Ended.{placedBy, placingIf, Fits}
+use Rattle.pass_list.specs.inner.Ended.{placed_by, placing_if, Fits}
 
 -- ---- whether it was placed
 module _ (q start from end to : ℕ) (had marks : List Bool) where
-  pub open-first : from ≤ start → not (eqb q 3) ≡ placedBy q start from end to had marks
+  pub open-first : from ≤ start → not (eqb q 3) ≡ placed_by q start from end to had marks
   open-first h = rw (le-ltb start from h)
 
-  pub open-last : to ≤ end → not (eqb q 3) ≡ placedBy q start from end to had marks
+  pub open-last : to ≤ end → not (eqb q 3) ≡ placed_by q start from end to had marks
   open-last h = rw (le-ltb end to h, and_no (ltb start from))
 
-  pub between : start < from → end < to → get_or had (from - 1) false && not (get_or marks (from - 1) false) ≡ placedBy q start from end to had marks
+  pub between : start < from → end < to → get_or had (from - 1) false && not (get_or marks (from - 1) false) ≡ placed_by q start from end to had marks
   between h k = rw (lt-ltb start from h, lt-ltb end to k)
 
 -- ---- the list then
 module _ (placed : Bool) (q l from end : ℕ) (at : List ℤ) where
-  if-not : placed ≡ false → placingIf placed q l from end at ≡ []
+  if-not : placed ≡ false → placing_if placed q l from end at ≡ []
   if-not e = rw e
 
-  pub if-empty : end ≤ from → placingIf placed q l from end at ≡ []
+  pub if-empty : end ≤ from → placing_if placed q l from end at ≡ []
   if-empty h = rw (le-ltb from end h, and_no placed)
 
-  if_some : placed ≡ true → from < end → placingIf placed q l from end at ≡ placingOf q l from end at ∷ []
+  if_some : placed ≡ true → from < end → placing_if placed q l from end at ≡ placing_of q l from end at ∷ []
   if_some e h = rw (e, lt-ltb from end h)
 
   module _ {before : List Placing} {n b : ℕ} {g : Columns} (s : Stored n b g before) where
-    none : placingIf placed q l from end at ≡ [] → Stored n b g (before ++ placingIf placed q l from end at)
+    none : placing_if placed q l from end at ≡ [] → Stored n b g (before ++ placing_if placed q l from end at)
     none e = subst (λ (x : List Placing). Stored n b g x) (sym (append-nil before) ∙ ap (λ (y : List Placing). before ++ y) (sym e)) s
 
-    pub stored-skipped : placed ≡ false → Stored n b g (before ++ placingIf placed q l from end at)
+    pub stored-skipped : placed ≡ false → Stored n b g (before ++ placing_if placed q l from end at)
     stored-skipped e = none (if-not e)
 
-    pub stored-empty : end ≤ from → Stored n b g (before ++ placingIf placed q l from end at)
+    pub stored-empty : end ≤ from → Stored n b g (before ++ placing_if placed q l from end at)
     stored-empty h = none (if-empty h)
 
     pub stored_more : placed ≡ true → from < end → {g' : Columns}
-        → Lies (before ++ placingOf q l from end at ∷ []) g'
-        → Stored (n + 1) (b + (end - from)) g' (before ++ placingIf placed q l from end at)
+        → Lies (before ++ placing_of q l from end at ∷ []) g'
+        → Stored (n + 1) (b + (end - from)) g' (before ++ placing_if placed q l from end at)
     stored_more e h {g'} x =
         subst (λ (y : List Placing). Stored (n + 1) (b + (end - from)) g' (before ++ y)) (sym (if_some e h))
         (record { lists = x; placings = omega (arith, s.placings, placings-then before q l from end at); boxes = omega (arith, s.boxes, boxes-then before q l from end at) })
 
-  pub room : {n b : ℕ} → Fits n b (placingIf placed q l from end at) → placed ≡ true → from < end → (all : ℕ) → end ≤ all → end ≤ 1024 → ListRoom from end all n b
-  unfolding boxesListed
+  pub room : {n b : ℕ} → Fits n b (placing_if placed q l from end at) → placed ≡ true → from < end → (all : ℕ) → end ≤ all → end ≤ 1024 → ListRoom from end all n b
+  unfolding boxes_listed
   room {n} {b} f e h all k m =
-      let g : Fits n b (placingOf q l from end at ∷ []) = subst (Fits n b) (if_some e h) f in
+      let g : Fits n b (placing_of q l from end at ∷ []) = subst (Fits n b) (if_some e h) f in
       record { order = omega arith; within = k; few = m; placings = omega (arith, g.placings); boxes = omega (arith, g.boxes, boxes-then [] q l from end at) }

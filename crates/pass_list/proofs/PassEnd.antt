@@ -8,11 +8,11 @@ use native.Mathlib.Omega.{arith}
 use lib.Dec.{eqb}
 use lib.IntN.{ℤ}
 use Rattle.plan.specs.Plan.{PlanData, numbers}
-use Rattle.passes.specs.Runs.{Run, runsOn, runsOfLevels, isBounded}
+use Rattle.passes.specs.Runs.{Run, runs_on, runs_of_levels, is_bounded}
 use Rattle.passes.specs.State.{Step, State, position_of, put}
-use Rattle.passes.specs.Ready.{isSettled, isReady}
-use Rattle.passes.specs.Passes.{placed, after, isDue, visit}
-use Rattle.passes.specs.Drawing.{BoxAt, Placing, boxesWith, listedBefore, listed}
+use Rattle.passes.specs.Ready.{is_settled, is_ready}
+use Rattle.passes.specs.Passes.{placed, after, is_due, visit}
+use Rattle.passes.specs.Drawing.{BoxAt, Placing, boxes_with, listed_before, listed}
 use Rattle.plan.proofs.All.{All, all_nil, all_cons, all_left, all_right, all_head, all_tail}
 use Rattle.passes.proofs.Sound.{Sound}
 use Rattle.passes.specs.inner.Runs.{IsRun}
@@ -20,25 +20,25 @@ use Rattle.passes.proofs.RunsOn.{bounds}
 use Rattle.passes.proofs.Put.{map-put}
 use Rattle.passes.proofs.Placing.{placed-length}
 use Rattle.passes.proofs.Schedule.{ToRuns, visit-append, Other, Once}
-use Rattle.passes.specs.inner.Schedule.{Visit, visitOf, visitAll, passVisits}
+use Rattle.passes.specs.inner.Schedule.{Visit, visit_of, visit_all, pass_visits}
 use Rattle.passes.proofs.Trace.{step_of, Reached, reached-visit, reached-all}
 use Rattle.passes.proofs.Counts.{settled-placed, visit-own}
 use Rattle.passes.proofs.Frame.{other-box, box-still, visit-keeps}
 use Rattle.pass_tables.proofs.Settle.{itself, settled-other}
 use Rattle.pass_list.proofs.Steps.{listed-append}
-use Rattle.pass_list.specs.inner.PassList.{wasPlaced, placingAt, passList}
+use Rattle.pass_list.specs.inner.PassList.{was_placed, placing_at, pass_list}
 
 -- ---- what visits to other runs leave alone: settled or not ..
 module _ {p : PlanData} (so : Sound p) {r : Run} (i : IsRun p r) where
-  pub settled-others : {ws : List Visit} {s : State} → Reached p s → ToRuns p ws → All (Other r) ws → isSettled p (visitAll p ws s) r ≡ isSettled p s r
-  unfolding visitAll
+  pub settled-others : {ws : List Visit} {s : State} → Reached p s → ToRuns p ws → All (Other r) ws → is_settled p (visit_all p ws s) r ≡ is_settled p s r
+  unfolding visit_all
   settled-others c all_nil os = refl
   settled-others {s = s} c (all_cons {x = w} j js) (all_cons o os) = settled-others (reached-visit so c w.pass j) js os ∙ settled-other so c w j i o
 
 -- .. and where its boxes stand
 pub boxes-kept : {p : PlanData} {r : Run} (i : IsRun p r) (v : ℕ) {ws : List Visit} (s : State) → i.first ≤ v → v < i.first + i.count → ToRuns p ws → All (Other r) ws
-    → position_of (visitAll p ws s).at v ≡ position_of s.at v
-unfolding visitAll
+    → position_of (visit_all p ws s).at v ≡ position_of s.at v
+unfolding visit_all
 boxes-kept i v s h k all_nil os = refl
 boxes-kept {p} i v s h k (all_cons {x = w} j js) (all_cons o os) = boxes-kept i v (visit p w.pass w.run s) h k js os
     ∙ visit-keeps p (λ (t : State). position_of t.at v) w s (box-still j w.pass (placed p w.pass s w.run) s v (λ m n. other-box i j o v h k m n))
@@ -62,17 +62,17 @@ pub record Alone (r : Run) (pre post : List Visit) : Type 0 where
   pub none_before : All (Other r) pre
   pub none_after : All (Other r) post
 
-alone : (q : ℕ) (r : Run) (pre post a b : List Visit) → pre ++ visitOf q r ∷ post ≡ a ++ visitOf q r ∷ b → All (Other r) a → All (Other r) b → Alone r pre post
-alone q r [] post [] b e na nb = record { none_before = all_nil; none_after = subst (All (Other r)) (sym (tail-is (visitOf q r) (visitOf q r) post b e)) nb }
-alone q r [] post (x ∷ a) b e (all_cons o na) nb = absurd (itself r (subst (Other r) (sym (head-is x (visitOf q r) x post (a ++ visitOf q r ∷ b) e)) o))
+alone : (q : ℕ) (r : Run) (pre post a b : List Visit) → pre ++ visit_of q r ∷ post ≡ a ++ visit_of q r ∷ b → All (Other r) a → All (Other r) b → Alone r pre post
+alone q r [] post [] b e na nb = record { none_before = all_nil; none_after = subst (All (Other r)) (sym (tail-is (visit_of q r) (visit_of q r) post b e)) nb }
+alone q r [] post (x ∷ a) b e (all_cons o na) nb = absurd (itself r (subst (Other r) (sym (head-is x (visit_of q r) x post (a ++ visit_of q r ∷ b) e)) o))
 alone q r (y ∷ pre) post [] b e na nb =
-    absurd (itself r (all_head (all_right pre (visitOf q r ∷ post) (subst (All (Other r)) (sym (tail-is y (visitOf q r) (pre ++ visitOf q r ∷ post) b e)) nb))))
+    absurd (itself r (all_head (all_right pre (visit_of q r ∷ post) (subst (All (Other r)) (sym (tail-is y (visit_of q r) (pre ++ visit_of q r ∷ post) b e)) nb))))
 alone q r (y ∷ pre) post (x ∷ a) b e (all_cons o na) nb =
-    let z = alone q r pre post a b (tail-is y x (pre ++ visitOf q r ∷ post) (a ++ visitOf q r ∷ b) e) na nb in
-    record { none_before = all_cons (subst (Other r) (sym (head-is x y x (pre ++ visitOf q r ∷ post) (a ++ visitOf q r ∷ b) e)) o) z.none_before; none_after = z.none_after }
+    let z = alone q r pre post a b (tail-is y x (pre ++ visit_of q r ∷ post) (a ++ visit_of q r ∷ b) e) na nb in
+    record { none_before = all_cons (subst (Other r) (sym (head-is x y x (pre ++ visit_of q r ∷ post) (a ++ visit_of q r ∷ b) e)) o) z.none_before; none_after = z.none_after }
 
 -- ---- one visit of a pass
-before-like : (s t : Step) (bs : List BoxAt) → s.pass ≡ t.pass → s.level ≡ t.level → listedBefore s bs [] ≡ listedBefore t bs []
+before-like : (s t : Step) (bs : List BoxAt) → s.pass ≡ t.pass → s.level ≡ t.level → listed_before s bs [] ≡ listed_before t bs []
 before-like s t [] e f = refl
 before-like s t (b ∷ bs) e f = ap (λ (n : ℕ). record { pass = n; level = s.level; boxes = b ∷ bs } ∷ []) e ∙ ap (λ (n : ℕ). record { pass = t.pass; level = n; boxes = b ∷ bs } ∷ []) f
 
@@ -84,74 +84,74 @@ map_same {A} f g a (suc n) h = ap (λ (x : A). x ∷ map f (numbers (a + 1) n)) 
 module _ {p : PlanData} (so : Sound p) {s : State} (c : Reached p s) (q : ℕ) (ws : List Visit) (runs : ToRuns p ws) (once : (r : Run) → IsRun p r → Once q r ws) where
   -- the state when the pass ends
   abbrev done : State
-  done = visitAll p ws s
+  done = visit_all p ws s
 
-  module _ (pre : List Visit) (r : Run) (post : List Visit) (is : ws ≡ pre ++ visitOf q r ∷ post) where
+  module _ (pre : List Visit) (r : Run) (post : List Visit) (is : ws ≡ pre ++ visit_of q r ∷ post) where
     abbrev mid : State
-    mid = visitAll p pre s
+    mid = visit_all p pre s
 
     abbrev then : State
     then = visit p q r mid
 
-    all_runs : ToRuns p (pre ++ visitOf q r ∷ post)
+    all_runs : ToRuns p (pre ++ visit_of q r ∷ post)
     all_runs = subst (ToRuns p) is runs
 
     pub visited-run : IsRun p r
-    visited-run = all_head (all_right pre (visitOf q r ∷ post) all_runs)
+    visited-run = all_head (all_right pre (visit_of q r ∷ post) all_runs)
 
     pub only-visit : Alone r pre post
     only-visit = let o = once r visited-run in alone q r pre post o.before o.after (sym is ∙ o.is) o.none_before o.none_after
 
     reached-mid : Reached p mid
-    reached-mid = reached-all so c (all_left pre (visitOf q r ∷ post) all_runs)
+    reached-mid = reached-all so c (all_left pre (visit_of q r ∷ post) all_runs)
 
     post-runs : ToRuns p post
-    post-runs = all_tail (all_right pre (visitOf q r ∷ post) all_runs)
+    post-runs = all_tail (all_right pre (visit_of q r ∷ post) all_runs)
 
-    done-is : done ≡ visitAll p post then
-    unfolding visitAll
-    done-is = ap (λ vs. visitAll p vs s) is ∙ visit-append p pre (visitOf q r ∷ post) s
+    done-is : done ≡ visit_all p post then
+    unfolding visit_all
+    done-is = ap (λ vs. visit_all p vs s) is ∙ visit-append p pre (visit_of q r ∷ post) s
 
     -- its boxes stand at the end of the pass where this visit leaves them
     pub stands : (v : ℕ) → visited-run.first ≤ v → v < visited-run.first + visited-run.count → position_of done.at v ≡ position_of then.at v
     stands v h k = ap (λ (t : State). position_of t.at v) done-is ∙ boxes-kept visited-run v then h k post-runs only-visit.none_after
 
-    settled-at-start : isSettled p mid r ≡ isSettled p s r
-    settled-at-start = settled-others so visited-run c (all_left pre (visitOf q r ∷ post) all_runs) only-visit.none_before
+    settled-at-start : is_settled p mid r ≡ is_settled p s r
+    settled-at-start = settled-others so visited-run c (all_left pre (visit_of q r ∷ post) all_runs) only-visit.none_before
 
-    settled-at-end : isSettled p done r ≡ isSettled p then r
-    settled-at-end = ap (λ (t : State). isSettled p t r) done-is ∙ settled-others so visited-run (reached-visit so reached-mid q visited-run) post-runs only-visit.none_after
+    settled-at-end : is_settled p done r ≡ is_settled p then r
+    settled-at-end = ap (λ (t : State). is_settled p t r) done-is ∙ settled-others so visited-run (reached-visit so reached-mid q visited-run) post-runs only-visit.none_after
 
-    then_is : (t : Bool) → isDue p q mid r ≡ t → then ≡ cond t (after q r (placed p q mid r) mid) mid
+    then_is : (t : Bool) → is_due p q mid r ≡ t → then ≡ cond t (after q r (placed p q mid r) mid) mid
     unfolding visit
     then_is t e = ap (λ (u : Bool). cond u (after q r (placed p q mid r) mid) mid) e
 
     -- a bounded run that was unsettled is settled after the visit exactly if it was due
-    due-settles : isSettled p mid r ≡ false → isSettled p then r ≡ isDue p q mid r
-    due-settles u = go (isDue p q mid r) refl
+    due-settles : is_settled p mid r ≡ false → is_settled p then r ≡ is_due p q mid r
+    due-settles u = go (is_due p q mid r) refl
       where
-        go : (t : Bool) → isDue p q mid r ≡ t → isSettled p then r ≡ isDue p q mid r
+        go : (t : Bool) → is_due p q mid r ≡ t → is_settled p then r ≡ is_due p q mid r
         go true e = settled-placed p then r (omega (arith, visit-own p q r mid, ap (λ (t : Bool). cond {A = ℕ} t 1 0) e)) ∙ sym e
-        go false e = ap (λ (t : State). isSettled p t r) (then_is false e) ∙ u ∙ sym e
+        go false e = ap (λ (t : State). is_settled p t r) (then_is false e) ∙ u ∙ sym e
 
-    due-is : (b x : Bool) → isBounded r ≡ b → isSettled p mid r ≡ x → isDue p q mid r ≡ cond b (not x && (eqb q 3 || isReady p q mid r)) (not (eqb q 3))
-    unfolding isDue
+    due-is : (b x : Bool) → is_bounded r ≡ b → is_settled p mid r ≡ x → is_due p q mid r ≡ cond b (not x && (eqb q 3 || is_ready p q mid r)) (not (eqb q 3))
+    unfolding is_due
     due-is b x e f = rw (e, f)
 
     -- whether the visit places the run is known when the pass ends
-    pub due-told : isDue p q mid r ≡ wasPlaced p q s done r
-    due-told = go (isBounded r) refl
+    pub due-told : is_due p q mid r ≡ was_placed p q s done r
+    due-told = go (is_bounded r) refl
       where
-        bounded : (x : Bool) → isBounded r ≡ true → isSettled p mid r ≡ x → isDue p q mid r ≡ not x && isSettled p done r
+        bounded : (x : Bool) → is_bounded r ≡ true → is_settled p mid r ≡ x → is_due p q mid r ≡ not x && is_settled p done r
         bounded true e f = due-is true true e f
         bounded false e f = sym (settled-at-end ∙ due-settles f)
 
-        go : (b : Bool) → isBounded r ≡ b → isDue p q mid r ≡ wasPlaced p q s done r
-        go true e = bounded (isSettled p mid r) e refl ∙ ap (λ (x : Bool). not x && isSettled p done r) settled-at-start ∙ rw e
-        go false e = due-is false (isSettled p mid r) e refl ∙ rw e
+        go : (b : Bool) → is_bounded r ≡ b → is_due p q mid r ≡ was_placed p q s done r
+        go true e = bounded (is_settled p mid r) e refl ∙ ap (λ (x : Bool). not x && is_settled p done r) settled-at-start ∙ rw e
+        go false e = due-is false (is_settled p mid r) e refl ∙ rw e
 
     -- the boxes' positions in the step are those at the end of the pass
-    positions-are : isDue p q mid r ≡ true → placed p q mid r ≡ map (position_of done.at) r.boxes
+    positions-are : is_due p q mid r ≡ true → placed p q mid r ≡ map (position_of done.at) r.boxes
     unfolding after
     positions-are e =
         let i = visited-run in
@@ -164,38 +164,38 @@ module _ {p : PlanData} (so : Sound p) {s : State} (c : Reached p s) (q : ℕ) (
         ∙ ap (map (position_of done.at)) (sym i.boxes)
 
     -- what the visit adds to the list
-    pub adds : listed p then.trace ≡ listed p mid.trace ++ cond (wasPlaced p q s done r) (placingAt q done.at r) []
+    pub adds : listed p then.trace ≡ listed p mid.trace ++ cond (was_placed p q s done r) (placing_at q done.at r) []
     unfolding listed after
-    adds = go (isDue p q mid r) refl
+    adds = go (is_due p q mid r) refl
       where
-        go : (t : Bool) → isDue p q mid r ≡ t → listed p then.trace ≡ listed p mid.trace ++ cond (wasPlaced p q s done r) (placingAt q done.at r) []
+        go : (t : Bool) → is_due p q mid r ≡ t → listed p then.trace ≡ listed p mid.trace ++ cond (was_placed p q s done r) (placing_at q done.at r) []
         go true e = ap (λ (t : State). listed p t.trace) (then_is true e) ∙ listed-append p mid.trace (step_of q r (placed p q mid r) ∷ [])
             ∙ ap (λ (l : List Placing). listed p mid.trace ++ l)
-            (ap (λ (o : Run). listedBefore (step_of q r (placed p q mid r)) (boxesWith o.boxes (placed p q mid r)) []) visited-run.told
-            ∙ ap (λ (ys : List ℤ). listedBefore (step_of q r (placed p q mid r)) (boxesWith r.boxes ys) []) (positions-are e)
-            ∙ before-like (step_of q r (placed p q mid r)) (step_of q r []) (boxesWith r.boxes (map (position_of done.at) r.boxes)) refl refl
-            ∙ ap (λ (t : Bool). cond t (placingAt q done.at r) []) (sym e ∙ due-told))
+            (ap (λ (o : Run). listed_before (step_of q r (placed p q mid r)) (boxes_with o.boxes (placed p q mid r)) []) visited-run.told
+            ∙ ap (λ (ys : List ℤ). listed_before (step_of q r (placed p q mid r)) (boxes_with r.boxes ys) []) (positions-are e)
+            ∙ before-like (step_of q r (placed p q mid r)) (step_of q r []) (boxes_with r.boxes (map (position_of done.at) r.boxes)) refl refl
+            ∙ ap (λ (t : Bool). cond t (placing_at q done.at r) []) (sym e ∙ due-told))
         go false e = ap (λ (t : State). listed p t.trace) (then_is false e) ∙ sym (append-nil (listed p mid.trace))
-            ∙ ap (λ (t : Bool). listed p mid.trace ++ cond t (placingAt q done.at r) []) (sym e ∙ due-told)
+            ∙ ap (λ (t : Bool). listed p mid.trace ++ cond t (placing_at q done.at r) []) (sym e ∙ due-told)
 
   -- ---- all visits of the pass
-  pub lists-from : (pre : List Visit) (rs : List Run) → ws ≡ pre ++ map (visitOf q) rs → listed p done.trace ≡ listed p (visitAll p pre s).trace ++ passList p q s done rs
-  unfolding passList visitAll
-  lists-from pre [] is = ap (λ (vs : List Visit). listed p (visitAll p vs s).trace) (is ∙ append-nil pre) ∙ sym (append-nil (listed p (visitAll p pre s).trace))
+  pub lists-from : (pre : List Visit) (rs : List Run) → ws ≡ pre ++ map (visit_of q) rs → listed p done.trace ≡ listed p (visit_all p pre s).trace ++ pass_list p q s done rs
+  unfolding pass_list visit_all
+  lists-from pre [] is = ap (λ (vs : List Visit). listed p (visit_all p vs s).trace) (is ∙ append-nil pre) ∙ sym (append-nil (listed p (visit_all p pre s).trace))
   lists-from pre (r ∷ rs) is =
-      lists-from (pre ++ visitOf q r ∷ []) rs (is ∙ sym (append_assoc pre (visitOf q r ∷ []) (map (visitOf q) rs)))
-      ∙ ap (λ (t : State). listed p t.trace ++ passList p q s done rs) (visit-append p pre (visitOf q r ∷ []) s)
-      ∙ ap (λ (l : List Placing). l ++ passList p q s done rs) (adds pre r (map (visitOf q) rs) is)
-      ∙ append_assoc (listed p (visitAll p pre s).trace) (cond (wasPlaced p q s done r) (placingAt q done.at r) []) (passList p q s done rs)
+      lists-from (pre ++ visit_of q r ∷ []) rs (is ∙ sym (append_assoc pre (visit_of q r ∷ []) (map (visit_of q) rs)))
+      ∙ ap (λ (t : State). listed p t.trace ++ pass_list p q s done rs) (visit-append p pre (visit_of q r ∷ []) s)
+      ∙ ap (λ (l : List Placing). l ++ pass_list p q s done rs) (adds pre r (map (visit_of q) rs) is)
+      ∙ append_assoc (listed p (visit_all p pre s).trace) (cond (was_placed p q s done r) (placing_at q done.at r) []) (pass_list p q s done rs)
 
-pub pass-runs : (p : PlanData) (q : ℕ) (ls : List ℕ) → passVisits p q ls ≡ map (visitOf q) (runsOfLevels p ls)
-unfolding passVisits runsOfLevels
+pub pass-runs : (p : PlanData) (q : ℕ) (ls : List ℕ) → pass_visits p q ls ≡ map (visit_of q) (runs_of_levels p ls)
+unfolding pass_visits runs_of_levels
 pass-runs p q [] = refl
-pass-runs p q (l ∷ ls) = ap (λ (vs : List Visit). map (visitOf q) (runsOn p l) ++ vs) (pass-runs p q ls) ∙ sym (map-append (visitOf q) (runsOn p l) (runsOfLevels p ls))
+pass-runs p q (l ∷ ls) = ap (λ (vs : List Visit). map (visit_of q) (runs_on p l) ++ vs) (pass-runs p q ls) ∙ sym (map-append (visit_of q) (runs_on p l) (runs_of_levels p ls))
 
 -- The list when pass q ends is the list before it, and then the placed runs that have boxes, in the order of the pass, with their
 -- boxes where they stand when the pass ends.
-pub pass-lists : {p : PlanData} → Sound p → {s : State} → Reached p s → (q : ℕ) (ls : List ℕ) → ToRuns p (passVisits p q ls) → ((r : Run) → IsRun p r → Once q r (passVisits p q ls))
-    → listed p (visitAll p (passVisits p q ls) s).trace ≡ listed p s.trace ++ passList p q s (visitAll p (passVisits p q ls) s) (runsOfLevels p ls)
-unfolding visitAll
-pass-lists {p} so {s} c q ls runs once = lists-from so c q (passVisits p q ls) runs once [] (runsOfLevels p ls) (pass-runs p q ls)
+pub pass-lists : {p : PlanData} → Sound p → {s : State} → Reached p s → (q : ℕ) (ls : List ℕ) → ToRuns p (pass_visits p q ls) → ((r : Run) → IsRun p r → Once q r (pass_visits p q ls))
+    → listed p (visit_all p (pass_visits p q ls) s).trace ≡ listed p s.trace ++ pass_list p q s (visit_all p (pass_visits p q ls) s) (runs_of_levels p ls)
+unfolding visit_all
+pass-lists {p} so {s} c q ls runs once = lists-from so c q (pass_visits p q ls) runs once [] (runs_of_levels p ls) (pass-runs p q ls)

@@ -3,7 +3,7 @@ ghost use Rattle.std.specs.Prelude.{◌≡◌, ◌++◌, ◌≤◌, length};
 ghost use Rattle.pass_tables.specs.inner.Moments.{Some, Leaves};
 ghost use Rattle.pass_list.specs.inner.Listing.{Columns, columns, Stored};
 ghost use Rattle.pass_list.specs.inner.Added.{Arrays};
-ghost use Rattle.pass_list.specs.inner.Ended.{placedBy, placingIf, Fits, Ending, ending, LevelEnding, LevelListed, PassEnding, PassListed};
+ghost use Rattle.pass_list.specs.inner.Ended.{placed_by, placing_if, Fits, Ending, ending, LevelEnding, LevelListed, PassEnding, PassListed};
 
 use crate::placing::list_placing;
 use ints::wide;
@@ -28,7 +28,7 @@ fn was_placed(
     marks: &[bool],
 ) -> bool
     requires { (start ≤ from) × (end ≤ to) × (from ≤ length had.now) × (from ≤ length marks.now) }
-    ensures { result ≡ placedBy q start from end to had.now marks.now }
+    ensures { result ≡ placed_by q start from end to had.now marks.now }
 {
     if from == start || end == to {
         return q != 3;
@@ -54,10 +54,10 @@ fn list_run(
     ghost g: { Columns }
     requires positions_value { columns passes.old levels.old sizes.old vertices.old positions.old ≡ g }
     requires arrays { Arrays g × (from ≤ end) × (end ≤ length at.now) × (end ≤ 1024)
-        × Fits list.placings list.boxes (placingIf placed q l from end at.now) }
+        × Fits list.placings list.boxes (placing_if placed q l from end at.now) }
     ensures { Leaves (Stored list.placings list.boxes g) (λ before. Stored result.placings result.boxes
         (columns passes.new levels.new sizes.new vertices.new positions.new)
-        (before ++ placingIf placed q l from end at.now)) }
+        (before ++ placing_if placed q l from end at.now)) }
 {
     if !placed {
         return list;

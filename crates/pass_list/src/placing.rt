@@ -2,7 +2,7 @@
 ghost use Rattle.std.specs.Prelude.{◌≡◌, [], ◌∷◌, ◌++◌, length};
 ghost use Rattle.pass_tables.specs.inner.Moments.{Leaves};
 ghost use Rattle.pass_list.specs.inner.Listing.{Columns, columns, Lies, Stored};
-ghost use Rattle.pass_list.specs.inner.Added.{placingOf, ListRoom, Arrays};
+ghost use Rattle.pass_list.specs.inner.Added.{placing_of, ListRoom, Arrays};
 
 use crate::entries::{list_positions, list_vertices};
 
@@ -24,7 +24,7 @@ pub fn list_placing(
     ghost g: { Columns }
     requires positions_value { columns passes.old levels.old counts.old vertices.old positions.old ≡ g }
     requires arrays { Arrays g × ListRoom from end (length at.now) n b }
-    ensures { Leaves (Stored n b g) (λ list. Lies (list ++ placingOf q l from end at.now ∷ [])
+    ensures { Leaves (Stored n b g) (λ list. Lies (list ++ placing_of q l from end at.now ∷ [])
         (columns passes.new levels.new counts.new vertices.new positions.new)) }
 {
     let count = end - from;

@@ -12,7 +12,7 @@ use Rattle.ints.specs.Lists.{sum}
 use Rattle.plan.specs.Plan.{PlanData, numbers}
 use Rattle.plan.proofs.CountLaws.{by-same}
 use Rattle.passes.proofs.Sound.{Sound}
-use Rattle.plan.specs.inner.Levels.{firstOn}
+use Rattle.plan.specs.inner.Levels.{first_on}
 use Rattle.plan.proofs.Levels.{numbers-snoc, length-numbers}
 use Rattle.pass_neighbours.specs.inner.Order.{in_turn, turn_of, Starts}
 
@@ -87,7 +87,7 @@ starts_first ns starts h zero k = get_or-set_same starts 0 0 0 h ∙ sym (sum-no
 starts_first ns starts h (suc j) k = absurd (omega arith)
 
 pub starts-are : {p : PlanData} → Sound p → (ns starts : List ℕ) → ns ≡ p.sizes → length starts ≡ length ns + 1 → ((i : ℕ) → i ≤ length ns → get_or starts i 0 ≡ sum (take i ns)) → Starts p starts
-unfolding firstOn
+unfolding first_on
 starts-are {p} so ns starts e l f = let z = ap length e ∙ so.sizes in record {
   many = omega (arith, z);
   each = λ i h. let y : i ≡ suc i - 1 = omega arith in f i (omega (arith, z)) ∙ ap (λ (ms : List ℕ). sum (take i ms)) e ∙ ap (λ (n : ℕ). sum (take n p.sizes)) y;

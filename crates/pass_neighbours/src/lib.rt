@@ -1,9 +1,9 @@
 // Which way a pass goes: the order of its levels, and the neighbours that it goes by.
 pub mod order;
 
-ghost use Rattle.run_columns.specs.inner.Sums.{ratingsBetween};
+ghost use Rattle.run_columns.specs.inner.Sums.{ratings_between};
 ghost use Rattle.pass_tables.specs.inner.Tables.{Rows, Sortable};
-ghost use Rattle.pass_neighbours.specs.inner.Ends.{ownEnds, farEnds};
+ghost use Rattle.pass_neighbours.specs.inner.Ends.{own_ends, far_ends};
 
 use pass_tables::rows::rows;
 
@@ -19,8 +19,8 @@ pub fn neighbours(
 )
     requires { Sortable uppers.now lowers.now ratings.now first.old ends.old sums.old
         × Sortable lowers.now uppers.now ratings.now first.old ends.old sums.old }
-    ensures { Rows (ownEnds q uppers.now lowers.now) (farEnds q uppers.now lowers.now) first.new ends.new
-        × Rows (ownEnds q uppers.now lowers.now) ratings.now first.new (ratingsBetween sums.new) }
+    ensures { Rows (own_ends q uppers.now lowers.now) (far_ends q uppers.now lowers.now) first.new ends.new
+        × Rows (own_ends q uppers.now lowers.now) ratings.now first.new (ratings_between sums.new) }
 {
     if q == 2 {
         rows(uppers, lowers, ratings, first, ends, sums);

@@ -10,7 +10,7 @@ use lib.IntN.{ℤ, pos, ◌-ℤ◌}
 use Rattle.ints.specs.Ints.{P, ◌⊑◌, gap}
 use Rattle.ints.proofs.Laws.{dif, gap-l, apart}
 use Rattle.plan.specs.Plan.{numbers}
-use Rattle.passes.specs.State.{position_of, put, takeOn}
+use Rattle.passes.specs.State.{position_of, put, take_on}
 
 -- ---- positions
 pub put-none : (v n : ℕ) (ys xs : List ℤ) → n ≡ 0 → put (numbers v n) ys xs ≡ xs
@@ -27,12 +27,12 @@ pub gap-right : (a b : ℤ) → a ⊑ b → gap a b ≡ P (b -ℤ a)
 gap-right a b h = omega (arith, gap-l a b h, dif b a, apart (b -ℤ a))
 
 module _ (xs : List ℤ) where
-  pub take_none : (v n : ℕ) (ds : List ℕ) → n ≤ 1 → takeOn xs (numbers v n) ds ≡ ds
-  unfolding takeOn numbers
+  pub take_none : (v n : ℕ) (ds : List ℕ) → n ≤ 1 → take_on xs (numbers v n) ds ≡ ds
+  unfolding take_on numbers
   take_none v zero ds h = refl
   take_none v (suc zero) ds h = refl
   take_none v (suc (suc n)) ds h = absurd (omega arith)
 
-  pub take_on : (v n m : ℕ) (ds : List ℕ) → n ≡ suc (suc m) → takeOn xs (numbers v n) ds ≡ takeOn xs (numbers (v + 1) (suc m)) (set ds v (P (position_of xs (v + 1) -ℤ position_of xs v)))
-  unfolding takeOn numbers
-  take_on v n m ds h = rw h
+  pub take_on_lem : (v n m : ℕ) (ds : List ℕ) → n ≡ suc (suc m) → take_on xs (numbers v n) ds ≡ take_on xs (numbers (v + 1) (suc m)) (set ds v (P (position_of xs (v + 1) -ℤ position_of xs v)))
+  unfolding take_on numbers
+  take_on_lem v n m ds h = rw h

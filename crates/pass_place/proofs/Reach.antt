@@ -16,13 +16,13 @@ use Rattle.plan.proofs.All.{All, all_nil, all_cons, all_left}
 use Rattle.passes.proofs.Sound.{sound}
 use Rattle.passes.proofs.Kept.{kept}
 use Rattle.passes.proofs.Schedule.{ToRuns, visit-append, schedule-runs}
-use Rattle.passes.specs.inner.Schedule.{Visit, visitAll, schedule, start}
+use Rattle.passes.specs.inner.Schedule.{Visit, visit_all, schedule, start}
 use Rattle.passes.proofs.Trace.{Reached, reached-all, reached-start}
 use Rattle.passes.proofs.Moments.{grown-all}
 use Rattle.passes.proofs.Reach.{Lies}
 use Rattle.passes.proofs.Growth.{LiesAt}
 use Rattle.passes.proofs.DrawingWithin.{final-lies}
-use Rattle.pass_tables.specs.inner.Moments.{stateAfter}
+use Rattle.pass_tables.specs.inner.Moments.{state_after}
 
 module _ {M : ℕ} where
   set-lies : (xs : List ℤ) (u : ℕ) (y : ℤ) → Lies M M y → ((v : ℕ) → Lies M M (position_of xs v)) → (v : ℕ) → Lies M M (position_of (set xs u y) v)
@@ -47,13 +47,13 @@ module _ (p : PlanData) (ok : acceptable p ≡ true) (past coming : List Visit) 
   pub past-runs : ToRuns p past
   past-runs = all_left past coming (subst (ToRuns p) e (schedule-runs p))
 
-  pub past-reached : Reached p (stateAfter p past)
+  pub past-reached : Reached p (state_after p past)
   past-reached = reached-all (sound p ok) (reached-start (sound p ok) (kept p ok)) past-runs
 
-  pub past-lies : LiesAt 297685948928 (stateAfter p past)
+  pub past-lies : LiesAt 297685948928 (state_after p past)
   past-lies =
-      let g = grown-all p coming (stateAfter p past) in
-      let z = ap (λ (ws : List Visit). (visitAll p ws (start p)).trace) e ∙ ap (λ (s : State). s.trace) (visit-append p past coming (start p)) ∙ g.is in
-      let steps = all_left (stateAfter p past).trace g.more (subst (All (λ (t : Step). All (Lies 297685948928 297685948928) t.positions)) z (final-lies (sound p ok) (kept p ok)).steps) in
+      let g = grown-all p coming (state_after p past) in
+      let z = ap (λ (ws : List Visit). (visit_all p ws (start p)).trace) e ∙ ap (λ (s : State). s.trace) (visit-append p past coming (start p)) ∙ g.is in
+      let steps = all_left (state_after p past).trace g.more (subst (All (λ (t : Step). All (Lies 297685948928 297685948928) t.positions)) z (final-lies (sound p ok) (kept p ok)).steps) in
       let first : (v : ℕ) → Lies 297685948928 297685948928 (position_of (preliminary p) v) = λ v. record { right = omega (arith, preliminary-size p ok v); left = omega (arith, preliminary-size p ok v) } in
       record { at = λ v. rw past-reached.replayed (replay-lies p (preliminary p) steps first v); steps = steps }

@@ -2,7 +2,7 @@
 ghost use Rattle.std.specs.Prelude.{◌≡◌, true, ◌&&◌, ◌-◌, ◌≤◌, ltb, length};
 ghost use Rattle.run.specs.Call.{Request, is_taken, placed_of};
 ghost use Rattle.pass_tables.specs.inner.Moments.{Some, Leaves, Placing, Placed};
-ghost use Rattle.pass_place.specs.inner.Asked.{low_of, high_of, left_of, rightOf, asked, rowsLong, takenOn, Rowed, Standing};
+ghost use Rattle.pass_place.specs.inner.Asked.{low_of, high_of, left_of, right_of, asked, rows_long, taken_on, Rowed, Standing};
 
 use crate::outcome::{put_back, take_on};
 use crate::request::{neighbour_counts, neighbour_positions};
@@ -53,7 +53,7 @@ fn left_bound(start: usize, from: usize, at: &[i64]) -> Bound
 
 fn right_bound(end: usize, to: usize, at: &[i64]) -> Bound
     requires { to ≤ length at.now }
-    ensures { result ≡ rightOf end to at.now }
+    ensures { result ≡ right_of end to at.now }
 {
     if end < to {
         let x = at[end];
@@ -80,7 +80,7 @@ fn place_near(
     requires at_value { asked left right distances.now from end first.now ends.now sums.now at.now ≡ q }
     requires rowed { Rowed from end first.now ends.now sums.now at.now }
     requires answer_value { is_taken q answer.old ≡ true }
-    requires first_in_bounds { rowsLong from end first.now ≤ length near.old }
+    requires first_in_bounds { rows_long from end first.now ≤ length near.old }
     ensures { answer.new ≡ placed_of q }
 {
     let n = end - from;
@@ -178,7 +178,7 @@ fn is_bounded(start: usize, from: usize, end: usize, to: usize) -> bool
 fn take_on_open(start: usize, from: usize, end: usize, to: usize, at: &[i64], apart: &mut [u64])
     requires standing { Standing (low_of start from) (high_of end to) at.now }
     requires apart_len { length apart.old ≡ length at.now }
-    ensures { apart.new ≡ takenOn start from end to at.now apart.old }
+    ensures { apart.new ≡ taken_on start from end to at.now apart.old }
 {
     if is_bounded(start, from, end, to) {
         return;

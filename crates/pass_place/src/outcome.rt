@@ -2,7 +2,7 @@
 ghost use Rattle.std.specs.Prelude.{◌≡◌, ℕ, ◌+◌, ◌-◌, ◌<◌, ◌≤◌, length};
 ghost use Rattle.ints.specs.Ints.{size, ◌⊑◌};
 ghost use Rattle.plan.specs.Plan.{numbers};
-ghost use Rattle.passes.specs.State.{position_of, put, takeOn};
+ghost use Rattle.passes.specs.State.{position_of, put, take_on};
 
 use ints::apart as between;
 
@@ -23,7 +23,7 @@ pub fn take_on(at: &[i64], low: usize, high: usize, apart: &mut [u64])
     requires { (low ≤ high) × (high ≤ length at.now) × (length apart.old ≡ length at.now)
         × ((v : ℕ) → size (position_of at.now v) ≤ 1099511627776)
         × ((v : ℕ) → low ≤ v → v + 1 < high → position_of at.now v ⊑ position_of at.now (v + 1)) }
-    ensures { apart.new ≡ takeOn at.now (numbers low (high - low)) apart.old }
+    ensures { apart.new ≡ take_on at.now (numbers low (high - low)) apart.old }
 {
     let mut v = low;
     while v + 1 < high {

@@ -8,11 +8,11 @@ use native.Mathlib.Omega.{arith}
 use borrow.Author.Tests.{eq-eqb, ne_eqb}
 use lib.Dec.{eqb}
 use lib.ListN.{get_or}
-use Rattle.plan.specs.Plan.{PlanData, vertexCount}
-use Rattle.passes.specs.Runs.{Run, bothVias, isBounded}
+use Rattle.plan.specs.Plan.{PlanData, vertex_count}
+use Rattle.passes.specs.Runs.{Run, both_vias, is_bounded}
 use Rattle.passes.specs.State.{State}
-use Rattle.passes.specs.Ready.{isSettled, isReady}
-use Rattle.passes.specs.Passes.{isDue}
+use Rattle.passes.specs.Ready.{is_settled, is_ready}
+use Rattle.passes.specs.Passes.{is_due}
 use Rattle.plan.proofs.Levels.{level-within}
 use Rattle.passes.proofs.Sound.{Sound}
 use Rattle.passes.specs.inner.Runs.{LeftEnd, no-left, via-left, RightEnd, no-right, via-right, IsRun}
@@ -45,7 +45,7 @@ pub record InOrder (p : PlanData) (start from end to : ℕ) : Type 0 where
   pub low : start ≤ from
   pub boxes : from ≤ end
   pub high : end ≤ to
-  pub vertices : to ≤ vertexCount p
+  pub vertices : to ≤ vertex_count p
 
 module _ {p : PlanData} {r : Run} {start from end to : ℕ} (i : RunIs p r start from end to) where
   pub left-none : from ≡ start → r.left ≡ none
@@ -69,21 +69,21 @@ module _ {p : PlanData} {r : Run} {start from end to : ℕ} (i : RunIs p r start
   }
 
 -- ---- an open run
-pub open-left : (r : Run) → r.left ≡ none → isBounded r ≡ false
-open-left r e = ap (λ (o : Option ℕ). bothVias o r.right) e
+pub open-left : (r : Run) → r.left ≡ none → is_bounded r ≡ false
+open-left r e = ap (λ (o : Option ℕ). both_vias o r.right) e
 
-pub open-right : (r : Run) → r.right ≡ none → isBounded r ≡ false
-open-right r e = ap (bothVias r.left) e ∙ go r.left
+pub open-right : (r : Run) → r.right ≡ none → is_bounded r ≡ false
+open-right r e = ap (both_vias r.left) e ∙ go r.left
   where
-    go : (o : Option ℕ) → bothVias o none ≡ false
+    go : (o : Option ℕ) → both_vias o none ≡ false
     go none = refl
     go (some v) = refl
 
 module _ (p : PlanData) (q : ℕ) (s : State) (r : Run) where
-  pub due-left : r.left ≡ none → isDue p q s r ≡ not (eqb q 3)
+  pub due-left : r.left ≡ none → is_due p q s r ≡ not (eqb q 3)
   due-left e = due-open p q s r (open-left r e)
 
-  pub due-right : r.right ≡ none → isDue p q s r ≡ not (eqb q 3)
+  pub due-right : r.right ≡ none → is_due p q s r ≡ not (eqb q 3)
   due-right e = due-open p q s r (open-right r e)
 
 -- ---- a bounded run
@@ -92,14 +92,14 @@ and-true true = refl
 and-true false = refl
 
 module _ {p : PlanData} {s : State} {marks : List Bool} (m : Unsettled p s marks) {r : Run} (i : IsRun p r) (a b : ℕ) (e : r.left ≡ some a) (f : r.right ≡ some b) (q : ℕ) where
-  due-bounded : isDue p q s r ≡ get_or marks a false && (eqb q 3 || isReady p q s r)
-  unfolding isDue
-  due-bounded = let bounded : isBounded r ≡ true = rw (e, f) in
-      ap (λ (t : Bool). cond t (not (isSettled p s r) && (eqb q 3 || isReady p q s r)) (not (eqb q 3))) bounded
-      ∙ ap (λ (t : Bool). t && (eqb q 3 || isReady p q s r)) (sym (m.each r i a b e f))
+  due-bounded : is_due p q s r ≡ get_or marks a false && (eqb q 3 || is_ready p q s r)
+  unfolding is_due
+  due-bounded = let bounded : is_bounded r ≡ true = rw (e, f) in
+      ap (λ (t : Bool). cond t (not (is_settled p s r) && (eqb q 3 || is_ready p q s r)) (not (eqb q 3))) bounded
+      ∙ ap (λ (t : Bool). t && (eqb q 3 || is_ready p q s r)) (sym (m.each r i a b e f))
 
-  pub due-third : q ≡ 3 → isDue p q s r ≡ get_or marks a false
-  due-third z = due-bounded ∙ ap (λ (t : Bool). get_or marks a false && (t || isReady p q s r)) (eq-eqb q 3 z) ∙ and-true (get_or marks a false)
+  pub due-third : q ≡ 3 → is_due p q s r ≡ get_or marks a false
+  due-third z = due-bounded ∙ ap (λ (t : Bool). get_or marks a false && (t || is_ready p q s r)) (eq-eqb q 3 z) ∙ and-true (get_or marks a false)
 
-  pub due-ready : (q ≡ 3 → ⊥) → isDue p q s r ≡ get_or marks a false && isReady p q s r
-  due-ready n = due-bounded ∙ ap (λ (t : Bool). get_or marks a false && (t || isReady p q s r)) (ne_eqb q 3 n)
+  pub due-ready : (q ≡ 3 → ⊥) → is_due p q s r ≡ get_or marks a false && is_ready p q s r
+  due-ready n = due-bounded ∙ ap (λ (t : Bool). get_or marks a false && (t || is_ready p q s r)) (ne_eqb q 3 n)

@@ -7,7 +7,7 @@ use native.Mathlib.Omega.{arith}
 use lib.ListN.{length, get_or, set}
 use lib.Seq.{get_or-set_same, get_or-set_other}
 use Rattle.ints.proofs.Laws.{cases}
-use Rattle.pass_tables.specs.inner.Joins.{joinedAt, or_else, lastIn, firstIn, oneIf, markedIn}
+use Rattle.pass_tables.specs.inner.Joins.{joined_at, or_else, last_in, first_in, one_if, marked_in}
 
 -- ---- a table that a loop fills, up or down
 module _ (xs : List ℕ) (v a : ℕ) (g : ℕ → ℕ) (h : v < length xs) (e : a ≡ g v) where
@@ -23,44 +23,44 @@ module _ (xs : List ℕ) (v a : ℕ) (g : ℕ → ℕ) (h : v < length xs) (e : 
 
 -- ---- the last and the first vertex
 module _ (f : ℕ → ℕ) where
-  pub last_none : (v n : ℕ) → n ≡ 0 → lastIn f v n ≡ 2048
-  unfolding lastIn
+  pub last_none : (v n : ℕ) → n ≡ 0 → last_in f v n ≡ 2048
+  unfolding last_in
   last_none v n h = rw h
 
-  pub last_on : (from v : ℕ) → from ≤ v → lastIn f from (v + 1 - from) ≡ or_else (f v) (lastIn f from (v - from))
-  unfolding lastIn
+  pub last_on : (from v : ℕ) → from ≤ v → last_in f from (v + 1 - from) ≡ or_else (f v) (last_in f from (v - from))
+  unfolding last_in
   last_on from v h = let n : v + 1 - from ≡ suc (v - from) = omega arith in let e : from + (v - from) ≡ v = omega arith in rw (n, e)
 
-  pub first-none : (v n : ℕ) → n ≡ 0 → firstIn f v n ≡ 2048
-  unfolding firstIn
+  pub first-none : (v n : ℕ) → n ≡ 0 → first_in f v n ≡ 2048
+  unfolding first_in
   first-none v n h = rw h
 
-  pub first_on : (v to : ℕ) → v < to → firstIn f v (to - v) ≡ or_else (f v) (firstIn f (v + 1) (to - (v + 1)))
-  unfolding firstIn
+  pub first_on : (v to : ℕ) → v < to → first_in f v (to - v) ≡ or_else (f v) (first_in f (v + 1) (to - (v + 1)))
+  unfolding first_in
   first_on v to h = let n : to - v ≡ suc (to - (v + 1)) = omega arith in rw n
 
 -- ---- marks
 module _ (marks : List Bool) where
-  pub marks-none : (v n : ℕ) → n ≡ 0 → markedIn marks v n ≡ 0
-  unfolding markedIn
+  pub marks-none : (v n : ℕ) → n ≡ 0 → marked_in marks v n ≡ 0
+  unfolding marked_in
   marks-none v n h = rw h
 
-  pub marks-on : (from v : ℕ) → from ≤ v → markedIn marks from (v + 1 - from) ≡ markedIn marks from (v - from) + oneIf (get_or marks v false)
-  unfolding markedIn
+  pub marks-on : (from v : ℕ) → from ≤ v → marked_in marks from (v + 1 - from) ≡ marked_in marks from (v - from) + one_if (get_or marks v false)
+  unfolding marked_in
   marks-on from v h = let n : v + 1 - from ≡ suc (v - from) = omega arith in let e : from + (v - from) ≡ v = omega arith in rw (n, e)
 
-pub one-small : (b : Bool) → oneIf b ≤ 1
+pub one-small : (b : Bool) → one_if b ≤ 1
 one-small true = omega arith
 one-small false = omega arith
 
 -- ---- the via joined to v
 module _ (vias : List Bool) (first ends : List ℕ) (v : ℕ) where
-  pub joined-none : get_or vias v false ≡ false → 2048 ≡ joinedAt vias first ends v
+  pub joined-none : get_or vias v false ≡ false → 2048 ≡ joined_at vias first ends v
   joined-none e = rw e
 
   module _ (w : ℕ) (e : get_or vias v false ≡ true) (f : w ≡ get_or ends (get_or first v 0) 0) where
-    pub joined-via : get_or vias w false ≡ true → w ≡ joinedAt vias first ends v
+    pub joined-via : get_or vias w false ≡ true → w ≡ joined_at vias first ends v
     joined-via g = rw (e, ← f, g)
 
-    pub joined-box : get_or vias w false ≡ false → 2048 ≡ joinedAt vias first ends v
+    pub joined-box : get_or vias w false ≡ false → 2048 ≡ joined_at vias first ends v
     joined-box g = rw (e, ← f, g)

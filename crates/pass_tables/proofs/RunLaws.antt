@@ -11,20 +11,20 @@ use lib.Signed.{lt_z}
 use Rattle.ints.proofs.Laws.{if-ind, cases, lt-true, lt-false}
 use Rattle.passes.specs.State.{position_of}
 use Rattle.passes.specs.Ready.{equals}
-use Rattle.pass_tables.specs.inner.Tables.{total, nextVia, isLoose, looseFrom}
+use Rattle.pass_tables.specs.inner.Tables.{total, next_via, is_loose, loose_from}
 
 module _ (vias : List Bool) where
-  pub next-none : (v n : ℕ) → n ≡ 0 → nextVia vias v n ≡ v
-  unfolding nextVia
+  pub next-none : (v n : ℕ) → n ≡ 0 → next_via vias v n ≡ v
+  unfolding next_via
   next-none v n h = rw h
 
-  pub next_here : (v n : ℕ) → 0 < n → get_or vias v false ≡ true → nextVia vias v n ≡ v
-  unfolding nextVia
+  pub next_here : (v n : ℕ) → 0 < n → get_or vias v false ≡ true → next_via vias v n ≡ v
+  unfolding next_via
   next_here v zero h t = absurd (omega arith)
   next_here v (suc n) h t = rw t
 
-  pub next-on : (v n m : ℕ) → n ≡ m + 1 → get_or vias v false ≡ false → nextVia vias v n ≡ nextVia vias (v + 1) m
-  unfolding nextVia
+  pub next-on : (v n m : ℕ) → n ≡ m + 1 → get_or vias v false ≡ false → next_via vias v n ≡ next_via vias (v + 1) m
+  unfolding next_via
   next-on v zero m h t = absurd (omega arith)
   next-on v (suc n) m h t = let e : n ≡ m = omega arith in rw (t, e)
 
@@ -35,10 +35,10 @@ module _ (vias : List Bool) where
     pub boxes : (u : ℕ) → v ≤ u → u < w → get_or vias u false ≡ false
     pub via : w < v + n → get_or vias w false ≡ true
 
-  pub next : (v n : ℕ) → Next v n (nextVia vias v n)
-  unfolding nextVia
+  pub next : (v n : ℕ) → Next v n (next_via vias v n)
+  unfolding next_via
   next v zero = record { low = omega arith; high = omega arith; boxes = λ u h k. absurd (omega arith); via = λ h. absurd (omega arith) }
-  next v (suc n) = if-ind (get_or vias v false) v (nextVia vias (v + 1) n) (λ w. Next v (suc n) w)
+  next v (suc n) = if-ind (get_or vias v false) v (next_via vias (v + 1) n) (λ w. Next v (suc n) w)
       (λ t. record { low = omega arith; high = omega arith; boxes = λ u h k. absurd (omega arith); via = λ h. t })
       (λ t. let m = next (v + 1) n in record {
         low = omega (arith, m.low);
@@ -69,15 +69,15 @@ exactly-by z d h = go (lt_z z (pos (d + 1))) refl
 
 -- ---- slack
 module _ (doubled : List ℕ) (at : List ℤ) (v w to : ℕ) where
-  pub loose_none : to ≤ w → looseFrom doubled at v w to ≡ false
-  loose_none h = ap (λ (t : Bool). cond t (isLoose doubled at v w) false) (le-ltb w to h)
+  pub loose_none : to ≤ w → loose_from doubled at v w to ≡ false
+  loose_none h = ap (λ (t : Bool). cond t (is_loose doubled at v w) false) (le-ltb w to h)
 
   module _ (h : w < to) (d : ℕ) (e : d ≡ total (λ (i : ℕ). get_or doubled (v + i) 0) (w - v)) where
-    pub loose-is : not (equals (position_of at w -ℤ position_of at v) d) ≡ looseFrom doubled at v w to
-    loose-is = ap (λ (n : ℕ). not (equals (position_of at w -ℤ position_of at v) n)) e ∙ sym (ap (λ (t : Bool). cond t (isLoose doubled at v w) false) (lt-ltb w to h))
+    pub loose-is : not (equals (position_of at w -ℤ position_of at v) d) ≡ loose_from doubled at v w to
+    loose-is = ap (λ (n : ℕ). not (equals (position_of at w -ℤ position_of at v) n)) e ∙ sym (ap (λ (t : Bool). cond t (is_loose doubled at v w) false) (lt-ltb w to h))
 
-    pub loose-near : lt_z (position_of at w -ℤ position_of at v) (pos d) ≡ true → true ≡ looseFrom doubled at v w to
+    pub loose-near : lt_z (position_of at w -ℤ position_of at v) (pos d) ≡ true → true ≡ loose_from doubled at v w to
     loose-near k = ap not (sym (not-exactly-less (position_of at w -ℤ position_of at v) d k)) ∙ loose-is
 
-    pub loose-far : lt_z (position_of at w -ℤ position_of at v) (pos d) ≡ false → not (lt_z (position_of at w -ℤ position_of at v) (pos (d + 1))) ≡ looseFrom doubled at v w to
+    pub loose-far : lt_z (position_of at w -ℤ position_of at v) (pos d) ≡ false → not (lt_z (position_of at w -ℤ position_of at v) (pos (d + 1))) ≡ loose_from doubled at v w to
     loose-far k = exactly-by (position_of at w -ℤ position_of at v) d k ∙ loose-is

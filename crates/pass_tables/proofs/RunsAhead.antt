@@ -9,20 +9,20 @@ use native.Mathlib.Omega.{arith}
 use lib.ListN.{length, get_or}
 use Rattle.ints.proofs.Laws.{cases}
 use Rattle.plan.specs.Plan.{PlanData, numbers}
-use Rattle.passes.specs.Runs.{Run, run, runsOn}
+use Rattle.passes.specs.Runs.{Run, run, runs_on}
 use Rattle.plan.proofs.All.{no_true}
-use Rattle.plan.specs.inner.Levels.{firstOn, sizeOn}
+use Rattle.plan.specs.inner.Levels.{first_on, size_on}
 use Rattle.plan.proofs.Levels.{length-numbers}
 use Rattle.passes.specs.inner.Runs.{LeftEnd, no-left, via-left, IsRun}
 use Rattle.passes.proofs.RunsOn.{RunsTo, last, next, level-runs}
-use Rattle.pass_tables.specs.inner.Tables.{nextVia}
+use Rattle.pass_tables.specs.inner.Tables.{next_via}
 use Rattle.pass_tables.proofs.RunLaws.{next as next-via}
 use Rattle.pass_tables.specs.inner.Moments.{RunIs}
 
 -- the first via after boxes, or the end
-next-is : (vias : List Bool) (v n w : ℕ) → v ≤ w → w ≤ v + n → ((u : ℕ) → v ≤ u → u < w → get_or vias u false ≡ false) → (w < v + n → get_or vias w false ≡ true) → nextVia vias v n ≡ w
-next-is vias v n w h k f t = let m = next-via vias v n in cases (nextVia vias v n) w
-    (λ i. cases w (nextVia vias v n) (λ j. omega arith) (λ j. no_true (sym (f (nextVia vias v n) m.low j) ∙ m.via (omega arith))))
+next-is : (vias : List Bool) (v n w : ℕ) → v ≤ w → w ≤ v + n → ((u : ℕ) → v ≤ u → u < w → get_or vias u false ≡ false) → (w < v + n → get_or vias w false ≡ true) → next_via vias v n ≡ w
+next-is vias v n w h k f t = let m = next-via vias v n in cases (next_via vias v n) w
+    (λ i. cases w (next_via vias v n) (λ j. omega arith) (λ j. no_true (sym (f (next_via vias v n) m.low j) ∙ m.via (omega arith))))
     (λ i. no_true (sym (m.boxes w h i) ∙ t (omega (arith, m.high))))
 
 -- the via before a run tells where its boxes begin
@@ -36,11 +36,11 @@ begins-low (via-left e f g t) = omega arith
 
 -- The runs of level l from vertex `from` on; none if the level is passed.
 pub data Ahead (p : PlanData) (l from : ℕ) : List Run → Type 0 where
-  passed : from ≡ suc (firstOn p l + sizeOn p l) → Ahead p l from []
-  ahead : {k : ℕ} {left : Option ℕ} {low : ℕ} {rest : List Run} → RunsTo p l (firstOn p l + sizeOn p l) k left from rest → LeftEnd p (firstOn p l) left low from → Ahead p l from rest
+  passed : from ≡ suc (first_on p l + size_on p l) → Ahead p l from []
+  ahead : {k : ℕ} {left : Option ℕ} {low : ℕ} {rest : List Run} → RunsTo p l (first_on p l + size_on p l) k left from rest → LeftEnd p (first_on p l) left low from → Ahead p l from rest
 
-pub all-ahead : (p : PlanData) (l : ℕ) → Ahead p l (firstOn p l) (runsOn p l)
-all-ahead p l = ahead {low = firstOn p l} (level-runs p l) (no-left refl refl)
+pub all-ahead : (p : PlanData) (l : ℕ) → Ahead p l (first_on p l) (runs_on p l)
+all-ahead p l = ahead {low = first_on p l} (level-runs p l) (no-left refl refl)
 
 -- the first of them, its boxes from `from` up to `end`
 pub record NextRun (p : PlanData) (l from end : ℕ) (rest : List Run) : Type 0 where
@@ -48,29 +48,29 @@ pub record NextRun (p : PlanData) (l from end : ℕ) (rest : List Run) : Type 0 
   pub more : List Run
   pub is : rest ≡ run ∷ more
   pub level : run.level ≡ l
-  pub stands : IsRun p run → RunIs p run (firstOn p l) from end (firstOn p l + sizeOn p l)
+  pub stands : IsRun p run → RunIs p run (first_on p l) from end (first_on p l + size_on p l)
   pub later : Ahead p l (suc end) more
 
-stands : {p : PlanData} {l k : ℕ} {left right : Option ℕ} {low from : ℕ} (n end : ℕ) → from + n ≡ end → LeftEnd p (firstOn p l) left low from
-    → IsRun p (run l k left (numbers from n) right) → RunIs p (run l k left (numbers from n) right) (firstOn p l) from end (firstOn p l + sizeOn p l)
+stands : {p : PlanData} {l k : ℕ} {left right : Option ℕ} {low from : ℕ} (n end : ℕ) → from + n ≡ end → LeftEnd p (first_on p l) left low from
+    → IsRun p (run l k left (numbers from n) right) → RunIs p (run l k left (numbers from n) right) (first_on p l) from end (first_on p l + size_on p l)
 stands {from = from} n end e g i =
     let first = same_first g i.begins in
     record { is = i; starts = refl; first = first; past = omega (arith, ap length i.boxes, length-numbers from n, length-numbers i.first i.count); ends = refl }
 
 module _ (p : PlanData) (l : ℕ) where
   abbrev to : ℕ
-  to = firstOn p l + sizeOn p l
+  to = first_on p l + size_on p l
 
-  first_of : {k : ℕ} {left : Option ℕ} {low from : ℕ} {rest : List Run} → RunsTo p l to k left from rest → LeftEnd p (firstOn p l) left low from
-      → NextRun p l from (nextVia p.vias from (to - from)) rest
+  first_of : {k : ℕ} {left : Option ℕ} {low from : ℕ} {rest : List Run} → RunsTo p l to k left from rest → LeftEnd p (first_on p l) left low from
+      → NextRun p l from (next_via p.vias from (to - from)) rest
   first_of {from = from} (last {k = k} {left = left} n e q) g =
-      let end : nextVia p.vias from (to - from) ≡ from + n = next-is p.vias from (to - from) (from + n) (omega arith) (omega arith) q (λ h. absurd (omega arith)) in
+      let end : next_via p.vias from (to - from) ≡ from + n = next-is p.vias from (to - from) (from + n) (omega arith) (omega arith) q (λ h. absurd (omega arith)) in
       rw end (record { run = run l k left (numbers from n) none; more = []; is = refl; level = refl; stands = λ i. stands n (from + n) refl g i; later = passed (ap suc e) })
   first_of {from = from} (next {k = k} {left = left} {rs = rs} n v e f q t more) g =
-      let end : nextVia p.vias from (to - from) ≡ v = next-is p.vias from (to - from) v (omega arith) (omega arith) (λ u h j. q u h (omega arith)) (λ h. t) in
+      let end : next_via p.vias from (to - from) ≡ v = next-is p.vias from (to - from) v (omega arith) (omega arith) (λ u h j. q u h (omega arith)) (λ h. t) in
       rw end (record { run = run l k left (numbers from n) (some v); more = rs; is = refl; level = refl; stands = λ i. stands n v e g i; later = ahead {low = v} more (via-left {v = v} refl refl (omega (arith, begins-low g)) t) })
 
-  pub next-run : {from : ℕ} {rest : List Run} → Ahead p l from rest → from ≤ to → NextRun p l from (nextVia p.vias from (to - from)) rest
+  pub next-run : {from : ℕ} {rest : List Run} → Ahead p l from rest → from ≤ to → NextRun p l from (next_via p.vias from (to - from)) rest
   next-run (passed e) h = absurd (omega arith)
   next-run (ahead r g) h = first_of r g
 

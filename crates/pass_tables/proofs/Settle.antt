@@ -15,10 +15,10 @@ use Rattle.ints.proofs.Laws.{if-ind}
 use Rattle.plan.specs.Plan.{PlanData}
 use Rattle.plan.specs.Checks.{any}
 use Rattle.plan.proofs.CountLaws.{by-same}
-use Rattle.passes.specs.Runs.{Run, isBounded}
+use Rattle.passes.specs.Runs.{Run, is_bounded}
 use Rattle.passes.specs.State.{State}
-use Rattle.passes.specs.Ready.{hasNoSlack, places, isSettled}
-use Rattle.passes.specs.Passes.{placed, after, isDue, visit}
+use Rattle.passes.specs.Ready.{has_no_slack, places, is_settled}
+use Rattle.passes.specs.Passes.{placed, after, is_due, visit}
 use Rattle.plan.proofs.All.{all_left, all_right, all_head, no_true}
 use Rattle.passes.proofs.Sound.{Sound, sound}
 use Rattle.passes.proofs.Kept.{kept}
@@ -26,11 +26,11 @@ use Rattle.passes.specs.inner.Runs.{IsRun}
 use Rattle.passes.proofs.RunsOn.{bounds}
 use Rattle.passes.proofs.Edges.{left_at}
 use Rattle.passes.proofs.Schedule.{ToRuns, visit-append, schedule-runs, Differ}
-use Rattle.passes.specs.inner.Schedule.{Visit, visitAll, schedule, start}
+use Rattle.passes.specs.inner.Schedule.{Visit, visit_all, schedule, start}
 use Rattle.passes.proofs.Trace.{step_of, Reached, reached-visit, reached-all, reached-start}
 use Rattle.passes.proofs.Counts.{slack-still, settled-placed, visit-own}
 use Rattle.passes.proofs.Distances.{same-or-other}
-use Rattle.pass_tables.specs.inner.Moments.{stateAfter, Held, BoundedAt, Unsettled}
+use Rattle.pass_tables.specs.inner.Moments.{state_after, Held, BoundedAt, Unsettled}
 use Rattle.pass_tables.proofs.RunEnds.{same_some, left-on, one_right}
 
 pub itself : (r : Run) → Differ r r → ⊥
@@ -45,16 +45,16 @@ any-past t (y ∷ ys) x e = ap (λ (b : Bool). cond (t y) true b) (any-past t ys
 -- ---- a visit to another run
 trace-other : (p : PlanData) (w : Visit) (s : State) (r : Run) → Differ r w.run → any (places r) (visit p w.pass w.run s).trace ≡ any (places r) s.trace
 unfolding visit after
-trace-other p w s r o = if-ind (isDue p w.pass s w.run) (after w.pass w.run (placed p w.pass s w.run) s) s (λ (t : State). any (places r) t.trace ≡ any (places r) s.trace)
+trace-other p w s r o = if-ind (is_due p w.pass s w.run) (after w.pass w.run (placed p w.pass s w.run) s) s (λ (t : State). any (places r) t.trace ≡ any (places r) s.trace)
     (λ t. any-past (places r) s.trace (step_of w.pass w.run (placed p w.pass s w.run)) o) (λ t. refl)
 
 pub settled-other : {p : PlanData} → Sound p → {s : State} → Reached p s → (w : Visit) → IsRun p w.run → {r : Run} → IsRun p r → Differ r w.run
-    → isSettled p (visit p w.pass w.run s) r ≡ isSettled p s r
-unfolding isSettled
+    → is_settled p (visit p w.pass w.run s) r ≡ is_settled p s r
+unfolding is_settled
 settled-other {p} so {s} c w j {r} i o =
     let next = visit p w.pass w.run s in
-    let slack : hasNoSlack p next.at r ≡ hasNoSlack p s.at r = slack-still (reached-visit so c w.pass j) i ∙ sym (slack-still c i) in
-    ap (λ (b : Bool). b || any (places r) next.trace) slack ∙ ap (λ (b : Bool). hasNoSlack p s.at r || b) (trace-other p w s r o)
+    let slack : has_no_slack p next.at r ≡ has_no_slack p s.at r = slack-still (reached-visit so c w.pass j) i ∙ sym (slack-still c i) in
+    ap (λ (b : Bool). b || any (places r) next.trace) slack ∙ ap (λ (b : Bool). has_no_slack p s.at r || b) (trace-other p w s r o)
 
 -- ---- the next visit
 module _ {p : PlanData} {past : List Visit} {w : Visit} {coming : List Visit} {at : List ℤ} {apart : List ℕ} {marks : List Bool} (h : Held p past (w ∷ coming) at apart marks) where
@@ -67,22 +67,22 @@ module _ {p : PlanData} {past : List Visit} {w : Visit} {coming : List Visit} {a
   pub held-run : IsRun p w.run
   held-run = all_head (all_right past (w ∷ coming) all_runs)
 
-  pub held-reached : Reached p (stateAfter p past)
+  pub held-reached : Reached p (state_after p past)
   held-reached = reached-all so (reached-start so (kept p h.ok)) (all_left past (w ∷ coming) all_runs)
 
-  pub next-state : stateAfter p (past ++ w ∷ []) ≡ visit p w.pass w.run (stateAfter p past)
-  unfolding visitAll
+  pub next-state : state_after p (past ++ w ∷ []) ≡ visit p w.pass w.run (state_after p past)
+  unfolding visit_all
   next-state = visit-append p past (w ∷ []) (start p)
 
   pub whole-next : schedule p ≡ (past ++ w ∷ []) ++ coming
   whole-next = h.whole ∙ sym (append_assoc past (w ∷ []) coming)
 
   -- it is not due
-  pub not-due-still : isDue p w.pass (stateAfter p past) w.run ≡ false → stateAfter p (past ++ w ∷ []) ≡ stateAfter p past
+  pub not-due-still : is_due p w.pass (state_after p past) w.run ≡ false → state_after p (past ++ w ∷ []) ≡ state_after p past
   unfolding visit
-  not-due-still e = next-state ∙ ap (λ (t : Bool). cond t (after w.pass w.run (placed p w.pass (stateAfter p past) w.run) (stateAfter p past)) (stateAfter p past)) e
+  not-due-still e = next-state ∙ ap (λ (t : Bool). cond t (after w.pass w.run (placed p w.pass (state_after p past) w.run) (state_after p past)) (state_after p past)) e
 
-  pub held-skipped : isDue p w.pass (stateAfter p past) w.run ≡ false → Held p (past ++ w ∷ []) coming at apart marks
+  pub held-skipped : is_due p w.pass (state_after p past) w.run ≡ false → Held p (past ++ w ∷ []) coming at apart marks
   held-skipped e = let still = sym (not-due-still e) in record {
     ok = h.ok;
     whole = whole-next;
@@ -93,21 +93,21 @@ module _ {p : PlanData} {past : List Visit} {w : Visit} {coming : List Visit} {a
   }
 
   abbrev next : State
-  next = visit p w.pass w.run (stateAfter p past)
+  next = visit p w.pass w.run (state_after p past)
 
   -- placing an open run
-  pub open_kept : isBounded w.run ≡ false → Unsettled p (stateAfter p (past ++ w ∷ [])) marks
+  pub open_kept : is_bounded w.run ≡ false → Unsettled p (state_after p (past ++ w ∷ [])) marks
   open_kept e = rw next-state (record { each = each; only = h.unsettled.only })
     where
-      each : (r : Run) → IsRun p r → (a b : ℕ) → r.left ≡ some a → r.right ≡ some b → get_or marks a false ≡ not (isSettled p next r)
+      each : (r : Run) → IsRun p r → (a b : ℕ) → r.left ≡ some a → r.right ≡ some b → get_or marks a false ≡ not (is_settled p next r)
       each r i a b f g = h.unsettled.each r i a b f g ∙ ap not (sym (go (same-or-other i held-run)))
         where
-          go : (w.run ≡ r) ⊎ Differ r w.run → isSettled p next r ≡ isSettled p (stateAfter p past) r
-          go (inl q) = let bounded : isBounded r ≡ true = rw (f, g) in no_true (sym e ∙ ap isBounded q ∙ bounded)
+          go : (w.run ≡ r) ⊎ Differ r w.run → is_settled p next r ≡ is_settled p (state_after p past) r
+          go (inl q) = let bounded : is_bounded r ≡ true = rw (f, g) in no_true (sym e ∙ ap is_bounded q ∙ bounded)
           go (inr o) = settled-other so held-reached w held-run i o
 
   -- placing the bounded run on the right of via a
-  pub bounded-settled : isDue p w.pass (stateAfter p past) w.run ≡ true → (a : ℕ) → w.run.left ≡ some a → Unsettled p (stateAfter p (past ++ w ∷ [])) (set marks a false)
+  pub bounded-settled : is_due p w.pass (state_after p past) w.run ≡ true → (a : ℕ) → w.run.left ≡ some a → Unsettled p (state_after p (past ++ w ∷ [])) (set marks a false)
   bounded-settled e a l = rw next-state (record { each = each; only = only })
     where
       inside : a < length marks
@@ -116,14 +116,14 @@ module _ {p : PlanData} {past : List Visit} {w : Visit} {coming : List Visit} {a
       unmarked : get_or (set marks a false) a false ≡ false
       unmarked = get_or-set_same marks a false false inside
 
-      once : isSettled p next w.run ≡ true
-      once = settled-placed p next w.run (omega (arith, visit-own p w.pass w.run (stateAfter p past), ap (λ (t : Bool). cond {A = ℕ} t 1 0) e))
+      once : is_settled p next w.run ≡ true
+      once = settled-placed p next w.run (omega (arith, visit-own p w.pass w.run (state_after p past), ap (λ (t : Bool). cond {A = ℕ} t 1 0) e))
 
-      each : (r : Run) → IsRun p r → (v b : ℕ) → r.left ≡ some v → r.right ≡ some b → get_or (set marks a false) v false ≡ not (isSettled p next r)
+      each : (r : Run) → IsRun p r → (v b : ℕ) → r.left ≡ some v → r.right ≡ some b → get_or (set marks a false) v false ≡ not (is_settled p next r)
       each r i v b f g = go (same-or-other i held-run)
         where
-          go : (w.run ≡ r) ⊎ Differ r w.run → get_or (set marks a false) v false ≡ not (isSettled p next r)
-          go (inl q) = ap (λ (u : ℕ). get_or (set marks a false) u false) (same_some v a (sym f ∙ ap (λ (x : Run). x.left) (sym q) ∙ l)) ∙ unmarked ∙ ap not (sym (ap (isSettled p next) (sym q) ∙ once))
+          go : (w.run ≡ r) ⊎ Differ r w.run → get_or (set marks a false) v false ≡ not (is_settled p next r)
+          go (inl q) = ap (λ (u : ℕ). get_or (set marks a false) u false) (same_some v a (sym f ∙ ap (λ (x : Run). x.left) (sym q) ∙ l)) ∙ unmarked ∙ ap not (sym (ap (is_settled p next) (sym q) ∙ once))
           go (inr o) = get_or-set_other marks a v false false (λ z. itself r (subst (Differ r) (one_right held-run i a l (f ∙ ap some z)) o))
               ∙ h.unsettled.each r i v b f g ∙ ap not (sym (settled-other so held-reached w held-run i o))
 

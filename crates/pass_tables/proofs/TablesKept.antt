@@ -9,13 +9,13 @@ use lib.ListN.{get_or, set}
 use lib.Seq.{get_or-set_other}
 use Rattle.plan.specs.Plan.{PlanData}
 use Rattle.plan.specs.inner.Levels.{On}
-use Rattle.pass_tables.specs.inner.Joins.{oneIf, markedIn}
+use Rattle.pass_tables.specs.inner.Joins.{one_if, marked_in}
 use Rattle.pass_tables.specs.inner.Moments.{Tables}
 
-marks-same : (marks marks' : List Bool) (v n : ℕ) → ((u : ℕ) → v ≤ u → u < v + n → get_or marks' u false ≡ get_or marks u false) → markedIn marks v n ≡ markedIn marks' v n
-unfolding markedIn
+marks-same : (marks marks' : List Bool) (v n : ℕ) → ((u : ℕ) → v ≤ u → u < v + n → get_or marks' u false ≡ get_or marks u false) → marked_in marks v n ≡ marked_in marks' v n
+unfolding marked_in
 marks-same marks marks' v zero f = refl
-marks-same marks marks' v (suc n) f = omega (arith, marks-same marks marks' v n (λ u h k. f u h (omega arith)), ap oneIf (f (v + n) (omega arith) (omega arith)))
+marks-same marks marks' v (suc n) f = omega (arith, marks-same marks marks' v n (λ u h k. f u h (omega arith)), ap one_if (f (v + n) (omega arith) (omega arith)))
 
 module _ {p : PlanData} {q l : ℕ} {first ends before after counts : List ℕ} {marks : List Bool} (t : Tables p q l first ends before after counts marks) where
   pub tables-kept : (marks' : List Bool) → ((v : ℕ) → t.low ≤ v → v < t.high → get_or marks' v false ≡ get_or marks v false) → Tables p q l first ends before after counts marks'

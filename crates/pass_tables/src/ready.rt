@@ -2,7 +2,7 @@
 // joined to v, likewise on the right, and every bounded run between those two w's is settled". Neighbours on the preceding
 // level are read row by row, as `rows` makes them.
 ghost use Rattle.std.specs.Prelude.{◌≡◌, ℕ, ◌+◌, ◌-◌, ◌<◌, ◌≤◌, length, get_or};
-ghost use Rattle.pass_tables.specs.inner.Joins.{Readable, joinedAt, Joinable, lastIn, firstIn, or_else, oneIf, markedIn, readyBy};
+ghost use Rattle.pass_tables.specs.inner.Joins.{Readable, joined_at, Joinable, last_in, first_in, or_else, one_if, marked_in, ready_by};
 
 use crate::rows::index;
 use ints::wide;
@@ -13,7 +13,7 @@ pub const NONE: u32 = 2048;
 // The via on the preceding level that is joined to via v, NONE if there is none or v is a box.
 fn joined_via(vias: &[bool], first: &[u16], ends: &[u32], v: usize) -> u32
     requires { (v < length vias.now) × Joinable vias.now first.now ends.now }
-    ensures { result ≡ joinedAt vias.now first.now ends.now v }
+    ensures { result ≡ joined_at vias.now first.now ends.now v }
 {
     if !vias[v] {
         return NONE;
@@ -41,7 +41,7 @@ pub fn nearest_before(
     before: &mut [u32],
 )
     requires { (to ≤ length vias.now) × (to ≤ length before.old) × Joinable vias.now first.now ends.now }
-    ensures { (v : ℕ) → from ≤ v → v < to → get_or before.new v 0 ≡ lastIn (joinedAt vias.now first.now ends.now) from (v + 1 - from) }
+    ensures { (v : ℕ) → from ≤ v → v < to → get_or before.new v 0 ≡ last_in (joined_at vias.now first.now ends.now) from (v + 1 - from) }
 {
     let mut last = NONE;
     let mut v = from;
@@ -62,7 +62,7 @@ pub fn nearest_after(
     after: &mut [u32],
 )
     requires { (to ≤ length vias.now) × (to ≤ length after.old) × Joinable vias.now first.now ends.now }
-    ensures { (v : ℕ) → from ≤ v → v < to → get_or after.new v 0 ≡ firstIn (joinedAt vias.now first.now ends.now) v (to - v) }
+    ensures { (v : ℕ) → from ≤ v → v < to → get_or after.new v 0 ≡ first_in (joined_at vias.now first.now ends.now) v (to - v) }
 {
     let mut last = NONE;
     let mut v = to;
@@ -74,7 +74,7 @@ pub fn nearest_after(
 }
 
 fn one_if(b: bool) -> u16
-    ensures { result ≡ oneIf b }
+    ensures { result ≡ one_if b }
 {
     if b { 1 } else { 0 }
 }
@@ -82,7 +82,7 @@ fn one_if(b: bool) -> u16
 // Of each vertex from `from` up to `to`, how many marked ones come before it there.
 pub fn count_marks(marks: &[bool], from: usize, to: usize, counts: &mut [u16])
     requires { (to ≤ length marks.now) × (to ≤ length counts.old) × (length marks.now ≤ 1024) }
-    ensures { (v : ℕ) → from ≤ v → v < to → get_or counts.new v 0 ≡ markedIn marks.now from (v - from) }
+    ensures { (v : ℕ) → from ≤ v → v < to → get_or counts.new v 0 ≡ marked_in marks.now from (v - from) }
 {
     let mut count: u16 = 0;
     let mut v = from;
@@ -96,7 +96,7 @@ pub fn count_marks(marks: &[bool], from: usize, to: usize, counts: &mut [u16])
 // Whether the bounded run from via a to via b is ready: both w's are there, and no run between them is marked unsettled.
 pub fn is_ready(before: &[u32], after: &[u32], counts: &[u16], a: usize, b: usize) -> bool
     requires { Readable before.now after.now counts.now a b }
-    ensures { result ≡ readyBy before.now after.now counts.now a b }
+    ensures { result ≡ ready_by before.now after.now counts.now a b }
 {
     let u = before[a];
     let w = after[b];

@@ -1,7 +1,7 @@
 // Which bounded runs have slack before any is placed. A bounded run is told by the via on its left.
 ghost use Rattle.std.specs.Prelude.{◌≡◌, ◌++◌, ℕ, ◌+◌, ◌-◌, ◌<◌, ◌≤◌, length, get_or, take};
 ghost use Rattle.ints.specs.Lists.{sum};
-ghost use Rattle.pass_tables.specs.inner.Tables.{total, along, levelwise, looseFrom, startsLoose, Measured};
+ghost use Rattle.pass_tables.specs.inner.Tables.{total, along, levelwise, loose_from, starts_loose, Measured};
 
 use crate::runs::run_end;
 use ints::{too_near, wide};
@@ -23,7 +23,7 @@ fn span(doubled: &[u64], v: usize, w: usize) -> u64
 // Whether a bounded run with slack starts at via v, w being the next via on the level or its end `to`.
 fn is_loose(doubled: &[u64], at: &[i64], v: usize, w: usize, to: usize) -> bool
     requires { (v ≤ w) × (to ≤ length doubled.now) × Measured doubled.now at.now }
-    ensures { result ≡ looseFrom doubled.now at.now v w to }
+    ensures { result ≡ loose_from doubled.now at.now v w to }
 {
     if w >= to {
         return false;
@@ -38,7 +38,7 @@ fn is_loose(doubled: &[u64], at: &[i64], v: usize, w: usize, to: usize) -> bool
 // Whether a bounded run with slack starts at v.
 fn starts_loose(vias: &[bool], doubled: &[u64], at: &[i64], v: usize, to: usize) -> bool
     requires { (v < to) × (to ≤ length vias.now) × (length vias.now ≡ length doubled.now) × Measured doubled.now at.now }
-    ensures { result ≡ startsLoose vias.now doubled.now at.now v to }
+    ensures { result ≡ starts_loose vias.now doubled.now at.now v to }
 {
     if !vias[v] {
         return false;
@@ -58,7 +58,7 @@ fn mark_level(
     requires from_le_to { (from ≤ to) × (to ≤ length vias.now) × (length vias.now ≡ length doubled.now) × Measured doubled.now at.now }
     requires marks_len { length marks.old ≡ length vias.now }
     ensures { take to marks.new ≡ take from marks.old
-        ++ along (λ (v : ℕ). startsLoose vias.now doubled.now at.now v to) from (to - from) }
+        ++ along (λ (v : ℕ). starts_loose vias.now doubled.now at.now v to) from (to - from) }
 {
     let mut v = from;
     while v < to {
@@ -71,7 +71,7 @@ fn mark_level(
 pub fn mark_loose(sizes: &[u16], vias: &[bool], doubled: &[u64], at: &[i64], marks: &mut [bool])
     requires sizes_value { (sum sizes.now ≡ length vias.now) × (length marks.old ≡ length vias.now) }
     requires vias_len { (length vias.now ≡ length doubled.now) × Measured doubled.now at.now }
-    ensures { marks.new ≡ levelwise (λ (v to : ℕ). startsLoose vias.now doubled.now at.now v to) 0 sizes.now }
+    ensures { marks.new ≡ levelwise (λ (v to : ℕ). starts_loose vias.now doubled.now at.now v to) 0 sizes.now }
 {
     let mut from: usize = 0;
     let mut i: usize = 0;

@@ -51,7 +51,7 @@ module _ {q low high start to : ℕ} {vias : List Bool} {w : PassWork} {m : AtLe
       → Levelling q start to vias (work first ends w.sums before after counts w.at w.apart marks) m
   made {before} {after} {counts} e f g tables = record {
     enter = k.enter;
-    tables = λ a. let t = tables a.notThird a.via (omega (arith, k.enter.starts, a.on.from)) (omega (arith, k.enter.stops, a.on.to)) a.unsettled in record {
+    tables = λ a. let t = tables a.not_third a.via (omega (arith, k.enter.starts, a.on.from)) (omega (arith, k.enter.stops, a.on.to)) a.unsettled in record {
       low = low;
       high = high;
       range = k.range;

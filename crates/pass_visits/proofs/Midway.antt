@@ -7,15 +7,15 @@ use native.Mathlib.Omega.{arith}
 use lib.ListN.{length}
 use lib.IntN.{ℤ}
 use Rattle.plan.specs.Plan.{PlanData}
-use Rattle.passes.specs.Runs.{Run, runsOn}
+use Rattle.passes.specs.Runs.{Run, runs_on}
 use Rattle.plan.proofs.All.{All, all_right, all_head}
-use Rattle.plan.specs.inner.Levels.{firstOn, sizeOn}
+use Rattle.plan.specs.inner.Levels.{first_on, size_on}
 use Rattle.plan.proofs.Levels.{level-within}
 use Rattle.passes.proofs.Sound.{sound}
 use Rattle.passes.specs.inner.Runs.{IsRun}
 use Rattle.passes.proofs.RunsOn.{runs-are}
-use Rattle.passes.specs.inner.Schedule.{Visit, visitOf}
-use Rattle.pass_tables.specs.inner.Tables.{nextVia}
+use Rattle.passes.specs.inner.Schedule.{Visit, visit_of}
+use Rattle.pass_tables.specs.inner.Tables.{next_via}
 use Rattle.pass_tables.specs.inner.Moments.{Held, RunIs, Tables, AtVisit, AtLevel}
 use Rattle.pass_visits.specs.inner.Visits.{Work, worked, AsksReadiness, Visiting, Visited, Levelling, LevelDone}
 use Rattle.pass_tables.proofs.RunsAhead.{Ahead, all-ahead, NextRun, next-run, none_left}
@@ -23,9 +23,9 @@ use Rattle.pass_tables.proofs.RunsAhead.{Ahead, all-ahead, NextRun, next-run, no
 pub record Midway (q from : ℕ) (k : Work) (m : AtLevel) : Type 0 where
   pub done : List Run
   pub rest : List Run
-  pub split : runsOn m.plan m.level ≡ done ++ rest
+  pub split : runs_on m.plan m.level ≡ done ++ rest
   pub runs : Ahead m.plan m.level from rest
-  pub held : Held m.plan (m.past ++ map (visitOf q) done) (map (visitOf q) rest ++ m.coming) k.at k.apart k.marks
+  pub held : Held m.plan (m.past ++ map (visit_of q) done) (map (visit_of q) rest ++ m.coming) k.at k.apart k.marks
   pub tables : AsksReadiness m.plan q m.level k.marks → Tables m.plan q m.level k.first k.ends k.before k.after k.counts k.marks
 
 module _ {q start to : ℕ} {vias : List Bool} {k : Work} {x : AtLevel} (t : Levelling q start to vias k x) where
@@ -64,41 +64,41 @@ module _ {q start to : ℕ} {vias : List Bool} {k : Work} {x : AtLevel} (t : Lev
   pub midway_start : Midway q start k x
   midway_start = record {
     done = [];
-    rest = runsOn p l;
+    rest = runs_on p l;
     split = refl;
-    runs = subst (λ (v : ℕ). Ahead p l v (runsOn p l)) (sym t.enter.starts) (all-ahead p l);
-    held = subst (λ (vs : List Visit). Held p vs (map (visitOf q) (runsOn p l) ++ coming) k.at k.apart k.marks) (sym (append-nil past)) t.enter.held;
+    runs = subst (λ (v : ℕ). Ahead p l v (runs_on p l)) (sym t.enter.starts) (all-ahead p l);
+    held = subst (λ (vs : List Visit). Held p vs (map (visit_of q) (runs_on p l) ++ coming) k.at k.apart k.marks) (sym (append-nil past)) t.enter.held;
     tables = t.tables;
   }
 
   module _ {from : ℕ} {at : List ℤ} {apart : List ℕ} {marks : List Bool}
       (m : Midway q from (worked k at apart marks) x) where
     abbrev before-it : List Visit
-    before-it = past ++ map (visitOf q) m.done
+    before-it = past ++ map (visit_of q) m.done
 
     -- ---- the next visit
-    module _ (h : from ≤ to) (end : ℕ) (e : end ≡ nextVia vias from (to - from)) where
+    module _ (h : from ≤ to) (end : ℕ) (e : end ≡ next_via vias from (to - from)) where
       pub next : NextRun p l from end m.rest
       next = subst (λ (v : ℕ). NextRun p l from v m.rest) (sym ends_at) (next-run p l m.runs (omega (arith, t.enter.stops)))
         where
-          ends_at : end ≡ nextVia p.vias from (firstOn p l + sizeOn p l - from)
-          ends_at = e ∙ ap (λ (vs : List Bool). nextVia vs from (to - from)) t.enter.kinds ∙ ap (λ (v : ℕ). nextVia p.vias from (v - from)) t.enter.stops
+          ends_at : end ≡ next_via p.vias from (first_on p l + size_on p l - from)
+          ends_at = e ∙ ap (λ (vs : List Bool). next_via vs from (to - from)) t.enter.kinds ∙ ap (λ (v : ℕ). next_via p.vias from (v - from)) t.enter.stops
 
       is-run : IsRun p next.run
       is-run = all_head (subst (All (IsRun p)) next.is (all_right m.done m.rest (subst (All (IsRun p)) m.split (runs-are p l t.enter.one t.enter.many))))
 
       abbrev coming-then : List Visit
-      coming-then = map (visitOf q) next.more ++ coming
+      coming-then = map (visit_of q) next.more ++ coming
 
       stands : RunIs p next.run start from end to
-      stands = subst (λ (v : ℕ). RunIs p next.run v from end to) (sym t.enter.starts) (subst (λ (v : ℕ). RunIs p next.run (firstOn p l) from end v) (sym t.enter.stops) (next.stands is-run))
+      stands = subst (λ (v : ℕ). RunIs p next.run v from end to) (sym t.enter.starts) (subst (λ (v : ℕ). RunIs p next.run (first_on p l) from end v) (sym t.enter.stops) (next.stands is-run))
 
       abbrev pub now-at : AtVisit
-      now-at = record { plan = p; past = before-it; visit = visitOf q next.run; coming = coming-then }
+      now-at = record { plan = p; past = before-it; visit = visit_of q next.run; coming = coming-then }
 
       pub visiting : Visiting q start from end to (worked k at apart marks) now-at
       visiting = record {
-        held = subst (λ (rs : List Run). Held p before-it (map (visitOf q) rs ++ coming) at apart marks) next.is m.held;
+        held = subst (λ (rs : List Run). Held p before-it (map (visit_of q) rs ++ coming) at apart marks) next.is m.held;
         pass = refl;
         run = stands;
         near = t.enter.near;
@@ -106,8 +106,8 @@ module _ {q start to : ℕ} {vias : List Bool} {k : Work} {x : AtLevel} (t : Lev
       }
 
       -- ---- and after it
-      past-then : before-it ++ visitOf q next.run ∷ [] ≡ past ++ map (visitOf q) (m.done ++ next.run ∷ [])
-      past-then = append_assoc past (map (visitOf q) m.done) (visitOf q next.run ∷ []) ∙ ap (λ (vs : List Visit). past ++ vs) (sym (map-append (visitOf q) m.done (next.run ∷ [])))
+      past-then : before-it ++ visit_of q next.run ∷ [] ≡ past ++ map (visit_of q) (m.done ++ next.run ∷ [])
+      past-then = append_assoc past (map (visit_of q) m.done) (visit_of q next.run ∷ []) ∙ ap (λ (vs : List Visit). past ++ vs) (sym (map-append (visit_of q) m.done (next.run ∷ [])))
 
       pub midway-next : {at' : List ℤ} {apart' : List ℕ} {marks' : List Bool}
           → Visited q (worked k at' apart' marks') now-at → Midway q (end + 1) (worked k at' apart' marks') x
@@ -124,6 +124,6 @@ module _ {q start to : ℕ} {vias : List Bool} {k : Work} {x : AtLevel} (t : Lev
     pub midway_end : to < from → LevelDone q at apart marks x
     midway_end h =
         let none : m.rest ≡ [] = none_left p l m.runs (omega (arith, t.enter.stops)) in
-        let all : m.done ≡ runsOn p l = sym (append-nil m.done) ∙ ap (λ (rs : List Run). m.done ++ rs) (sym none) ∙ sym m.split in
-        let held : Held p before-it coming at apart marks = subst (λ (rs : List Run). Held p before-it (map (visitOf q) rs ++ coming) at apart marks) none m.held in
-        subst (λ (rs : List Run). Held p (past ++ map (visitOf q) rs) coming at apart marks) all held
+        let all : m.done ≡ runs_on p l = sym (append-nil m.done) ∙ ap (λ (rs : List Run). m.done ++ rs) (sym none) ∙ sym m.split in
+        let held : Held p before-it coming at apart marks = subst (λ (rs : List Run). Held p before-it (map (visit_of q) rs ++ coming) at apart marks) none m.held in
+        subst (λ (rs : List Run). Held p (past ++ map (visit_of q) rs) coming at apart marks) all held

@@ -11,12 +11,12 @@ use lib.IntN.{ℤ}
 use Rattle.ints.proofs.Laws.{cases}
 use Rattle.plan.specs.Plan.{PlanData}
 use Rattle.passes.specs.inner.Schedule.{Visit}
-use Rattle.pass_tables.specs.inner.Moments.{stateAfter, Neighbouring, Tables, AtVisit, Placing, Unsettled}
+use Rattle.pass_tables.specs.inner.Moments.{state_after, Neighbouring, Tables, AtVisit, Placing, Unsettled}
 use Rattle.pass_tables.proofs.RunEnds.{left-on}
 use Rattle.pass_tables.proofs.Due.{and_no, left-none, left-some, right-none, open-left, open-right}
 use Rattle.pass_tables.proofs.Settle.{whole-next, held-skipped, open_kept, bounded-settled}
 use Rattle.pass_tables.proofs.TablesKept.{tables-settled}
-use Rattle.pass_visits.specs.inner.Visits.{Work, worked, AsksReadiness, Visiting, Asking, Visited, isDueAt, settled}
+use Rattle.pass_visits.specs.inner.Visits.{Work, worked, AsksReadiness, Visiting, Asking, Visited, is_due_at, settled}
 use Rattle.pass_visits.proofs.DueLaws.{order, not-due, is-due}
 
 -- ---- the marks
@@ -46,12 +46,12 @@ unset (t ∷ ts) (suc i) zero e = e
 unset (t ∷ ts) (suc i) (suc v) e = unset ts i v e
 
 asked-before : {p : PlanData} {q l : ℕ} {marks : List Bool} (i : ℕ) → AsksReadiness p q l (set marks i false) → AsksReadiness p q l marks
-asked-before {marks = marks} i a = record { notThird = a.notThird; via = a.via; on = a.on; unsettled = unset marks i a.via a.unsettled }
+asked-before {marks = marks} i a = record { not_third = a.not_third; via = a.via; on = a.on; unsettled = unset marks i a.via a.unsettled }
 
 pub asking : {q start from end to : ℕ} {k : Work} {m : AtVisit} → Visiting q start from end to k m → Asking q start from end to k.before k.after k.counts k.marks m
 asking {k = k} v = record { first = k.first; ends = k.ends; sums = k.sums; at = k.at; apart = k.apart; is = v }
 
-module _ {q start from end to : ℕ} {k : Work} {m : AtVisit} (v : Visiting q start from end to k m) {r : Bool} (e : r ≡ isDueAt q m) where
+module _ {q start from end to : ℕ} {k : Work} {m : AtVisit} (v : Visiting q start from end to k m) {r : Bool} (e : r ≡ is_due_at q m) where
   abbrev p : PlanData
   p = m.plan
 
@@ -98,7 +98,7 @@ module _ {q start from end to : ℕ} {k : Work} {m : AtVisit} (v : Visiting q st
 
     -- the marks then
     record Kept (marks' : List Bool) : Type 0 where
-      pub unsettled : Unsettled p (stateAfter p (past ++ w ∷ [])) marks'
+      pub unsettled : Unsettled p (state_after p (past ++ w ∷ [])) marks'
       pub tables : AsksReadiness p q w.run.level marks' → Tables p q w.run.level first ends before after counts marks'
 
     kept : Kept (settled start from end to marks)
@@ -113,7 +113,7 @@ module _ {q start from end to : ℕ} {k : Work} {m : AtVisit} (v : Visiting q st
           tables = λ a. tables-settled (v.tables (asked-before (from - 1) a)) (from - 1) (left-on v.run.is (from - 1) (left-some v.run h));
         })))
 
-    pub visit-placed : (at' : List ℤ) (apart' : List ℕ) (marks' : List Bool) → at' ≡ (stateAfter p (past ++ w ∷ [])).at → apart' ≡ (stateAfter p (past ++ w ∷ [])).apart
+    pub visit-placed : (at' : List ℤ) (apart' : List ℕ) (marks' : List Bool) → at' ≡ (state_after p (past ++ w ∷ [])).at → apart' ≡ (state_after p (past ++ w ∷ [])).apart
         → marks' ≡ settled start from end to marks → Visited q (worked k at' apart' marks') m
     visit-placed at' apart' marks' f g h = let then : Kept marks' = subst Kept (sym h) kept in record {
       held = record {

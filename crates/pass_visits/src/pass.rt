@@ -1,10 +1,10 @@
 // One pass over the levels.
 ghost use Rattle.std.specs.Prelude.{◌≡◌, true, false, ℕ, ◌≤◌, ◌<◌, length, get_or};
-ghost use Rattle.plan.specs.Limits.{maxVertices};
+ghost use Rattle.plan.specs.Limits.{max_vertices};
 ghost use Rattle.pass_tables.specs.inner.Joins.{Joinable};
 ghost use Rattle.pass_tables.specs.inner.Moments.{Some, Leaves};
 ghost use Rattle.pass_visits.specs.inner.Visits.{LevelDone};
-ghost use Rattle.pass_visits.specs.inner.Passing.{PassWork, passWork, TableRoom, TablesMade, LevelNext, PassNext, PassDone};
+ghost use Rattle.pass_visits.specs.inner.Passing.{PassWork, pass_work, TableRoom, TablesMade, LevelNext, PassNext, PassDone};
 
 use crate::level::visit_level;
 use ints::wide;
@@ -44,7 +44,7 @@ fn make_tables(
     counts: &mut [u16],
 )
     requires { (to ≤ length vias.now) × (to ≤ length before.old) × (to ≤ length after.old) × (to ≤ length marks.now)
-        × (high ≤ length marks.now) × (high ≤ length counts.old) × (length marks.now ≤ maxVertices) × Joinable vias.now first.now ends.now }
+        × (high ≤ length marks.now) × (high ≤ length counts.old) × (length marks.now ≤ max_vertices) × Joinable vias.now first.now ends.now }
     ensures { (q ≡ 3 → ⊥) → (u : ℕ) → start ≤ u → u < to → get_or marks.now u false ≡ true
         → TablesMade low high start to vias.now first.now ends.now before.new after.new counts.new marks.now }
 {
@@ -84,7 +84,7 @@ fn enter_level(
     marks: &mut [bool],
 )
     ghost k: { PassWork }
-    requires marks_value { passWork first.now ends.now sums.now at.old apart.old marks.old ≡ k }
+    requires marks_value { pass_work first.now ends.now sums.now at.old apart.old marks.old ≡ k }
     requires some { Some (LevelNext q preceding.from preceding.to level.from level.to vias.now k) × TableRoom before.old after.old counts.old }
     ensures { Leaves (LevelNext q preceding.from preceding.to level.from level.to vias.now k)
         (LevelDone q at.new apart.new marks.new) }
@@ -121,7 +121,7 @@ pub fn pass(
     marks: &mut [bool],
 )
     ghost k: { PassWork }
-    requires marks_value { passWork first.now ends.now sums.now at.old apart.old marks.old ≡ k }
+    requires marks_value { pass_work first.now ends.now sums.now at.old apart.old marks.old ≡ k }
     requires some { Some (PassNext q starts.now vias.now k) }
     ensures { Leaves (PassNext q starts.now vias.now k)
         (PassDone q at.new apart.new marks.new) }

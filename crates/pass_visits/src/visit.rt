@@ -2,7 +2,7 @@
 // `start` up to `to`; it is bounded if a via stands on both sides, those at from - 1 and at `end`.
 ghost use Rattle.std.specs.Prelude.{◌≡◌, ◌≤◌, length};
 ghost use Rattle.pass_tables.specs.inner.Moments.{Some, Leaves};
-ghost use Rattle.pass_visits.specs.inner.Visits.{Work, work, worked, Visiting, Asking, Visited, isDueAt, settled};
+ghost use Rattle.pass_visits.specs.inner.Visits.{Work, work, worked, Visiting, Asking, Visited, is_due_at, settled};
 
 use pass_place::one::place_one;
 use pass_tables::ready::is_ready;
@@ -22,7 +22,7 @@ fn is_due(
 ) -> bool
     requires { Some (Asking q start from end to before.now after.now counts.now marks.now) }
     ensures { Leaves (Asking q start from end to before.now after.now counts.now marks.now)
-        (λ m. result ≡ isDueAt q m) }
+        (λ m. result ≡ is_due_at q m) }
 {
     if from == start || end == to {
         return q != 3;

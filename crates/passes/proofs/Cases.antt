@@ -5,10 +5,10 @@ use mathlib.Core.List.{List, [], ◌∷◌, map}
 use Prim.Native.Nat.{ℕ}
 use lib.IntN.{ℤ, pos, negsuc}
 use Rattle.plan.specs.Plan.{PlanData, data_of}
-use Rattle.passes.specs.Drawing.{BoxAt, Placing, drawingOf}
-use Rattle.passes.specs.Words.{bendsAt}
-use Rattle.passes.proofs.Open.{passesOpen}
-use Rattle.passes.proofs.Tried.{wordsHold, triedOpen}
+use Rattle.passes.specs.Drawing.{BoxAt, Placing, drawing_of}
+use Rattle.passes.specs.Words.{bends_at}
+use Rattle.passes.proofs.Open.{passes_open}
+use Rattle.passes.proofs.Tried.{words_hold, tried_open}
 use Rattle.plan.proofs.Case1.{case1}
 
 abbrev at : ℕ → ℤ → BoxAt
@@ -18,7 +18,7 @@ abbrev place : ℕ → ℕ → List BoxAt → Placing
 place q l bs = record { pass = q; level = l; boxes = bs }
 
 -- Case 1: open runs take on their distances, that to the bound included.
-pub case1-drawn : drawingOf case1 ≡ record {
+pub case1-drawn : drawing_of case1 ≡ record {
   preliminary = negsuc 7 ∷ pos 8 ∷ negsuc 4 ∷ pos 5 ∷ pos 0 ∷ [];
   final = negsuc 4 ∷ pos 11 ∷ negsuc 4 ∷ pos 8 ∷ pos 1 ∷ [];
   placings =
@@ -30,11 +30,11 @@ pub case1-drawn : drawingOf case1 ≡ record {
       place 2 1 (at 0 (negsuc 4) ∷ at 1 (pos 11) ∷ []) ∷
       [];
 }
-unfolding passesOpen
+unfolding passes_open
 case1-drawn = refl
 
-pub case1-words : wordsHold case1 ≡ true
-unfolding passesOpen triedOpen
+pub case1-words : words_hold case1 ≡ true
+unfolding passes_open tried_open
 case1-words = refl
 
 -- A settled run is not placed again in pass 2; distances are doubled after the sum; a bounded run becomes ready in pass 2.
@@ -47,7 +47,7 @@ settled =
     (0 ∷ 1 ∷ 2 ∷ 4 ∷ 5 ∷ 7 ∷ 8 ∷ 9 ∷ []) (2 ∷ 4 ∷ 5 ∷ 7 ∷ 8 ∷ 9 ∷ 10 ∷ 11 ∷ [])
     (1 ∷ 1 ∷ 1 ∷ 1 ∷ 1 ∷ 1 ∷ 1 ∷ 1 ∷ [])
 
-pub settled-drawn : drawingOf settled ≡ record {
+pub settled-drawn : drawing_of settled ≡ record {
   preliminary = negsuc 2 ∷ pos 3 ∷ negsuc 19 ∷ pos 0 ∷ pos 20 ∷ negsuc 19 ∷ pos 0 ∷ pos 20 ∷ negsuc 19 ∷ pos 20 ∷ negsuc 2 ∷ pos 3 ∷ [];
   final = negsuc 19 ∷ pos 20 ∷ negsuc 19 ∷ pos 0 ∷ pos 20 ∷ negsuc 19 ∷ pos 0 ∷ pos 20 ∷ negsuc 19 ∷ pos 20 ∷ negsuc 19 ∷ pos 20 ∷ [];
   placings =
@@ -58,11 +58,11 @@ pub settled-drawn : drawingOf settled ≡ record {
       place 2 1 (at 0 (negsuc 19) ∷ at 1 (pos 20) ∷ []) ∷
       [];
 }
-unfolding passesOpen
+unfolding passes_open
 settled-drawn = refl
 
-pub settled-words : wordsHold settled ≡ true
-unfolding passesOpen triedOpen
+pub settled-words : words_hold settled ≡ true
+unfolding passes_open tried_open
 settled-words = refl
 
 -- A bounded run that only pass 3 places; an empty run that is not settled keeps another from being ready.
@@ -75,7 +75,7 @@ third-pass =
     (0 ∷ 0 ∷ 1 ∷ 3 ∷ 4 ∷ 4 ∷ 5 ∷ 6 ∷ 7 ∷ 8 ∷ 9 ∷ 11 ∷ []) (1 ∷ 3 ∷ 5 ∷ 7 ∷ 6 ∷ 8 ∷ 10 ∷ 9 ∷ 10 ∷ 11 ∷ 12 ∷ 12 ∷ [])
     (1 ∷ 1 ∷ 1 ∷ 1 ∷ 1 ∷ 1 ∷ 1 ∷ 1 ∷ 1 ∷ 1 ∷ 1 ∷ 1 ∷ [])
 
-pub third-pass-drawn : drawingOf third-pass ≡ record {
+pub third-pass-drawn : drawing_of third-pass ≡ record {
   preliminary = pos 0 ∷ negsuc 5 ∷ pos 0 ∷ pos 6 ∷ pos 10 ∷ negsuc 5 ∷ pos 0 ∷ pos 6 ∷ pos 10 ∷ pos 0 ∷ pos 4 ∷ pos 10 ∷ pos 4 ∷ [];
   final = pos 0 ∷ negsuc 5 ∷ pos 0 ∷ pos 6 ∷ pos 10 ∷ negsuc 5 ∷ pos 0 ∷ pos 6 ∷ pos 10 ∷ pos 0 ∷ pos 4 ∷ pos 10 ∷ pos 5 ∷ [];
   placings =
@@ -88,11 +88,11 @@ pub third-pass-drawn : drawingOf third-pass ≡ record {
       place 3 4 (at 10 (pos 4) ∷ []) ∷
       [];
 }
-unfolding passesOpen
+unfolding passes_open
 third-pass-drawn = refl
 
-pub third-pass-words : wordsHold third-pass ≡ true
-unfolding passesOpen triedOpen
+pub third-pass-words : words_hold third-pass ≡ true
+unfolding passes_open tried_open
 third-pass-words = refl
 
 -- The nearest via with a via on the preceding level, where a nearer via has none.
@@ -105,7 +105,7 @@ nearest =
     (0 ∷ 0 ∷ 0 ∷ 1 ∷ 2 ∷ 4 ∷ 5 ∷ 8 ∷ []) (1 ∷ 2 ∷ 4 ∷ 5 ∷ 6 ∷ 8 ∷ 9 ∷ 9 ∷ [])
     (1 ∷ 1 ∷ 1 ∷ 1 ∷ 1 ∷ 1 ∷ 1 ∷ 1 ∷ [])
 
-pub nearest-drawn : drawingOf nearest ≡ record {
+pub nearest-drawn : drawing_of nearest ≡ record {
   preliminary = pos 0 ∷ negsuc 3 ∷ pos 0 ∷ pos 4 ∷ pos 10 ∷ negsuc 3 ∷ pos 0 ∷ pos 6 ∷ pos 10 ∷ pos 3 ∷ [];
   final = pos 0 ∷ negsuc 3 ∷ pos 0 ∷ pos 4 ∷ pos 10 ∷ negsuc 3 ∷ pos 0 ∷ pos 6 ∷ pos 10 ∷ pos 3 ∷ [];
   placings =
@@ -116,11 +116,11 @@ pub nearest-drawn : drawingOf nearest ≡ record {
       place 2 1 (at 0 (pos 0) ∷ []) ∷
       [];
 }
-unfolding passesOpen
+unfolding passes_open
 nearest-drawn = refl
 
-pub nearest-words : wordsHold nearest ≡ true
-unfolding passesOpen triedOpen
+pub nearest-words : words_hold nearest ≡ true
+unfolding passes_open tried_open
 nearest-words = refl
 
 -- Pass 3 goes against the level above.
@@ -133,7 +133,7 @@ above-third =
     (0 ∷ 1 ∷ 1 ∷ 2 ∷ 3 ∷ 4 ∷ 5 ∷ 6 ∷ 7 ∷ 8 ∷ 9 ∷ 10 ∷ 11 ∷ 12 ∷ 13 ∷ 15 ∷ []) (2 ∷ 4 ∷ 7 ∷ 6 ∷ 5 ∷ 8 ∷ 9 ∷ 10 ∷ 11 ∷ 12 ∷ 13 ∷ 14 ∷ 15 ∷ 16 ∷ 16 ∷ 16 ∷ [])
     (1 ∷ 1 ∷ 1 ∷ 1 ∷ 1 ∷ 1 ∷ 1 ∷ 1 ∷ 1 ∷ 1 ∷ 1 ∷ 1 ∷ 1 ∷ 1 ∷ 1 ∷ 1 ∷ [])
 
-pub above-third-drawn : drawingOf above-third ≡ record {
+pub above-third-drawn : drawing_of above-third ≡ record {
   preliminary = pos 0 ∷ negsuc 3 ∷ pos 0 ∷ pos 4 ∷ negsuc 9 ∷ negsuc 5 ∷ pos 0 ∷ pos 6 ∷ negsuc 9 ∷ negsuc 5 ∷ pos 0 ∷ pos 6 ∷ negsuc 9 ∷ negsuc 5 ∷ pos 0 ∷ pos 6 ∷ negsuc 5 ∷ [];
   final = pos 0 ∷ negsuc 3 ∷ pos 0 ∷ pos 4 ∷ negsuc 9 ∷ negsuc 3 ∷ pos 0 ∷ pos 6 ∷ negsuc 9 ∷ negsuc 5 ∷ pos 0 ∷ pos 6 ∷ negsuc 9 ∷ negsuc 5 ∷ pos 0 ∷ pos 6 ∷ negsuc 5 ∷ [];
   placings =
@@ -148,11 +148,11 @@ pub above-third-drawn : drawingOf above-third ≡ record {
       place 3 3 (at 5 (negsuc 3) ∷ []) ∷
       [];
 }
-unfolding passesOpen
+unfolding passes_open
 above-third-drawn = refl
 
-pub above-third-words : wordsHold above-third ≡ true
-unfolding passesOpen triedOpen
+pub above-third-words : words_hold above-third ≡ true
+unfolding passes_open tried_open
 above-third-words = refl
 
 -- Runs go from left to right.
@@ -165,7 +165,7 @@ left-to-right =
     (0 ∷ 0 ∷ 0 ∷ 1 ∷ 1 ∷ 1 ∷ 2 ∷ 3 ∷ 3 ∷ 3 ∷ []) (1 ∷ 2 ∷ 3 ∷ 4 ∷ 5 ∷ 6 ∷ 6 ∷ 4 ∷ 5 ∷ 6 ∷ [])
     (1 ∷ 1 ∷ 1 ∷ 1 ∷ 1 ∷ 1 ∷ 1 ∷ 1 ∷ 1 ∷ 1 ∷ [])
 
-pub left-to-right-drawn : drawingOf left-to-right ≡ record {
+pub left-to-right-drawn : drawing_of left-to-right ≡ record {
   preliminary = pos 0 ∷ negsuc 5 ∷ pos 0 ∷ pos 6 ∷ negsuc 9 ∷ negsuc 1 ∷ pos 6 ∷ [];
   final = pos 0 ∷ negsuc 5 ∷ pos 0 ∷ pos 6 ∷ negsuc 9 ∷ negsuc 1 ∷ pos 6 ∷ [];
   placings =
@@ -179,11 +179,11 @@ pub left-to-right-drawn : drawingOf left-to-right ≡ record {
       place 2 1 (at 0 (pos 0) ∷ []) ∷
       [];
 }
-unfolding passesOpen
+unfolding passes_open
 left-to-right-drawn = refl
 
-pub left-to-right-words : wordsHold left-to-right ≡ true
-unfolding passesOpen triedOpen
+pub left-to-right-words : words_hold left-to-right ≡ true
+unfolding passes_open tried_open
 left-to-right-words = refl
 
 -- A cable of one via whose two segments slant on one straight line does not bend.
@@ -196,7 +196,7 @@ slanting =
     (0 ∷ 0 ∷ 0 ∷ 1 ∷ 1 ∷ 2 ∷ 2 ∷ 2 ∷ 3 ∷ 4 ∷ 5 ∷ 5 ∷ 5 ∷ 6 ∷ 7 ∷ 8 ∷ []) (3 ∷ 4 ∷ 5 ∷ 5 ∷ 7 ∷ 5 ∷ 6 ∷ 8 ∷ 9 ∷ 11 ∷ 9 ∷ 10 ∷ 11 ∷ 10 ∷ 11 ∷ 11 ∷ [])
     (1 ∷ 1 ∷ 1 ∷ 1 ∷ 1 ∷ 1 ∷ 1 ∷ 1 ∷ 1 ∷ 1 ∷ 1 ∷ 1 ∷ 1 ∷ 1 ∷ 1 ∷ 1 ∷ [])
 
-pub slanting-drawn : drawingOf slanting ≡ record {
+pub slanting-drawn : drawing_of slanting ≡ record {
   preliminary = negsuc 5 ∷ pos 0 ∷ pos 6 ∷ negsuc 6 ∷ negsuc 4 ∷ negsuc 0 ∷ pos 3 ∷ pos 5 ∷ pos 7 ∷ negsuc 6 ∷ negsuc 0 ∷ pos 5 ∷ [];
   final = negsuc 4 ∷ pos 1 ∷ pos 7 ∷ negsuc 6 ∷ negsuc 4 ∷ negsuc 0 ∷ pos 3 ∷ pos 5 ∷ pos 7 ∷ negsuc 6 ∷ negsuc 0 ∷ pos 5 ∷ [];
   placings =
@@ -206,22 +206,22 @@ pub slanting-drawn : drawingOf slanting ≡ record {
       place 2 1 (at 0 (negsuc 4) ∷ at 1 (pos 1) ∷ at 2 (pos 7) ∷ []) ∷
       [];
 }
-unfolding passesOpen
+unfolding passes_open
 slanting-drawn = refl
 
-pub slanting-words : wordsHold slanting ≡ true
-unfolding passesOpen triedOpen
+pub slanting-words : words_hold slanting ≡ true
+unfolding passes_open tried_open
 slanting-words = refl
 
 pub slanting-bends :
-    map (bendsAt slanting (drawingOf slanting).final) (3 ∷ 4 ∷ 6 ∷ 7 ∷ 8 ∷ []) ≡ true ∷ true ∷ false ∷ true ∷ true ∷ []
-unfolding passesOpen
+    map (bends_at slanting (drawing_of slanting).final) (3 ∷ 4 ∷ 6 ∷ 7 ∷ 8 ∷ []) ≡ true ∷ true ∷ false ∷ true ∷ true ∷ []
+unfolding passes_open
 slanting-bends = refl
 
 -- "A heavy lead should be the straight one": a box with three feeds and three lamps. It stands below the first feed and, when pass 2
 -- goes by the level below, above the last lamp; were all ratings 1, as in `light`, it would stand in the middle.
-abbrev feedsAndLamps : List ℕ → PlanData
-feedsAndLamps ratings =
+abbrev feeds_and_lamps : List ℕ → PlanData
+feeds_and_lamps ratings =
     data_of 3 1 10
     (3 ∷ 1 ∷ 3 ∷ [])
     (false ∷ false ∷ false ∷ false ∷ false ∷ false ∷ false ∷ [])
@@ -230,9 +230,9 @@ feedsAndLamps ratings =
     ratings
 
 abbrev pub heavy : PlanData
-heavy = feedsAndLamps (3 ∷ 1 ∷ 1 ∷ 1 ∷ 1 ∷ 3 ∷ [])
+heavy = feeds_and_lamps (3 ∷ 1 ∷ 1 ∷ 1 ∷ 1 ∷ 3 ∷ [])
 
-pub heavy-drawn : drawingOf heavy ≡ record {
+pub heavy-drawn : drawing_of heavy ≡ record {
   preliminary = negsuc 5 ∷ pos 0 ∷ pos 6 ∷ pos 0 ∷ negsuc 5 ∷ pos 0 ∷ pos 6 ∷ [];
   final = negsuc 5 ∷ pos 0 ∷ pos 6 ∷ negsuc 5 ∷ negsuc 17 ∷ negsuc 11 ∷ negsuc 5 ∷ [];
   placings =
@@ -244,16 +244,16 @@ pub heavy-drawn : drawingOf heavy ≡ record {
       place 2 1 (at 0 (negsuc 5) ∷ at 1 (pos 0) ∷ at 2 (pos 6) ∷ []) ∷
       [];
 }
-unfolding passesOpen
+unfolding passes_open
 heavy-drawn = refl
 
-pub heavy-words : wordsHold heavy ≡ true
-unfolding passesOpen triedOpen
+pub heavy-words : words_hold heavy ≡ true
+unfolding passes_open tried_open
 heavy-words = refl
 
 abbrev pub light : PlanData
-light = feedsAndLamps (1 ∷ 1 ∷ 1 ∷ 1 ∷ 1 ∷ 1 ∷ [])
+light = feeds_and_lamps (1 ∷ 1 ∷ 1 ∷ 1 ∷ 1 ∷ 1 ∷ [])
 
-pub light-final : (drawingOf light).final ≡ negsuc 5 ∷ pos 0 ∷ pos 6 ∷ pos 0 ∷ negsuc 5 ∷ pos 0 ∷ pos 6 ∷ []
-unfolding passesOpen
+pub light-final : (drawing_of light).final ≡ negsuc 5 ∷ pos 0 ∷ pos 6 ∷ pos 0 ∷ negsuc 5 ∷ pos 0 ∷ pos 6 ∷ []
+unfolding passes_open
 light-final = refl

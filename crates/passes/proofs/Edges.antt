@@ -8,7 +8,7 @@ use native.Mathlib.Omega.{arith}
 use lib.IntN.{ℤ}
 use Rattle.ints.specs.Ints.{◌⊑◌}
 use Rattle.plan.specs.Plan.{PlanData}
-use Rattle.passes.specs.Runs.{Run, bothVias, isBounded}
+use Rattle.passes.specs.Runs.{Run, both_vias, is_bounded}
 use Rattle.passes.specs.State.{State, position_of, put}
 use Rattle.plan.proofs.All.{no_true}
 use Rattle.passes.specs.inner.Runs.{LeftEnd, no-left, via-left, RightEnd, no-right, via-right, IsRun}
@@ -30,12 +30,12 @@ pub record Ends (a b : Option ℕ) : Type 0 where
   pub left_is : a ≡ some left
   pub right_is : b ≡ some right
 
-both_ends : (a b : Option ℕ) → bothVias a b ≡ true → Ends a b
+both_ends : (a b : Option ℕ) → both_vias a b ≡ true → Ends a b
 both_ends none b e = no_true e
 both_ends (some v) none e = no_true e
 both_ends (some v) (some w) e = record { left = v; right = w; left_is = refl; right_is = refl }
 
-pub bounded-ends : (r : Run) → isBounded r ≡ true → Ends r.left r.right
+pub bounded-ends : (r : Run) → is_bounded r ≡ true → Ends r.left r.right
 bounded-ends r e = both_ends r.left r.right e
 
 -- ---- where a box may stand

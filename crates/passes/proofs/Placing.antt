@@ -15,20 +15,20 @@ use Rattle.ints.proofs.Laws.{dif, apart, cases, if-ind}
 use Rattle.ints.proofs.Tests.{and_left, and_right, ◌and◌}
 use Rattle.run.specs.Words.{Optimal}
 use Rattle.run.proofs.Optimal.{place-run-optimal, place-run-length}
-use Rattle.plan.specs.Plan.{PlanData, vertexCount}
+use Rattle.plan.specs.Plan.{PlanData, vertex_count}
 use Rattle.ints.specs.Lists.{sum}
-use Rattle.passes.specs.Runs.{Run, members, asList, isOpen}
-use Rattle.passes.specs.State.{State, position_of, put, takeOn, doubled}
-use Rattle.passes.specs.Passes.{bound_at, distanceFrom, boxesAt, placed, after}
-use Rattle.passes.specs.Words.{farApart}
+use Rattle.passes.specs.Runs.{Run, members, as_list, is_open}
+use Rattle.passes.specs.State.{State, position_of, put, take_on, doubled}
+use Rattle.passes.specs.Passes.{bound_at, distance_from, boxes_at, placed, after}
+use Rattle.passes.specs.Words.{far_apart}
 use Rattle.plan.proofs.All.{All}
 use Rattle.plan.proofs.Levels.{length-numbers, all-numbers, level-on, Side}
 use Rattle.plan.specs.inner.Levels.{On}
 use Rattle.passes.proofs.Sound.{Sound}
 use Rattle.passes.specs.inner.Runs.{LeftEnd, no-left, via-left, RightEnd, no-right, via-right, IsRun}
 use Rattle.passes.proofs.RunsOn.{bounds, members-are}
-use Rattle.passes.proofs.Put.{length-put, length-takeOn, take_out, take_in}
-use Rattle.passes.proofs.Spaced.{possible, inForce, Apart, far-points, points_far, placement-is, standing-is, isPlacementIn, SpacedAt, length-boxesAt, put-still}
+use Rattle.passes.proofs.Put.{length-put, length-take_on, take_out, take_in}
+use Rattle.passes.proofs.Spaced.{possible, in_force, Apart, far-points, points_far, placement-is, standing-is, is_placement_in, SpacedAt, length-boxes_at, put-still}
 use Rattle.passes.proofs.Invariant.{Inv, near-order}
 
 -- ---- the run's own siblings
@@ -66,30 +66,30 @@ module _ {p : PlanData} {r : Run} (i : IsRun p r) where
 module _ {p : PlanData} (so : Sound p) {s : State} (inv : Inv p s) {r : Run} (i : IsRun p r) where
   -- members stand so far apart, where the boxes are put at ys
   pub placement-points : (q : ℕ) (ys : List ℤ)
-      → isPlacementIn p q s r ys ≡ true → (length ys ≡ i.count) × SpacedAt i s ys
+      → is_placement_in p q s r ys ≡ true → (length ys ≡ i.count) × SpacedAt i s ys
   placement-points q ys e = let f = sym (placement-is i q s ys) ∙ e in let l = eqb-true (length ys) (length r.boxes) (and_left _ _ f) ∙ boxes-length i in let b = bounds i in
       let h : i.high ≤ length s.at = omega (arith, so.total, inv.at_length, b.all) in
       let g = and_right (eqb (length ys) (length r.boxes)) _ f in
-      let k : farApart (inForce s.apart (members r)) (map (position_of (put r.boxes ys s.at)) (members r)) ≡ true = rw (standing-is i s.at ys h l) at g in
+      let k : far_apart (in_force s.apart (members r)) (map (position_of (put r.boxes ys s.at)) (members r)) ≡ true = rw (standing-is i s.at ys h l) at g in
       (l, λ v m n. far-points (position_of (put r.boxes ys s.at)) s.apart i.low (i.high - i.low) (rw (members-are i) at k) v m (omega arith))
 
   -- where it stands is a placement
-  pub stands : (q : ℕ) → isPlacementIn p q s r (map (position_of s.at) r.boxes) ≡ true
+  pub stands : (q : ℕ) → is_placement_in p q s r (map (position_of s.at) r.boxes) ≡ true
   stands q = let b = bounds i in let f = position_of s.at in
       placement-is i q s (map f r.boxes) ∙ ◌and◌ (eq-eqb _ _ (length-map r.boxes f))
-      (ap (farApart (inForce s.apart (members r))) (sym (map-append f (asList r.left ++ r.boxes) (asList r.right) ∙ ap (λ (l : List ℤ). l ++ map f (asList r.right)) (map-append f (asList r.left) r.boxes)))
+      (ap (far_apart (in_force s.apart (members r))) (sym (map-append f (as_list r.left ++ r.boxes) (as_list r.right) ∙ ap (λ (l : List ℤ). l ++ map f (as_list r.right)) (map-append f (as_list r.left) r.boxes)))
       ∙ rw (members-are i) (points_far f s.apart i.low (i.high - i.low) (λ v h k. inv.spaced v (side-of i v h (omega arith)))))
 
-  pub placed-optimal : (q : ℕ) → Optimal (bound_at s.at r.left) (distanceFrom s.apart r.left) (boxesAt p q s r.boxes) (bound_at s.at r.right) (placed p q s r)
+  pub placed-optimal : (q : ℕ) → Optimal (bound_at s.at r.left) (distance_from s.apart r.left) (boxes_at p q s r.boxes) (bound_at s.at r.right) (placed p q s r)
   unfolding placed
-  placed-optimal q = place-run-optimal (bound_at s.at r.left) (distanceFrom s.apart r.left) (boxesAt p q s r.boxes) (bound_at s.at r.right)
+  placed-optimal q = place-run-optimal (bound_at s.at r.left) (distance_from s.apart r.left) (boxes_at p q s r.boxes) (bound_at s.at r.right)
       (near-order inv so q (subst (λ n. All (λ v. v < n) r.boxes) so.total (boxes-within i)))
-      (possible (bound_at s.at r.left) (distanceFrom s.apart r.left) (boxesAt p q s r.boxes) (bound_at s.at r.right) (map (position_of s.at) r.boxes) (stands q))
+      (possible (bound_at s.at r.left) (distance_from s.apart r.left) (boxes_at p q s r.boxes) (bound_at s.at r.right) (map (position_of s.at) r.boxes) (stands q))
 
 pub placed-length : {p : PlanData} (q : ℕ) (s : State) {r : Run} (i : IsRun p r) → length (placed p q s r) ≡ i.count
 unfolding placed
-placed-length {p} q s {r} i = place-run-length (bound_at s.at r.left) (distanceFrom s.apart r.left) (boxesAt p q s r.boxes) (bound_at s.at r.right)
-    ∙ length-boxesAt p q s r.boxes ∙ boxes-length i
+placed-length {p} q s {r} i = place-run-length (bound_at s.at r.left) (distance_from s.apart r.left) (boxes_at p q s r.boxes) (bound_at s.at r.right)
+    ∙ length-boxes_at p q s r.boxes ∙ boxes-length i
 
 -- ---- the invariant afterwards
 module _ {p : PlanData} (so : Sound p) {s : State} (inv : Inv p s) {r : Run} (i : IsRun p r) (ys : List ℤ) (l : length ys ≡ i.count) (far : SpacedAt i s ys) where
@@ -104,11 +104,11 @@ module _ {p : PlanData} (so : Sound p) {s : State} (inv : Inv p s) {r : Run} (i 
       rw (e, f) (inv.spaced v d)
 
   taken : List ℕ
-  taken = takeOn now (members r) s.apart
+  taken = take_on now (members r) s.apart
 
   taken_in : (v : ℕ) → i.low ≤ v → suc v < i.high → get_or taken v 0 ≡ P (position_of now (suc v) -ℤ position_of now v)
   unfolding taken
-  taken_in v h k = rw (members-are i) (take_in now i.low (i.high - i.low) s.apart v h (omega arith) (omega (arith, inv.apart-length, so.total, (bounds i).all)))
+  taken_in v h k = rw (members-are i) (take_in now i.low (i.high - i.low) s.apart v h (omega arith) (omega (arith, inv.apart_length, so.total, (bounds i).all)))
 
   taken_out : (v : ℕ) → (i.low ≤ v → suc v < i.high → ⊥) → get_or taken v 0 ≡ get_or s.apart v 0
   unfolding taken
@@ -131,10 +131,10 @@ module _ {p : PlanData} (so : Sound p) {s : State} (inv : Inv p s) {r : Run} (i 
 
   pub keeps : (q : ℕ) → Inv p (after q r ys s)
   unfolding after now taken
-  keeps q = let e : length now ≡ vertexCount p = length-put r.boxes ys s.at ∙ inv.at_length in
-      if-ind (isOpen r) taken s.apart (λ ds. Inv p (record { at = now; apart = ds; trace = s.trace ++ (record { pass = q; level = r.level; ordinal = r.ordinal; positions = ys } ∷ []) }))
-      (λ t. record { at_length = e; apart-length = length-takeOn now (members r) s.apart ∙ inv.apart-length; spaced = λ v d. (spaced-taken v d).0; wide = λ v d. (spaced-taken v d).1 })
-      (λ t. record { at_length = e; apart-length = inv.apart-length; spaced = spaced-now; wide = inv.wide })
+  keeps q = let e : length now ≡ vertex_count p = length-put r.boxes ys s.at ∙ inv.at_length in
+      if-ind (is_open r) taken s.apart (λ ds. Inv p (record { at = now; apart = ds; trace = s.trace ++ (record { pass = q; level = r.level; ordinal = r.ordinal; positions = ys } ∷ []) }))
+      (λ t. record { at_length = e; apart_length = length-take_on now (members r) s.apart ∙ inv.apart_length; spaced = λ v d. (spaced-taken v d).0; wide = λ v d. (spaced-taken v d).1 })
+      (λ t. record { at_length = e; apart_length = inv.apart_length; spaced = spaced-now; wide = inv.wide })
 
 pub place-keeps : {p : PlanData} → Sound p → {s : State} → Inv p s → (q : ℕ) {r : Run} → IsRun p r → Inv p (after q r (placed p q s r) s)
 place-keeps {p} so {s} inv q {r} i = let o = placement-points so inv i q (placed p q s r) (placed-optimal so inv i q).placement in keeps so inv i (placed p q s r) o.0 o.1 q

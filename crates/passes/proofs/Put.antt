@@ -9,7 +9,7 @@ use lib.IntN.{ℤ, pos, ◌-ℤ◌}
 use Rattle.ints.specs.Ints.{P}
 use Rattle.ints.proofs.Laws.{cases}
 use Rattle.plan.specs.Plan.{numbers}
-use Rattle.passes.specs.State.{position_of, put, takeOn}
+use Rattle.passes.specs.State.{position_of, put, take_on}
 
 pub length-put : (vs : List ℕ) (ys xs : List ℤ) → length (put vs ys xs) ≡ length xs
 unfolding put
@@ -47,22 +47,22 @@ pub map-put : (a m : ℕ) (ys xs : List ℤ) → a + m ≤ length xs → length 
 map-put a m ys xs h e = map_get (position_of (put (numbers a m) ys xs)) a m ys e (λ i j. put_in a m ys xs i h e j)
 
 -- ---- distances
-pub length-takeOn : (xs : List ℤ) (vs ds : List ℕ) → length (takeOn xs vs ds) ≡ length ds
-unfolding takeOn
-length-takeOn xs [] ds = refl
-length-takeOn xs (v ∷ []) ds = refl
-length-takeOn xs (v ∷ w ∷ ws) ds = length-takeOn xs (w ∷ ws) (set ds v (P (position_of xs w -ℤ position_of xs v))) ∙ length-set ds v _
+pub length-take_on : (xs : List ℤ) (vs ds : List ℕ) → length (take_on xs vs ds) ≡ length ds
+unfolding take_on
+length-take_on xs [] ds = refl
+length-take_on xs (v ∷ []) ds = refl
+length-take_on xs (v ∷ w ∷ ws) ds = length-take_on xs (w ∷ ws) (set ds v (P (position_of xs w -ℤ position_of xs v))) ∙ length-set ds v _
 
-pub take_out : (xs : List ℤ) (a n : ℕ) (ds : List ℕ) (v : ℕ) → (a ≤ v → suc v < a + n → ⊥) → get_or (takeOn xs (numbers a n) ds) v 0 ≡ get_or ds v 0
-unfolding takeOn numbers
+pub take_out : (xs : List ℤ) (a n : ℕ) (ds : List ℕ) (v : ℕ) → (a ≤ v → suc v < a + n → ⊥) → get_or (take_on xs (numbers a n) ds) v 0 ≡ get_or ds v 0
+unfolding take_on numbers
 take_out xs a zero ds v h = refl
 take_out xs a (suc zero) ds v h = refl
 take_out xs a (suc (suc n)) ds v h = take_out xs (a + 1) (suc n) (set ds a (P (position_of xs (a + 1) -ℤ position_of xs a))) v (λ i j. h (omega arith) (omega arith))
     ∙ get_or-set_other ds a v _ 0 (λ e. h (omega arith) (omega arith))
 
 pub take_in : (xs : List ℤ) (a n : ℕ) (ds : List ℕ) (v : ℕ) → a ≤ v → suc v < a + n → v < length ds
-    → get_or (takeOn xs (numbers a n) ds) v 0 ≡ P (position_of xs (suc v) -ℤ position_of xs v)
-unfolding takeOn numbers
+    → get_or (take_on xs (numbers a n) ds) v 0 ≡ P (position_of xs (suc v) -ℤ position_of xs v)
+unfolding take_on numbers
 take_in xs a zero ds v h k j = absurd (omega arith)
 take_in xs a (suc zero) ds v h k j = absurd (omega arith)
 take_in xs a (suc (suc n)) ds v h k j = let d = P (position_of xs (a + 1) -ℤ position_of xs a) in cases v a

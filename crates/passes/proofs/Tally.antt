@@ -8,55 +8,55 @@ use native.Mathlib.Omega.{arith}
 use lib.ListN.{length, length-append, length-map, length-reverse}
 use Rattle.plan.specs.Plan.{PlanData, numbers}
 use Rattle.ints.proofs.Lists.{take_more}
-use Rattle.passes.specs.Runs.{Run, runsOn, runsOfLevels, runsOf}
+use Rattle.passes.specs.Runs.{Run, runs_on, runs_of_levels, runs_of}
 use Rattle.plan.proofs.All.{All, all_nil, all_cons}
 use Rattle.plan.proofs.Levels.{length-numbers, first-suc, size-suc, level-within}
-use Rattle.plan.specs.inner.Levels.{firstOn, sizeOn}
+use Rattle.plan.specs.inner.Levels.{first_on, size_on}
 use Rattle.passes.proofs.Sound.{Sound}
 use Rattle.passes.proofs.RunsOn.{RunsTo, last, next, level-runs, runs-length}
-use Rattle.passes.specs.inner.Schedule.{visitOf, passVisits, firstPass, secondPass}
+use Rattle.passes.specs.inner.Schedule.{visit_of, pass_visits, first_pass, second_pass}
 
 -- ---- sums over levels
-unfoldable pub sumOver : (ℕ → ℕ) → List ℕ → ℕ
-sumOver f [] = 0
-sumOver f (l ∷ ls) = f l + sumOver f ls
+unfoldable pub sum_over : (ℕ → ℕ) → List ℕ → ℕ
+sum_over f [] = 0
+sum_over f (l ∷ ls) = f l + sum_over f ls
 
-sum-append : (f : ℕ → ℕ) (ls ms : List ℕ) → sumOver f (ls ++ ms) ≡ sumOver f ls + sumOver f ms
-unfolding sumOver
+sum-append : (f : ℕ → ℕ) (ls ms : List ℕ) → sum_over f (ls ++ ms) ≡ sum_over f ls + sum_over f ms
+unfolding sum_over
 sum-append f [] ms = omega arith
 sum-append f (l ∷ ls) ms = omega (arith, sum-append f ls ms)
 
-sum-reverse : (f : ℕ → ℕ) (ls : List ℕ) → sumOver f (reverse ls) ≡ sumOver f ls
-unfolding sumOver
+sum-reverse : (f : ℕ → ℕ) (ls : List ℕ) → sum_over f (reverse ls) ≡ sum_over f ls
+unfolding sum_over
 sum-reverse f [] = refl
-sum-reverse f (l ∷ ls) = ap (sumOver f) (reverse-cons l ls) ∙ omega (arith, sum-append f (reverse ls) (l ∷ []), sum-reverse f ls)
+sum-reverse f (l ∷ ls) = ap (sum_over f) (reverse-cons l ls) ∙ omega (arith, sum-append f (reverse ls) (l ∷ []), sum-reverse f ls)
 
-next-first : (p : PlanData) (k : ℕ) → firstOn p (suc (suc k)) ≡ firstOn p (suc k) + sizeOn p (suc k)
+next-first : (p : PlanData) (k : ℕ) → first_on p (suc (suc k)) ≡ first_on p (suc k) + size_on p (suc k)
 next-first p k = omega (arith, first-suc p (suc k), first-suc p k, size-suc p k, take_more p.sizes k)
 
-sum-sizes : (p : PlanData) (k n : ℕ) → sumOver (sizeOn p) (numbers (suc k) n) + firstOn p (suc k) ≡ firstOn p (suc (k + n))
-unfolding sumOver numbers
-sum-sizes p k zero = let e : suc (k + 0) ≡ suc k = omega arith in omega (arith, ap (firstOn p) e)
+sum-sizes : (p : PlanData) (k n : ℕ) → sum_over (size_on p) (numbers (suc k) n) + first_on p (suc k) ≡ first_on p (suc (k + n))
+unfolding sum_over numbers
+sum-sizes p k zero = let e : suc (k + 0) ≡ suc k = omega arith in omega (arith, ap (first_on p) e)
 sum-sizes p k (suc n) = let e : suc (k + suc n) ≡ suc (suc k + n) = omega arith in let f : suc k + 1 ≡ suc (suc k) = omega arith in
-    omega (arith, ap (firstOn p) e, ap (λ l. sumOver (sizeOn p) (numbers l n)) f, sum-sizes p (suc k) n, next-first p k)
+    omega (arith, ap (first_on p) e, ap (λ l. sum_over (size_on p) (numbers l n)) f, sum-sizes p (suc k) n, next-first p k)
 
-pub sizes-total : {p : PlanData} → Sound p → sumOver (sizeOn p) (numbers 1 p.levels) ≤ 1024
+pub sizes-total : {p : PlanData} → Sound p → sum_over (size_on p) (numbers 1 p.levels) ≤ 1024
 sizes-total {p} so = omega (arith, sum-sizes p 0 p.levels, level-within p (suc (0 + p.levels)), so.total, so.vertices)
 
 -- ---- visits
-visits-length : (p : PlanData) (q : ℕ) (ls : List ℕ) → length (passVisits p q ls) ≤ sumOver (sizeOn p) ls + length ls
-unfolding passVisits sumOver
+visits-length : (p : PlanData) (q : ℕ) (ls : List ℕ) → length (pass_visits p q ls) ≤ sum_over (size_on p) ls + length ls
+unfolding pass_visits sum_over
 visits-length p q [] = omega arith
-visits-length p q (l ∷ ls) = omega (arith, length-append (map (visitOf q) (runsOn p l)) (passVisits p q ls), length-map (runsOn p l) (visitOf q), runs-length p l, visits-length p q ls)
+visits-length p q (l ∷ ls) = omega (arith, length-append (map (visit_of q) (runs_on p l)) (pass_visits p q ls), length-map (runs_on p l) (visit_of q), runs-length p l, visits-length p q ls)
 
-pub first-length : {p : PlanData} → Sound p → length (firstPass p) ≤ 1088
-unfolding firstPass
+pub first-length : {p : PlanData} → Sound p → length (first_pass p) ≤ 1088
+unfolding first_pass
 first-length {p} so = let d = numbers 1 p.levels in omega (arith, visits-length p 1 d, sizes-total so, length-numbers 1 p.levels, so.levels)
 
-pub second-length : {p : PlanData} → Sound p → length (secondPass p) ≤ 1088
-unfolding secondPass
+pub second-length : {p : PlanData} → Sound p → length (second_pass p) ≤ 1088
+unfolding second_pass
 second-length {p} so = let d = numbers 1 p.levels in
-    omega (arith, visits-length p 2 (reverse d), sum-reverse (sizeOn p) d, length-reverse d, sizes-total so, length-numbers 1 p.levels, so.levels)
+    omega (arith, visits-length p 2 (reverse d), sum-reverse (size_on p) d, length-reverse d, sizes-total so, length-numbers 1 p.levels, so.levels)
 
 -- ---- boxes of all runs, each so often
 unfoldable pub weigh : (Run → ℕ) → List Run → ℕ
@@ -94,11 +94,11 @@ unfolding weigh
 level-boxes (last {first = first} n e q) = omega (arith, length-numbers first n)
 level-boxes (next {first = first} n v e f q t more) = omega (arith, length-numbers first n, level-boxes more)
 
-boxes-levels : (p : PlanData) (ls : List ℕ) → weigh (λ r. 1) (runsOfLevels p ls) ≤ sumOver (sizeOn p) ls
-unfolding runsOfLevels sumOver weigh
+boxes-levels : (p : PlanData) (ls : List ℕ) → weigh (λ r. 1) (runs_of_levels p ls) ≤ sum_over (size_on p) ls
+unfolding runs_of_levels sum_over weigh
 boxes-levels p [] = omega arith
-boxes-levels p (l ∷ ls) = omega (arith, weigh-append (λ r. 1) (runsOn p l) (runsOfLevels p ls), level-boxes (level-runs p l), boxes-levels p ls)
+boxes-levels p (l ∷ ls) = omega (arith, weigh-append (λ r. 1) (runs_on p l) (runs_of_levels p ls), level-boxes (level-runs p l), boxes-levels p ls)
 
-pub boxes-total : {p : PlanData} → Sound p → weigh (λ r. 1) (runsOf p) ≤ 1024
-unfolding runsOf
+pub boxes-total : {p : PlanData} → Sound p → weigh (λ r. 1) (runs_of p) ≤ 1024
+unfolding runs_of
 boxes-total {p} so = omega (arith, boxes-levels p (numbers 1 p.levels), sizes-total so)

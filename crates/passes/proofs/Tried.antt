@@ -7,29 +7,29 @@ use Rattle.plan.specs.Plan.{PlanData, numbers}
 use Rattle.plan.specs.Checks.{every}
 use Rattle.passes.specs.State.{Step}
 use Rattle.passes.specs.Ready.{equals}
-use Rattle.passes.specs.Drawing.{traceOf, drawingOf}
-use Rattle.passes.specs.Words.{finished, keepsOrder, innerUpright, bendsAtMostTwice, placedAsDue, stepAt, isPlacementThen, drawingWithin}
+use Rattle.passes.specs.Drawing.{trace_of, drawing_of}
+use Rattle.passes.specs.Words.{finished, keeps_order, inner_upright, bends_at_most_twice, placed_as_due, step_at, is_placement_then, drawing_within}
 
-unfoldable pub sameAll : List ℤ → List ℤ → Bool
-sameAll [] [] = true
-sameAll [] (y ∷ ys) = false
-sameAll (x ∷ xs) [] = false
-sameAll (x ∷ xs) (y ∷ ys) =
-    let more = sameAll xs ys in
+unfoldable pub same_all : List ℤ → List ℤ → Bool
+same_all [] [] = true
+same_all [] (y ∷ ys) = false
+same_all (x ∷ xs) [] = false
+same_all (x ∷ xs) (y ∷ ys) =
+    let more = same_all xs ys in
     cond (equals (x -ℤ y) 0) more false
 
-unfoldable pub placementsHold : PlanData → List Step → Bool
-placementsHold p trace = every (λ i. isPlacementThen p trace i (stepAt trace i).positions) (numbers 0 (length trace))
+unfoldable pub placements_hold : PlanData → List Step → Bool
+placements_hold p trace = every (λ i. is_placement_then p trace i (step_at trace i).positions) (numbers 0 (length trace))
 
-unfoldable pub wordsHold : PlanData → Bool
-wordsHold p =
-    let d = drawingOf p in
-    let trace = traceOf p in
+unfoldable pub words_hold : PlanData → Bool
+words_hold p =
+    let d = drawing_of p in
+    let trace = trace_of p in
     let xs = d.final in
-    sameAll xs (finished p trace) && keepsOrder p xs && innerUpright p xs && bendsAtMostTwice p xs && placedAsDue p trace
-    && placementsHold p trace && drawingWithin d
+    same_all xs (finished p trace) && keeps_order p xs && inner_upright p xs && bends_at_most_twice p xs && placed_as_due p trace
+    && placements_hold p trace && drawing_within d
 
--- Named on an `unfolding` line beside `passesOpen`, it opens the definitions of this file.
-unfoldable pub triedOpen : Unit {0}
-unfolding sameAll placementsHold wordsHold
-triedOpen = tt
+-- Named on an `unfolding` line beside `passes_open`, it opens the definitions of this file.
+unfoldable pub tried_open : Unit {0}
+unfolding same_all placements_hold words_hold
+tried_open = tt

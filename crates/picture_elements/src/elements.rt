@@ -2,7 +2,7 @@
 ghost use Rattle.std.specs.Prelude.{◌≤◌};
 ghost use Rattle.marks.specs.Marks.{box, bend, line};
 ghost use Rattle.text_write.specs.inner.Written.{Room, Wrote};
-ghost use Rattle.picture_elements.specs.Elements.{penOf, line_of, bendOf, rectOf, boxOf};
+ghost use Rattle.picture_elements.specs.Elements.{pen_of, line_of, bend_of, rect_of, box_of};
 ghost use Rattle.picture_elements.specs.inner.Near.{Near, Pen, NearVertex, NearBox};
 
 use ints::minus;
@@ -13,8 +13,8 @@ use text_write::number::{put_decimal, put_then, put_word};
 
 // The pen of a line with this rating.
 fn put_pen(out: &mut [u8], at: usize, measure: u32, rating: u32) -> usize
-    requires { Pen measure rating × Room (penOf measure rating) out.old at }
-    ensures { Wrote (penOf measure rating) out.old at result out.new }
+    requires { Pen measure rating × Room (pen_of measure rating) out.old at }
+    ensures { Wrote (pen_of measure rating) out.old at result out.new }
 {
     if rating == 1 {
         return at;
@@ -47,8 +47,8 @@ pub fn put_line(
 
 // The bend of vertex n.
 pub fn put_bend(out: &mut [u8], at: usize, measure: u32, n: usize, x: i64, y: u64) -> usize
-    requires { NearVertex measure n x y × Room (bendOf measure n (bend x y)) out.old at }
-    ensures { Wrote (bendOf measure n (bend x y)) out.old at result out.new }
+    requires { NearVertex measure n x y × Room (bend_of measure n (bend x y)) out.old at }
+    ensures { Wrote (bend_of measure n (bend x y)) out.old at result out.new }
 {
     let id = put_word(out, at, b"<circle id=\"v");
     let cx = put_decimal(out, id, n as u64);
@@ -60,8 +60,8 @@ pub fn put_bend(out: &mut [u8], at: usize, measure: u32, n: usize, x: i64, y: u6
 
 // The rectangle of a box.
 pub fn put_rect(out: &mut [u8], at: usize, measure: u32, x: i64, y: u64, half: u16) -> usize
-    requires { Near x y × (measure ≤ 10000) × (half ≤ 200) × Room (rectOf measure x y half) out.old at }
-    ensures { Wrote (rectOf measure x y half) out.old at result out.new }
+    requires { Near x y × (measure ≤ 10000) × (half ≤ 200) × Room (rect_of measure x y half) out.old at }
+    ensures { Wrote (rect_of measure x y half) out.old at result out.new }
 {
     let u = measure as u64;
     let w = half as u64;
@@ -86,8 +86,8 @@ pub fn put_box(
     y: u64,
     half: u16,
 ) -> usize
-    requires { NearBox measure n x y half × Room (boxOf measure name.now n (box x y half)) out.old at }
-    ensures { Wrote (boxOf measure name.now n (box x y half)) out.old at result out.new }
+    requires { NearBox measure n x y half × Room (box_of measure name.now n (box x y half)) out.old at }
+    ensures { Wrote (box_of measure name.now n (box x y half)) out.old at result out.new }
 {
     let a = put_word(out, at, b"<g id=\"v");
     let b = put_then(out, a, n as u64, b"\"><title>");

@@ -13,8 +13,8 @@ use Rattle.plan.proofs.Levels.{length-numbers}
 use Rattle.text_write.specs.inner.Written.{Room, Wrote}
 use Rattle.text_write.proofs.Written.{wrote-long, front_of}
 use Rattle.picture_names.specs.inner.Indexed.{name_at}
-use Rattle.picture_marks.specs.Picture.{pictureOf}
-use Rattle.picture_marks.specs.inner.Asked.{namesIn, PictureAsked, maxPicture}
+use Rattle.picture_marks.specs.Picture.{picture_of}
+use Rattle.picture_marks.specs.inner.Asked.{names_in, PictureAsked, max_picture}
 use Rattle.picture_marks.proofs.Lengths.{picture-short}
 use Rattle.picture_fit.specs.declared.types.PictureAnswer.TheVariants.{Written, Refused}
 use Rattle.picture_fit.specs.Fitted.{fitted, Leaves}
@@ -31,11 +31,11 @@ fits {w} {o} {out} {n} h k =
 
 -- no picture is longer than the longest
 module _ (p : PlanData) (xs : List ℤ) (text starts ends : List ℕ) where
-  pub asked-short : PictureAsked p xs text starts ends → sum (map length (namesIn text starts ends (length p.vias))) ≤ 65536
-      → length (pictureOf p xs (namesIn text starts ends (length p.vias))) ≤ maxPicture
+  pub asked-short : PictureAsked p xs text starts ends → sum (map length (names_in text starts ends (length p.vias))) ≤ 65536
+      → length (picture_of p xs (names_in text starts ends (length p.vias))) ≤ max_picture
   asked-short a short =
       let n = length p.vias in
-      picture-short p xs (namesIn text starts ends n) a.drawn (length-map (numbers 0 n) (name_at text starts ends) ∙ length-numbers 0 n) short
+      picture-short p xs (names_in text starts ends n) a.drawn (length-map (numbers 0 n) (name_at text starts ends) ∙ length-numbers 0 n) short
 
 -- a buffer with room for it, and what was written there
 pub enough : (w o : List ℕ) (k : ℕ) → length w ≤ k → length o ≡ k → Room w o 0

@@ -13,8 +13,8 @@ pub record Left : Type 0 where
 abbrev pub refuses : ℕ → List ℕ → Left
 refuses n o = record { answer = Refused n; buffer = o }
 
-abbrev pub refusesNames : ℕ → List ℕ → Left
-refusesNames line o = record { answer = BadNames line; buffer = o }
+abbrev pub refuses_names : ℕ → List ℕ → Left
+refuses_names line o = record { answer = BadNames line; buffer = o }
 
 unfoldable pub fitted : List ℕ → List ℕ → Left
 fitted w o =

@@ -1,9 +1,9 @@
 // A picture in a lent buffer, if the buffer has room for it; else 14.
 ghost use Rattle.std.specs.Prelude.{◌≤◌, map, length};
-ghost use Rattle.plan.specs.inner.Held.{heldPlan};
+ghost use Rattle.plan.specs.inner.Held.{held_plan};
 ghost use Rattle.ints.specs.Lists.{sum};
-ghost use Rattle.picture_marks.specs.Picture.{pictureOf};
-ghost use Rattle.picture_marks.specs.inner.Asked.{namesIn, PictureAsked};
+ghost use Rattle.picture_marks.specs.Picture.{picture_of};
+ghost use Rattle.picture_marks.specs.inner.Asked.{names_in, PictureAsked};
 ghost use Rattle.picture_fit.specs.Fitted.{fitted, Leaves};
 
 use crate::types::PictureAnswer;
@@ -45,10 +45,10 @@ pub fn fit_picture(
     ends: &[u32],
     out: &mut [u8],
 ) -> PictureAnswer
-    requires { PictureAsked (heldPlan gap spacing sizes.now vias.now halves.now uppers.now lowers.now ratings.now) finals.now names.now starts.now ends.now
-        × (sum (map length (namesIn names.now starts.now ends.now (length vias.now))) ≤ 65536) }
-    ensures { Leaves (fitted (pictureOf (heldPlan gap spacing sizes.now vias.now halves.now uppers.now lowers.now
-        ratings.now) finals.now (namesIn names.now starts.now ends.now (length vias.now)))
+    requires { PictureAsked (held_plan gap spacing sizes.now vias.now halves.now uppers.now lowers.now ratings.now) finals.now names.now starts.now ends.now
+        × (sum (map length (names_in names.now starts.now ends.now (length vias.now))) ≤ 65536) }
+    ensures { Leaves (fitted (picture_of (held_plan gap spacing sizes.now vias.now halves.now uppers.now lowers.now
+        ratings.now) finals.now (names_in names.now starts.now ends.now (length vias.now)))
         out.old) result out.new }
 {
     if out.len() < MAX_PICTURE {

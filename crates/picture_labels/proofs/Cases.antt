@@ -7,21 +7,21 @@ use Rattle.text.specs.Bytes.{bytes}
 use Rattle.text.specs.Decimal.{decimal, digits}
 use Rattle.script_words.specs.Parts.{parts}
 use Rattle.picture_numbers.specs.Thousandths.{places, fraction, amount, thousandths, across, down}
-use Rattle.picture_rows.specs.Escape.{escapedByte, escaped}
-use Rattle.picture_rows.specs.Rows.{columnsOf, columns, widest, last_of, longest, cutEnd, rows}
-use Rattle.picture_labels.specs.Label.{offset, start_of, elementOf, sign, elements, numberSize, nameSize, rows_of, label_of}
+use Rattle.picture_rows.specs.Escape.{escaped_byte, escaped}
+use Rattle.picture_rows.specs.Rows.{columns_of, columns, widest, last_of, longest, cut_end, rows}
+use Rattle.picture_labels.specs.Label.{offset, start_of, element_of, sign, elements, number_size, name_size, rows_of, label_of}
 
 -- all that a label rests on
-unfoldable numbersOpened : Unit {0}
+unfoldable numbers_opened : Unit {0}
 unfolding across down amount thousandths fraction places decimal digits
-numbersOpened = tt
+numbers_opened = tt
 
-unfoldable rowsOpened : Unit {0}
-unfolding escaped escapedByte rows cutEnd longest last_of widest greatest columns columnsOf sum parts
-rowsOpened = tt
+unfoldable rows_opened : Unit {0}
+unfolding escaped escaped_byte rows cut_end longest last_of widest greatest columns columns_of sum parts
+rows_opened = tt
 
 unfoldable opened : Unit {0}
-unfolding numbersOpened rowsOpened label_of rows_of nameSize numberSize elements elementOf start_of offset
+unfolding numbers_opened rows_opened label_of rows_of name_size number_size elements element_of start_of offset
 opened = tt
 
 pub label-1 : label_of (negsuc 4) 12 3 7 42 []

@@ -11,7 +11,7 @@ use Rattle.text.proofs.DecimalLaws.{decimal-one}
 use Rattle.text_write.proofs.Written.{decimal-longer}
 use Rattle.picture_rows.specs.Escape.{escaped}
 use Rattle.picture_rows.specs.Rows.{Row}
-use Rattle.picture_labels.specs.Label.{titleOf, offset, elementOf, letters, elements, numberSize, nameSize, rows_of, centred, label_of}
+use Rattle.picture_labels.specs.Label.{title_of, offset, element_of, letters, elements, number_size, name_size, rows_of, centred, label_of}
 
 -- ---- digits
 module _ (n : ℕ) where
@@ -55,30 +55,30 @@ module _ (k : ℕ) where
 
 -- ---- a title, a label
 module _ (number : ℕ) where
-  pub title-none : (name : List ℕ) → length name ≡ 0 → titleOf number name ≡ decimal number
-  unfolding titleOf
+  pub title-none : (name : List ℕ) → length name ≡ 0 → title_of number name ≡ decimal number
+  unfolding title_of
   title-none [] h = refl
   title-none (b ∷ s) h = absurd (omega arith)
 
-  pub title-name : (name : List ℕ) → (length name ≡ 0 → ⊥) → titleOf number name ≡ decimal number ++ bytes " " ++ escaped name
-  unfolding titleOf
+  pub title-name : (name : List ℕ) → (length name ≡ 0 → ⊥) → title_of number name ≡ decimal number ++ bytes " " ++ escaped name
+  unfolding title_of
   title-name [] h = absurd (h refl)
   title-name (b ∷ s) h = refl
 
   module _ (x : ℤ) (y hw u : ℕ) where
-    pub label-none : (name : List ℕ) → length name ≡ 0 → label_of x y hw u number name ≡ elementOf x y (numberSize hw u number) 2 (decimal number)
+    pub label-none : (name : List ℕ) → length name ≡ 0 → label_of x y hw u number name ≡ element_of x y (number_size hw u number) 2 (decimal number)
     unfolding label_of
     label-none [] h = refl
     label-none (b ∷ s) h = absurd (omega arith)
 
-    pub label-name : (name : List ℕ) → (length name ≡ 0 → ⊥) → label_of x y hw u number name ≡ centred x y (nameSize hw u name) (rows_of hw u name)
+    pub label-name : (name : List ℕ) → (length name ≡ 0 → ⊥) → label_of x y hw u number name ≡ centred x y (name_size hw u name) (rows_of hw u name)
     unfolding label_of
     label-name [] h = absurd (h refl)
     label-name (b ∷ s) h = refl
 
 -- ---- rows one after another
 module _ (x : ℤ) (y size k : ℕ) where
-  pub elements-on : {rs ts : List Row} {r : Row} → rs ≡ r ∷ ts → elements x y size k rs ≡ elementOf x y size k (letters r) ++ elements x y size (k + 2) ts
+  pub elements-on : {rs ts : List Row} {r : Row} → rs ≡ r ∷ ts → elements x y size k rs ≡ element_of x y size k (letters r) ++ elements x y size (k + 2) ts
   unfolding elements
   elements-on e = rw e
 

@@ -3,7 +3,7 @@ ghost use Rattle.std.specs.Prelude.{cond, [], ◌≤◌, ◌^◌};
 ghost use Rattle.ints.specs.Ints as ints;
 ghost use Rattle.text_write.specs.inner.Written.{Room, Wrote};
 ghost use Rattle.picture_rows.specs.Rows.{row};
-ghost use Rattle.picture_labels.specs.Label.{offset, start_of, elementOf, sign, letters};
+ghost use Rattle.picture_labels.specs.Label.{offset, start_of, element_of, sign, letters};
 
 use picture_numbers::attributes::{put_across, put_down, put_measured};
 use picture_rows::escape::put_escaped;
@@ -67,8 +67,8 @@ pub fn put_row(
     front: &[u8],
     cut: bool,
 ) -> usize
-    requires { (ints.size x ≤ 2 ^ 42) × (y ≤ 2 ^ 42) × Room (elementOf x y size k (letters (row front.now cut))) out.old at }
-    ensures { Wrote (elementOf x y size k (letters (row front.now cut))) out.old at result out.new }
+    requires { (ints.size x ≤ 2 ^ 42) × (y ≤ 2 ^ 42) × Room (element_of x y size k (letters (row front.now cut))) out.old at }
+    ensures { Wrote (element_of x y size k (letters (row front.now cut))) out.old at result out.new }
 {
     let a = put_start(out, at, x, y, size, k);
     let b = put_escaped(out, a, front);

@@ -4,7 +4,7 @@ ghost use Rattle.ints.specs.Ints as ints;
 ghost use Rattle.text.specs.Decimal.{decimal};
 ghost use Rattle.text_write.specs.inner.Written.{Room, Wrote};
 ghost use Rattle.picture_rows.specs.Rows.{rows};
-ghost use Rattle.picture_labels.specs.Label.{titleOf, elementOf, elements, numberSize, nameSize, rows_of, centred, label_of};
+ghost use Rattle.picture_labels.specs.Label.{title_of, element_of, elements, number_size, name_size, rows_of, centred, label_of};
 ghost use Rattle.picture_labels.specs.inner.Limits.{InLimits};
 
 use crate::element::{put_row, put_start};
@@ -15,8 +15,8 @@ use text_write::number::{put_decimal, put_then};
 
 // The number, and the name if there is one.
 pub fn put_title(out: &mut [u8], at: usize, number: u32, name: &[u8]) -> usize
-    requires { Room (titleOf number name.now) out.old at }
-    ensures { Wrote (titleOf number name.now) out.old at result out.new }
+    requires { Room (title_of number name.now) out.old at }
+    ensures { Wrote (title_of number name.now) out.old at result out.new }
 {
     if name.len() == 0 {
         return put_decimal(out, at, number as u64);
@@ -67,8 +67,8 @@ fn put_number(
     measure: u32,
     number: u32,
 ) -> usize
-    requires { InLimits x y hw measure number × Room (elementOf x y (numberSize hw measure number) 2 (decimal number)) out.old at }
-    ensures { Wrote (elementOf x y (numberSize hw measure number) 2 (decimal number)) out.old at result out.new }
+    requires { InLimits x y hw measure number × Room (element_of x y (number_size hw measure number) 2 (decimal number)) out.old at }
+    ensures { Wrote (element_of x y (number_size hw measure number) 2 (decimal number)) out.old at result out.new }
 {
     let size = number_size(hw, measure, number);
     let next = put_start(out, at, x, y, size, 2);
@@ -77,8 +77,8 @@ fn put_number(
 
 // The label of a box with a name.
 fn put_name(out: &mut [u8], at: usize, x: i64, y: u64, hw: u16, measure: u32, name: &[u8]) -> usize
-    requires { InLimits x y hw measure 0 × Room (centred x y (nameSize hw measure name.now) (rows_of hw measure name.now)) out.old at }
-    ensures { Wrote (centred x y (nameSize hw measure name.now) (rows_of hw measure name.now)) out.old at result out.new }
+    requires { InLimits x y hw measure 0 × Room (centred x y (name_size hw measure name.now) (rows_of hw measure name.now)) out.old at }
+    ensures { Wrote (centred x y (name_size hw measure name.now) (rows_of hw measure name.now)) out.old at result out.new }
 {
     let size = name_size(hw, measure, name);
     let cols = columns_in(hw, size);

@@ -2,7 +2,7 @@
 ghost use Rattle.std.specs.Prelude.{◌≡◌, ◌≤◌, ◌<◌, ◌*◌, min, max, length};
 ghost use Rattle.text.specs.Decimal.{decimal};
 ghost use Rattle.picture_rows.specs.Rows as rows;
-ghost use Rattle.picture_labels.specs.Label.{numberSize, nameSize, columnsIn};
+ghost use Rattle.picture_labels.specs.Label.{number_size, name_size, columns_in};
 
 use picture_rows::columns::widest;
 
@@ -32,7 +32,7 @@ fn digits(n: u32) -> u64
 // The height of a number's letters.
 pub fn number_size(hw: u16, measure: u32, number: u32) -> u64
     requires { number < 10000 }
-    ensures { result ≡ numberSize hw measure number }
+    ensures { result ≡ number_size hw measure number }
 {
     lesser(200 * measure as u64, 3000 * hw as u64 / digits(number))
 }
@@ -53,7 +53,7 @@ fn asked(name: &[u8]) -> u64
 
 // The height of a name's letters.
 pub fn name_size(hw: u16, measure: u32, name: &[u8]) -> u64
-    ensures { result ≡ nameSize hw measure name.now }
+    ensures { result ≡ name_size hw measure name.now }
 {
     lesser(100 * measure as u64, 3000 * hw as u64 / asked(name))
 }
@@ -61,7 +61,7 @@ pub fn name_size(hw: u16, measure: u32, name: &[u8]) -> u64
 // The columns of a row.
 pub fn columns_in(hw: u16, size: u64) -> usize
     requires { 0 < size }
-    ensures { result ≡ columnsIn hw size }
+    ensures { result ≡ columns_in hw size }
 {
     (3000 * hw as u64 / size) as usize
 }

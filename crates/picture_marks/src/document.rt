@@ -1,7 +1,7 @@
 // The document of a drawing that lies in slices.
 ghost use Rattle.text_write.specs.inner.Written.{Room, Wrote};
 ghost use Rattle.picture_names.specs.inner.Indexed.{name_at};
-ghost use Rattle.picture_marks.specs.inner.Listed.{openingIn, OpeningAsked, documentIn, DocumentAsked};
+ghost use Rattle.picture_marks.specs.inner.Listed.{opening_in, OpeningAsked, document_in, DocumentAsked};
 
 use crate::walks::{put_bends, put_boxes, put_lines};
 use picture_numbers::attributes::put_measured;
@@ -11,8 +11,8 @@ use text_write::number::put_word;
 
 // The first lines, up to that which opens the group of lines.
 fn put_opening(out: &mut [u8], measure: u32, height: u64, halves: &[u16], finals: &[i64]) -> usize
-    requires { OpeningAsked measure height halves.now finals.now × Room (openingIn measure height halves.now finals.now) out.old 0 }
-    ensures { Wrote (openingIn measure height halves.now finals.now) out.old 0 result out.new }
+    requires { OpeningAsked measure height halves.now finals.now × Room (opening_in measure height halves.now finals.now) out.old 0 }
+    ensures { Wrote (opening_in measure height halves.now finals.now) out.old 0 result out.new }
 {
     let lo = left_end(halves, finals);
     let hi = right_end(halves, finals);
@@ -44,9 +44,9 @@ pub fn put_document(
     ends: &[u32],
 ) -> usize
     requires { DocumentAsked measure height heights.now vias.now halves.now uppers.now lowers.now ratings.now finals.now names.now starts.now ends.now
-        × Room (documentIn measure height heights.now vias.now halves.now uppers.now lowers.now ratings.now finals.now
+        × Room (document_in measure height heights.now vias.now halves.now uppers.now lowers.now ratings.now finals.now
         (name_at names.now starts.now ends.now)) out.old 0 }
-    ensures { Wrote (documentIn measure height heights.now vias.now halves.now uppers.now lowers.now
+    ensures { Wrote (document_in measure height heights.now vias.now halves.now uppers.now lowers.now
         ratings.now finals.now (name_at names.now starts.now ends.now)) out.old 0 result out.new }
 {
     let a = put_opening(out, measure, height, halves, finals);

@@ -1,9 +1,9 @@
 // The picture of a plan's drawing.
 ghost use Rattle.std.specs.Prelude.{length};
-ghost use Rattle.plan.specs.inner.Held.{heldPlan};
+ghost use Rattle.plan.specs.inner.Held.{held_plan};
 ghost use Rattle.text_write.specs.inner.Written.{Room, Wrote};
-ghost use Rattle.picture_marks.specs.Picture.{pictureOf};
-ghost use Rattle.picture_marks.specs.inner.Asked.{namesIn, PictureAsked};
+ghost use Rattle.picture_marks.specs.Picture.{picture_of};
+ghost use Rattle.picture_marks.specs.inner.Asked.{names_in, PictureAsked};
 
 use crate::document::put_document;
 use picture_view::bounds::measure;
@@ -27,11 +27,11 @@ pub fn put_picture(
     ends: &[u32],
     out: &mut [u8],
 ) -> usize
-    requires { PictureAsked (heldPlan gap spacing sizes.now vias.now halves.now uppers.now lowers.now ratings.now) finals.now names.now starts.now ends.now
-        × Room (pictureOf (heldPlan gap spacing sizes.now vias.now halves.now uppers.now lowers.now ratings.now) finals.now
-        (namesIn names.now starts.now ends.now (length vias.now))) out.old 0 }
-    ensures { Wrote (pictureOf (heldPlan gap spacing sizes.now vias.now halves.now uppers.now lowers.now
-        ratings.now) finals.now (namesIn names.now starts.now ends.now (length vias.now)))
+    requires { PictureAsked (held_plan gap spacing sizes.now vias.now halves.now uppers.now lowers.now ratings.now) finals.now names.now starts.now ends.now
+        × Room (picture_of (held_plan gap spacing sizes.now vias.now halves.now uppers.now lowers.now ratings.now) finals.now
+        (names_in names.now starts.now ends.now (length vias.now))) out.old 0 }
+    ensures { Wrote (picture_of (held_plan gap spacing sizes.now vias.now halves.now uppers.now lowers.now
+        ratings.now) finals.now (names_in names.now starts.now ends.now (length vias.now)))
         out.old 0 result out.new }
 {
     let mut height = [0u64; Plan::MAX_VERTICES];

@@ -4,7 +4,7 @@ ghost use Rattle.std.specs.Prelude.{◌<◌, length};
 ghost use Rattle.text_write.specs.inner.Written.{Room, Wrote};
 ghost use Rattle.picture_elements.specs.inner.Near.{Pen};
 ghost use Rattle.picture_names.specs.inner.Indexed.{name_at};
-ghost use Rattle.picture_marks.specs.inner.Listed.{Stands, lineBetween, linesIn, LinesAsked, vertexBend, bendsIn, BendsAsked, vertexBox, boxesIn, BoxesAsked};
+ghost use Rattle.picture_marks.specs.inner.Listed.{Stands, line_between, lines_in, LinesAsked, vertex_bend, bends_in, BendsAsked, vertex_box, boxes_in, BoxesAsked};
 
 use picture_elements::elements::{put_bend, put_box, put_line};
 use plan::numbers::wide;
@@ -21,8 +21,8 @@ fn put_segment(
     b: usize,
 ) -> usize
     requires { Pen measure rating × Stands heights.now finals.now × (a < length finals.now) × (b < length finals.now)
-        × Room (lineBetween measure rating heights.now finals.now a b) out.old at }
-    ensures { Wrote (lineBetween measure rating heights.now finals.now a b) out.old at result out.new }
+        × Room (line_between measure rating heights.now finals.now a b) out.old at }
+    ensures { Wrote (line_between measure rating heights.now finals.now a b) out.old at result out.new }
 {
     put_line(
         out, at, measure, rating, finals[a], heights[a], finals[b], heights[b],
@@ -41,8 +41,8 @@ pub fn put_lines(
     finals: &[i64],
 ) -> usize
     requires { LinesAsked measure heights.now uppers.now lowers.now ratings.now finals.now
-        × Room (linesIn measure heights.now uppers.now lowers.now ratings.now finals.now) out.old at }
-    ensures { Wrote (linesIn measure heights.now uppers.now lowers.now ratings.now finals.now)
+        × Room (lines_in measure heights.now uppers.now lowers.now ratings.now finals.now) out.old at }
+    ensures { Wrote (lines_in measure heights.now uppers.now lowers.now ratings.now finals.now)
         out.old at result out.new }
 {
     let mut next = at;
@@ -73,8 +73,8 @@ fn put_via(
     finals: &[i64],
     v: usize,
 ) -> usize
-    requires { BendsAsked measure heights.now vias.now finals.now × (v < length vias.now) × Room (vertexBend measure heights.now vias.now finals.now v) out.old at }
-    ensures { Wrote (vertexBend measure heights.now vias.now finals.now v) out.old at result out.new }
+    requires { BendsAsked measure heights.now vias.now finals.now × (v < length vias.now) × Room (vertex_bend measure heights.now vias.now finals.now v) out.old at }
+    ensures { Wrote (vertex_bend measure heights.now vias.now finals.now v) out.old at result out.new }
 {
     if !vias[v] {
         return at;
@@ -91,8 +91,8 @@ pub fn put_bends(
     vias: &[bool],
     finals: &[i64],
 ) -> usize
-    requires { BendsAsked measure heights.now vias.now finals.now × Room (bendsIn measure heights.now vias.now finals.now) out.old at }
-    ensures { Wrote (bendsIn measure heights.now vias.now finals.now) out.old at result out.new }
+    requires { BendsAsked measure heights.now vias.now finals.now × Room (bends_in measure heights.now vias.now finals.now) out.old at }
+    ensures { Wrote (bends_in measure heights.now vias.now finals.now) out.old at result out.new }
 {
     let mut next = at;
     let mut v: usize = 0;
@@ -118,8 +118,8 @@ fn put_boxed(
     v: usize,
 ) -> usize
     requires { BoxesAsked measure heights.now vias.now halves.now finals.now names.now starts.now ends.now × (v < length vias.now)
-        × Room (vertexBox measure heights.now vias.now halves.now finals.now (name_at names.now starts.now ends.now) v) out.old at }
-    ensures { Wrote (vertexBox measure heights.now vias.now halves.now finals.now
+        × Room (vertex_box measure heights.now vias.now halves.now finals.now (name_at names.now starts.now ends.now) v) out.old at }
+    ensures { Wrote (vertex_box measure heights.now vias.now halves.now finals.now
         (name_at names.now starts.now ends.now) v) out.old at result out.new }
 {
     if vias[v] {
@@ -153,8 +153,8 @@ pub fn put_boxes(
     ends: &[u32],
 ) -> usize
     requires { BoxesAsked measure heights.now vias.now halves.now finals.now names.now starts.now ends.now
-        × Room (boxesIn measure heights.now vias.now halves.now finals.now (name_at names.now starts.now ends.now)) out.old at }
-    ensures { Wrote (boxesIn measure heights.now vias.now halves.now finals.now
+        × Room (boxes_in measure heights.now vias.now halves.now finals.now (name_at names.now starts.now ends.now)) out.old at }
+    ensures { Wrote (boxes_in measure heights.now vias.now halves.now finals.now
         (name_at names.now starts.now ends.now)) out.old at result out.new }
 {
     let mut next = at;

@@ -4,10 +4,10 @@ use mathlib.Core.Bool.{true, false}
 use mathlib.Core.List.{List, [], ◌∷◌, ◌++◌, map}
 use Prim.Native.Nat.{ℕ}
 use Rattle.text.specs.Bytes.{bytes}
-use Rattle.text.specs.Parser.{number, digitsAfter, word}
+use Rattle.text.specs.Parser.{number, digits_after, word}
 use Rattle.script_words.specs.Parts.{parts}
-use Rattle.picture_names.specs.Chars.{begunFour, begunWide, begun, ranged, seenMore, seenAfter, isName}
-use Rattle.picture_names.specs.Names.{Names, bad, named, number_of, namesFrom, names_of}
+use Rattle.picture_names.specs.Chars.{begun_four, begun_wide, begun, ranged, seen_more, seen_after, is_name}
+use Rattle.picture_names.specs.Names.{Names, bad, named, number_of, names_from, names_of}
 
 -- of a box, a via and two boxes
 abbrev reads : List ℕ → Names
@@ -42,11 +42,11 @@ pub texts : map reads (
     ∷ named ([] ∷ [] ∷ (0xC3 ∷ 0xA9 ∷ []) ∷ [] ∷ [])
     ∷ bad 1 ∷ []
     )
-unfolding names_of namesFrom number_of number digitsAfter word parts isName seenAfter seenMore ranged begunFour begunWide begun
+unfolding names_of names_from number_of number digits_after word parts is_name seen_after seen_more ranged begun_four begun_wide begun
 texts = refl
 
 -- overlong forms, surrogates, what lies past U+10FFFF, U+FFFE and U+FFFF are none; U+D7FF, U+FFFD and U+10FFFF are
-pub characters : map isName (
+pub characters : map is_name (
     (0xC1 ∷ 0xBF ∷ [])
     ∷ (0xE0 ∷ 0x9F ∷ 0xBF ∷ [])
     ∷ (0xED ∷ 0xA0 ∷ 0x80 ∷ [])
@@ -59,5 +59,5 @@ pub characters : map isName (
     ∷ (0xEF ∷ 0xBE ∷ 0xBF ∷ [])
     ∷ (0xF4 ∷ 0x8F ∷ 0xBF ∷ 0xBF ∷ []) ∷ []
     ) ≡ (false ∷ false ∷ false ∷ false ∷ false ∷ false ∷ false ∷ true ∷ true ∷ true ∷ true ∷ [])
-unfolding isName seenAfter seenMore ranged begunFour begunWide begun
+unfolding is_name seen_after seen_more ranged begun_four begun_wide begun
 characters = refl

@@ -10,17 +10,17 @@ use borrow.Author.Tests.{eq-eqb, ne_eqb, le-leb, lt-leb}
 use lib.Dec.{eqb}
 use lib.ListN.{length, get_or, set, take, drop, replicate, length-take, length-drop, length-set, length-replicate, get_or-replicate, get_or-eq_default}
 use lib.Seq.{drop-drop, get_or-set_same, get_or-set_other}
-use Rattle.ints.proofs.Lists.{getD-either, drop-take}
+use Rattle.ints.proofs.Lists.{get_d-either, drop-take}
 use Rattle.ints.proofs.Tests.{and_left}
 use Rattle.text.specs.Bytes.{bytes}
 use Rattle.text.specs.Parser.{Got, got, nothing}
 use Rattle.text.proofs.Words.{never}
-use Rattle.text_scan.specs.inner.Scanned.{Finds, numberThen}
+use Rattle.text_scan.specs.inner.Scanned.{Finds, number_then}
 use Rattle.text_scan.proofs.Lines.{found, found-not}
 use Rattle.script_words.specs.Parts.{parts, onto}
 use Rattle.script_words.specs.inner.Ends.{between, PartEnds}
-use Rattle.picture_names.specs.Chars.{isName}
-use Rattle.picture_names.specs.Names.{Names, bad, named, answer_of, is_empty, number_of, isBox, isGood, with, namesFrom, linesNamed, names_of, maxNames}
+use Rattle.picture_names.specs.Chars.{is_name}
+use Rattle.picture_names.specs.Names.{Names, bad, named, answer_of, is_empty, number_of, is_box, is_good, with, names_from, lines_named, names_of, max_names}
 use Rattle.picture_names.specs.inner.Indexed.{named?, Says, name_at, HoldsNames, Takes, Indexed}
 use Rattle.picture_names.specs.declared.types.NamesAnswer.{NamesAnswer}
 use Rattle.picture_names.specs.declared.types.NamesAnswer.TheVariants.{Good, Bad}
@@ -42,34 +42,34 @@ parts-some sep (b ∷ s) = go (eqb b sep) (parts sep s)
 
 -- ---- the line from a place on
 module _ (s : List ℕ) (n : ℕ) (vias : List Bool) (names : List (List ℕ)) (from to : ℕ) (e : PartEnds 10 s from to) where
-  pub last-good : length s ≤ to → to - from ≡ 0 → namesFrom n vias names (parts 10 (drop from s)) ≡ named names
-  unfolding namesFrom
+  pub last-good : length s ≤ to → to - from ≡ 0 → names_from n vias names (parts 10 (drop from s)) ≡ named names
+  unfolding names_from
   last-good h z = rw (e.last h, z)
 
-  pub last-bad : length s ≤ to → 0 < to - from → namesFrom n vias names (parts 10 (drop from s)) ≡ bad n
-  unfolding namesFrom
+  pub last-bad : length s ≤ to → 0 < to - from → names_from n vias names (parts 10 (drop from s)) ≡ bad n
+  unfolding names_from
   last-bad h k =
       let z : is_empty (between from to s) ≡ false = empty-long (between from to s) ∙ ne_eqb (length (between from to s)) 0
       (λ q. absurd (omega (arith, q, length-take (to - from) (drop from s), length-drop from s, e.inside, e.onward))) in
       rw (e.last h, z)
 
-  pub line-bad : to < length s → isGood vias names (number_of (between from to s)) ≡ false → namesFrom n vias names (parts 10 (drop from s)) ≡ bad n
-  unfolding namesFrom
+  pub line-bad : to < length s → is_good vias names (number_of (between from to s)) ≡ false → names_from n vias names (parts 10 (drop from s)) ≡ bad n
+  unfolding names_from
   line-bad h g = rw (e.cut h, parts-some 10 (drop (to + 1) s), g)
 
-  pub line-good : to < length s → isGood vias names (number_of (between from to s)) ≡ true
-      → namesFrom n vias names (parts 10 (drop from s)) ≡ namesFrom (n + 1) vias (with names (number_of (between from to s))) (parts 10 (drop (to + 1) s))
-  unfolding namesFrom
+  pub line-good : to < length s → is_good vias names (number_of (between from to s)) ≡ true
+      → names_from n vias names (parts 10 (drop from s)) ≡ names_from (n + 1) vias (with names (number_of (between from to s))) (parts 10 (drop (to + 1) s))
+  unfolding names_from
   line-good h g = rw (e.cut h, parts-some 10 (drop (to + 1) s), g, add-one n)
 
 -- ---- a line that has no number or no name
 module _ (vias : List Bool) (l : List (List ℕ)) where
-  pub not-said : (g : Got ℕ) → named? g ≡ false → isGood vias l g ≡ false
+  pub not-said : (g : Got ℕ) → named? g ≡ false → is_good vias l g ≡ false
   not-said nothing e = refl
   not-said (got n name) e = rw e
 
-  pub said : (g : Got ℕ) (n : ℕ) (name : List ℕ) → g ≡ got n name → named? g ≡ true → isGood vias l g ≡ (isBox vias n && is_empty (get_or l n []))
-  said g n name e t = let u : isName name ≡ true = sym (ap named? e) ∙ t in rw (e, u)
+  pub said : (g : Got ℕ) (n : ℕ) (name : List ℕ) → g ≡ got n name → named? g ≡ true → is_good vias l g ≡ (is_box vias n && is_empty (get_or l n []))
+  said g n name e t = let u : is_name name ≡ true = sym (ap named? e) ∙ t in rw (e, u)
 
 pub with-long : (l : List (List ℕ)) (g : Got ℕ) → length (with l g) ≡ length l
 with-long l nothing = refl
@@ -77,11 +77,11 @@ with-long l (got n name) = length-set l n name
 
 -- ---- a box without a name
 -- past the end there is no box
-pub box-inside : (vias : List Bool) (v : ℕ) → isBox vias v ≡ true → v < length vias
+pub box-inside : (vias : List Bool) (v : ℕ) → is_box vias v ≡ true → v < length vias
 box-inside vias v e = elim (dec_lt v (length vias)) [
   | yes h ↦ h
   | no h ↦
-      let z : isBox vias v ≡ false = ap not (get_or-eq_default vias true (omega arith)) in
+      let z : is_box vias v ≡ false = ap not (get_or-eq_default vias true (omega arith)) in
       let q : ◌≡◌ {A = Bool} false true = sym z ∙ e in
       absurd (omega (arith, zero_one q))
 ]
@@ -90,11 +90,11 @@ box-inside vias v e = elim (dec_lt v (length vias)) [
     zero_one q = cc
 
 module _ (vias : List Bool) (v : ℕ) where
-  pub box-none : length vias ≤ v → isBox vias v ≡ false
+  pub box-none : length vias ≤ v → is_box vias v ≡ false
   box-none h = ap not (get_or-eq_default vias true h)
 
-  pub box-is : (t : Bool) → v < length vias → get_or vias v false ≡ t → isBox vias v ≡ not t
-  box-is t h e = ap not (getD-either vias v true false h ∙ e)
+  pub box-is : (t : Bool) → v < length vias → get_or vias v false ≡ t → is_box vias v ≡ not t
+  box-is t h e = ap not (get_d-either vias v true false h ∙ e)
 
 place-empty : (text : List ℕ) (s e : ℕ) → s ≤ e → e ≤ length text → is_empty (take (e - s) (drop s text)) ≡ eqb s e
 place-empty text s e h k = empty-long (take (e - s) (drop s text)) ∙ elim (ℕ_discrete s e) [
@@ -105,8 +105,8 @@ place-empty text s e h k = empty-long (take (e - s) (drop s text)) ∙ elim (ℕ
 ]
 
 module _ (vias : List Bool) (text starts ends : List ℕ) (l : List (List ℕ)) (n : length l ≡ length vias) (h : HoldsNames text starts ends l) where
-  pub free-is : (v : ℕ) → (isBox vias v && is_empty (get_or l v [])) ≡ (isBox vias v && eqb (get_or starts v 0) (get_or ends v 0))
-  free-is v = go (isBox vias v) (box-inside vias v)
+  pub free-is : (v : ℕ) → (is_box vias v && is_empty (get_or l v [])) ≡ (is_box vias v && eqb (get_or starts v 0) (get_or ends v 0))
+  free-is v = go (is_box vias v) (box-inside vias v)
     where
       go : (t : Bool) → (t ≡ true → v < length vias) → (t && is_empty (get_or l v [])) ≡ (t && eqb (get_or starts v 0) (get_or ends v 0))
       go false k = refl
@@ -156,11 +156,11 @@ module _ (vias : List Bool) (text starts ends : List ℕ) (l : List (List ℕ)) 
 
 -- ---- what a line says
 -- the rule of the definition is the scanner's
-same-rule : (s : List ℕ) → number_of s ≡ numberThen (bytes " ") s
-unfolding number_of numberThen
+same-rule : (s : List ℕ) → number_of s ≡ number_then (bytes " ") s
+unfolding number_of number_then
 same-rule s = refl
 
-module _ {line : List ℕ} {f : Bool} {v next : ℕ} (n : Finds (numberThen (bytes " ")) line 0 f v next) where
+module _ {line : List ℕ} {f : Bool} {v next : ℕ} (n : Finds (number_then (bytes " ")) line 0 f v next) where
   pub says_none : f ≡ false → Says line f v next
   says_none e = record {
     yes = λ t. never (sym e ∙ t);
@@ -171,10 +171,10 @@ module _ {line : List ℕ} {f : Bool} {v next : ℕ} (n : Finds (numberThen (byt
   numbered : f ≡ true → number_of line ≡ got v (drop next line)
   numbered e = same-rule line ∙ found n e
 
-  pub says-not : f ≡ true → isName (drop next line) ≡ false → Says line false 0 next
+  pub says-not : f ≡ true → is_name (drop next line) ≡ false → Says line false 0 next
   says-not e k = record { yes = never; name = sym (ap named? (numbered e) ∙ k); inside = n.inside }
 
-  pub says-name : f ≡ true → isName (drop next line) ≡ true → Says line f v next
+  pub says-name : f ≡ true → is_name (drop next line) ≡ true → Says line f v next
   says-name e k = record { yes = numbered; name = e ∙ sym (ap named? (numbered e) ∙ k); inside = n.inside }
 
 module _ (vias : List Bool) (text : List ℕ) (from to : ℕ) (starts ends : List ℕ) {f : Bool} {v next : ℕ} (s : Says (between from to text) f v next) where
@@ -185,18 +185,18 @@ module _ (vias : List Bool) (text : List ℕ) (from to : ℕ) (starts ends : Lis
   }
 
   is-good : f ≡ true → (l : List (List ℕ)) → length l ≡ length vias → HoldsNames text starts ends l
-      → isGood vias l (number_of (between from to text)) ≡ (isBox vias v && eqb (get_or starts v 0) (get_or ends v 0))
+      → is_good vias l (number_of (between from to text)) ≡ (is_box vias v && eqb (get_or starts v 0) (get_or ends v 0))
   is-good e l n h =
       said vias l (number_of (between from to text)) v (drop next (between from to text)) (s.yes e) (sym s.name ∙ e)
       ∙ free-is vias text starts ends l n h v
 
   -- what is_free answered
-  module _ {r : Bool} (k : r ≡ (isBox vias v && eqb (get_or starts v 0) (get_or ends v 0))) where
+  module _ {r : Bool} (k : r ≡ (is_box vias v && eqb (get_or starts v 0) (get_or ends v 0))) where
     pub unfree-takes : f ≡ true → r ≡ false → Takes vias text from to starts ends starts ends false
     unfree-takes e t = record { good = λ l n h. sym (is-good e l n h ∙ sym k ∙ t); holds = λ l n h t. never t }
 
     pub free-inside : r ≡ true → v < length vias
-    free-inside t = box-inside vias v (and_left (isBox vias v) (eqb (get_or starts v 0) (get_or ends v 0)) (sym k ∙ t))
+    free-inside t = box-inside vias v (and_left (is_box vias v) (eqb (get_or starts v 0) (get_or ends v 0)) (sym k ∙ t))
 
     pub free-takes : f ≡ true → r ≡ true → length vias ≤ length starts → length vias ≤ length ends → from ≤ to → to ≤ length text
         → Takes vias text from to starts ends (set starts v (from + next)) (set ends v to) true
@@ -228,7 +228,7 @@ pub record SoFar (vias : List Bool) (text starts ends : List ℕ) (from line : �
   pub names : List (List ℕ)
   pub count : length names ≡ length vias
   pub holds : HoldsNames text starts ends names
-  pub rest : linesNamed vias text ≡ namesFrom line vias names (parts 10 (drop from text))
+  pub rest : lines_named vias text ≡ names_from line vias names (parts 10 (drop from text))
 
 module _ (vias : List Bool) (text starts ends : List ℕ) where
   pub nothing_read : HoldsNames text starts ends (replicate (length vias) []) → SoFar vias text starts ends 0 1
@@ -241,10 +241,10 @@ module _ (vias : List Bool) (text starts ends : List ℕ) where
       other l q = let z : ◌≡◌ {A = ℕ} 0 1 = cc in omega arith
 
   module _ (from line to : ℕ) (f : SoFar vias text starts ends from line) (e : PartEnds 10 text from to) where
-    pub rest-bad : length text ≤ to → from < to → Indexed (linesNamed vias text) text starts ends (Bad line)
-    rest-bad h k = refused-here (linesNamed vias text) line (f.rest ∙ last-bad text line vias f.names from to e h (omega arith))
+    pub rest-bad : length text ≤ to → from < to → Indexed (lines_named vias text) text starts ends (Bad line)
+    rest-bad h k = refused-here (lines_named vias text) line (f.rest ∙ last-bad text line vias f.names from to e h (omega arith))
 
-    pub rest-good : length text ≤ to → to ≤ from → Indexed (linesNamed vias text) text starts ends Good
+    pub rest-good : length text ≤ to → to ≤ from → Indexed (lines_named vias text) text starts ends Good
     rest-good h k =
         let z = f.rest ∙ last-good text line vias f.names from to e h (omega arith) in
         record { answer = sym (ap answer_of z); holds = λ l q. same l (sym z ∙ q) }
@@ -252,16 +252,16 @@ module _ (vias : List Bool) (text starts ends : List ℕ) where
         same : (l : List (List ℕ)) → named f.names ≡ named l → HoldsNames text starts ends l
         same l q = let z : f.names ≡ l = cc in rw z at f.holds
 
-    pub line_refused : (s' e' : List ℕ) → to < length text → Takes vias text from to starts ends s' e' false → Indexed (linesNamed vias text) text s' e' (Bad line)
+    pub line_refused : (s' e' : List ℕ) → to < length text → Takes vias text from to starts ends s' e' false → Indexed (lines_named vias text) text s' e' (Bad line)
     line_refused s' e' h t = record {
       answer = sym (ap answer_of at);
       holds = λ l q. absurd (other l q);
     }
       where
-        at : linesNamed vias text ≡ bad line
+        at : lines_named vias text ≡ bad line
         at = f.rest ∙ line-bad text line vias f.names from to e h (sym (t.good f.names f.count f.holds))
 
-        other : (l : List (List ℕ)) → linesNamed vias text ≡ named l → ⊥
+        other : (l : List (List ℕ)) → lines_named vias text ≡ named l → ⊥
         other l q = let z : ◌≡◌ {A = ℕ} 0 1 = cc at in omega arith
 
     pub line_taken : (s' e' : List ℕ) → to < length text → Takes vias text from to starts ends s' e' true → SoFar vias text s' e' (to + 1) (line + 1)
@@ -274,11 +274,11 @@ module _ (vias : List Bool) (text starts ends : List ℕ) where
 
 -- ---- the whole text
 module _ (vias : List Bool) (text : List ℕ) where
-  pub too_long : (starts ends : List ℕ) → maxNames < length text → Indexed (names_of vias text) text starts ends (Bad 0)
+  pub too_long : (starts ends : List ℕ) → max_names < length text → Indexed (names_of vias text) text starts ends (Bad 0)
   unfolding names_of
-  too_long starts ends h = rw (lt-leb (length text) maxNames h) (refused-here vias text starts ends (bad 0) 0 refl)
+  too_long starts ends h = rw (lt-leb (length text) max_names h) (refused-here vias text starts ends (bad 0) 0 refl)
 
-  pub not-too-long : {starts ends : List ℕ} {r : NamesAnswer} → length text ≤ maxNames → Indexed (linesNamed vias text) text starts ends r
+  pub not-too-long : {starts ends : List ℕ} {r : NamesAnswer} → length text ≤ max_names → Indexed (lines_named vias text) text starts ends r
       → Indexed (names_of vias text) text starts ends r
   unfolding names_of
-  not-too-long h i = rw (le-leb (length text) maxNames h) i
+  not-too-long h i = rw (le-leb (length text) max_names h) i

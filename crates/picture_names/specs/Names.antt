@@ -3,7 +3,7 @@ use Rattle.std.specs.Prelude.{Bool, true, false, cond, not, ◌&&◌, List, [], 
 use Rattle.text.specs.Bytes.{bytes}
 use Rattle.text.specs.Parser.{Got, got, nothing, Rule, give, ◌>>=◌, ◌>>◌, word, number}
 use Rattle.script_words.specs.Parts.{parts}
-use Rattle.picture_names.specs.Chars.{isName}
+use Rattle.picture_names.specs.Chars.{is_name}
 use Rattle.picture_names.specs.declared.types.NamesAnswer.{NamesAnswer}
 use Rattle.picture_names.specs.declared.types.NamesAnswer.TheVariants.{Good, Bad}
 
@@ -16,8 +16,8 @@ abbrev pub answer_of : Names → NamesAnswer
 answer_of (bad n) = Bad n
 answer_of (named l) = Good
 
-abbrev pub maxNames : ℕ
-maxNames = 65536
+abbrev pub max_names : ℕ
+max_names = 65536
 
 abbrev pub is_empty : {A : Type 0} → List A → Bool
 is_empty [] = true
@@ -31,13 +31,13 @@ number_of = do
   give n
 
 -- Vertex n is a box: what is no vertex counts as a via.
-abbrev pub isBox : List Bool → ℕ → Bool
-isBox vias n = not (get_or vias n true)
+abbrev pub is_box : List Bool → ℕ → Bool
+is_box vias n = not (get_or vias n true)
 
 -- Whether a line names a box that has no name yet.
-abbrev pub isGood : List Bool → List (List ℕ) → Got ℕ → Bool
-isGood vias names nothing = false
-isGood vias names (got n name) = isName name && (isBox vias n && is_empty (get_or names n []))
+abbrev pub is_good : List Bool → List (List ℕ) → Got ℕ → Bool
+is_good vias names nothing = false
+is_good vias names (got n name) = is_name name && (is_box vias n && is_empty (get_or names n []))
 
 -- The names with that of a line.
 abbrev pub with : List (List ℕ) → Got ℕ → List (List ℕ)
@@ -45,20 +45,20 @@ with names nothing = names
 with names (got n name) = set names n name
 
 -- The lines from line n on, after lines that gave `names`. The last part of a text is what follows its last LF: nothing.
-unfoldable pub namesFrom : ℕ → List Bool → List (List ℕ) → List (List ℕ) → Names
-namesFrom n vias names [] = named names
-namesFrom n vias names (l ∷ ls) =
+unfoldable pub names_from : ℕ → List Bool → List (List ℕ) → List (List ℕ) → Names
+names_from n vias names [] = named names
+names_from n vias names (l ∷ ls) =
     let line = number_of l in
-    let more = namesFrom (suc n) vias (with names line) ls in
-    let good = cond (isGood vias names line) more (bad n) in
+    let more = names_from (suc n) vias (with names line) ls in
+    let good = cond (is_good vias names line) more (bad n) in
     let last = cond (is_empty l) (named names) (bad n) in
     cond (is_empty ls) last good
 
 -- All lines.
-abbrev pub linesNamed : List Bool → List ℕ → Names
-linesNamed vias s = namesFrom 1 vias (replicate (length vias) []) (parts 10 s)
+abbrev pub lines_named : List Bool → List ℕ → Names
+lines_named vias s = names_from 1 vias (replicate (length vias) []) (parts 10 s)
 
 unfoldable pub names_of : List Bool → List ℕ → Names
 names_of vias s =
-    let names = linesNamed vias s in
-    cond (leb (length s) maxNames) names (bad 0)
+    let names = lines_named vias s in
+    cond (leb (length s) max_names) names (bad 0)

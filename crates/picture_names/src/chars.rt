@@ -1,13 +1,13 @@
 // Names byte by byte.
 ghost use Rattle.std.specs.Prelude.{◌≡◌};
 ghost use Rattle.picture_names.specs.Chars as spec;
-ghost use Rattle.picture_names.specs.Chars.{begunFour, begunWide, isName, isWhole, seenMore};
+ghost use Rattle.picture_names.specs.Chars.{begun_four, begun_wide, is_name, is_whole, seen_more};
 
 use crate::types::Seen;
 
 // First bytes of four.
 fn begun_four(b: u8) -> Seen
-    ensures { result ≡ begunFour b }
+    ensures { result ≡ begun_four b }
 {
     if b <= 0xF0 {
         return Seen::AfterF0;
@@ -23,7 +23,7 @@ fn begun_four(b: u8) -> Seen
 
 // First bytes of three or four.
 fn begun_wide(b: u8) -> Seen
-    ensures { result ≡ begunWide b }
+    ensures { result ≡ begun_wide b }
 {
     if b <= 0xE0 {
         return Seen::AfterE0;
@@ -77,7 +77,7 @@ fn ranged(lo: u8, hi: u8, b: u8, next: Seen) -> Seen
 
 // After a character that is no space.
 fn within_word(b: u8) -> Seen
-    ensures { result ≡ seenMore Seen.Inside b }
+    ensures { result ≡ seen_more Seen.Inside b }
 {
     if b == b' ' {
         return Seen::Start;
@@ -86,7 +86,7 @@ fn within_word(b: u8) -> Seen
 }
 
 fn after_ef(b: u8) -> Seen
-    ensures { result ≡ seenMore Seen.AfterEF b }
+    ensures { result ≡ seen_more Seen.AfterEF b }
 {
     if b == 0xBF {
         return Seen::AfterEFBF;
@@ -96,7 +96,7 @@ fn after_ef(b: u8) -> Seen
 
 // One byte more.
 fn more(s: Seen, b: u8) -> Seen
-    ensures { result ≡ seenMore s b }
+    ensures { result ≡ seen_more s b }
 {
     match s {
         Seen::Start => begun(b),
@@ -115,7 +115,7 @@ fn more(s: Seen, b: u8) -> Seen
 }
 
 fn is_whole(s: Seen) -> bool
-    ensures { result ≡ isWhole s }
+    ensures { result ≡ is_whole s }
 {
     match s {
         Seen::Start => false,
@@ -134,7 +134,7 @@ fn is_whole(s: Seen) -> bool
 }
 
 pub fn is_name(name: &[u8]) -> bool
-    ensures { result ≡ isName name.now }
+    ensures { result ≡ is_name name.now }
 {
     let mut s = Seen::Start;
     let mut i: usize = 0;

@@ -1,6 +1,6 @@
 // Where in a names text the name of each box stands.
 ghost use Rattle.std.specs.Prelude.{◌≡◌, ◌&&◌, [], ◌≤◌, eqb, length, get_or, replicate};
-ghost use Rattle.picture_names.specs.Names.{isBox, names_of, linesNamed, maxNames};
+ghost use Rattle.picture_names.specs.Names.{is_box, names_of, lines_named, max_names};
 ghost use Rattle.picture_names.specs.inner.Indexed.{Indexed, HoldsNames, Takes};
 
 use crate::line::read_line;
@@ -21,7 +21,7 @@ fn clear(a: &mut [u32])
 // Whether vertex v is a box without a name.
 fn is_free(vias: &[bool], starts: &[u32], ends: &[u32], v: usize) -> bool
     requires { (length vias.now ≤ length starts.now) × (length vias.now ≤ length ends.now) }
-    ensures { result ≡ (isBox vias.now v && eqb (get_or starts.now v 0) (get_or ends.now v 0)) }
+    ensures { result ≡ (is_box vias.now v && eqb (get_or starts.now v 0) (get_or ends.now v 0)) }
 {
     if v >= vias.len() {
         return false;
@@ -42,7 +42,7 @@ fn index_line(
     to: usize,
 ) -> bool
     requires vias_in_bounds { (length vias.now ≤ length starts.old) × (length vias.now ≤ length ends.old) }
-    requires from_le_to { (from ≤ to) × (to ≤ length names.now) × (length names.now ≤ maxNames) }
+    requires from_le_to { (from ≤ to) × (to ≤ length names.now) × (length names.now ≤ max_names) }
     ensures { Takes vias.now names.now from to starts.old ends.old starts.new ends.new result }
 {
     let l = read_line(&names[from..to]);
@@ -61,9 +61,9 @@ fn index_line(
 // All lines, one after another. What follows the last LF is no line.
 fn index_lines(names: &[u8], vias: &[bool], starts: &mut [u32], ends: &mut [u32]) -> NamesAnswer
     requires vias_in_bounds { (length vias.now ≤ length starts.old) × (length vias.now ≤ length ends.old) }
-    requires names_len_bound { length names.now ≤ maxNames }
+    requires names_len_bound { length names.now ≤ max_names }
     requires holds_names { HoldsNames names.now starts.old ends.old (replicate (length vias.now) []) }
-    ensures { Indexed (linesNamed vias.now names.now) names.now starts.new ends.new result }
+    ensures { Indexed (lines_named vias.now names.now) names.now starts.new ends.new result }
 {
     let mut from: usize = 0;
     let mut line: u32 = 1;

@@ -11,7 +11,7 @@ use Rattle.ints.specs.Ints.{size}
 use Rattle.ints.proofs.Laws.{if-ind}
 use Rattle.text.specs.Bytes.{bytes}
 use Rattle.text.specs.Decimal.{decimal}
-use Rattle.text.proofs.DecimalLaws.{tenTo, decimal-length}
+use Rattle.text.proofs.DecimalLaws.{ten_to, decimal-length}
 use Rattle.picture_numbers.specs.Thousandths.{places, fraction, amount, thousandths, across, down}
 use Rattle.picture_numbers.proofs.Times.{times-P, times-N}
 
@@ -36,11 +36,11 @@ fraction-short f h =
     if-ind (eqb f 0) [] (bytes "." ++ places f) (λ (l : List ℕ). length l ≤ 4) (λ e. omega arith) (λ e. omega (arith, places-short f h))
 
 -- a number of j + 1 digits before the point
-pub amount-short : (j n : ℕ) → n / 1000 < tenTo (suc j) → length (amount n) ≤ suc j + 4
+pub amount-short : (j n : ℕ) → n / 1000 < ten_to (suc j) → length (amount n) ≤ suc j + 4
 unfolding amount
 amount-short j n h = simp length-append (omega (arith, decimal-length j (n / 1000) h, fraction-short (n % 1000) (omega arith)))
 
-pub thousandths-short : (j : ℕ) (n : ℤ) → size n / 1000 < tenTo (suc j) → length (thousandths n) ≤ suc j + 5
+pub thousandths-short : (j : ℕ) (n : ℤ) → size n / 1000 < ten_to (suc j) → length (thousandths n) ≤ suc j + 5
 unfolding thousandths
 thousandths-short j (pos n) h = let e : n + 0 ≡ n = omega arith in omega (arith, amount-short j n (rw e at h))
 thousandths-short j (negsuc n) h = let e : 0 + suc n ≡ suc n = omega arith in omega (arith, amount-short j (suc n) (rw e at h))
@@ -53,7 +53,7 @@ pub across-short : (n : ℤ) → size n ≤ 2 ^ 42 → length (across n) ≤ 18
 unfolding across
 across-short n h = number_short (pos 500 *ℤ n) (omega (arith, times-P n, times-N n))
 
-pub down-short : (j n : ℕ) → n < tenTo (suc j) → length (down n) ≤ suc j
+pub down-short : (j n : ℕ) → n < ten_to (suc j) → length (down n) ≤ suc j
 unfolding down amount fraction
 down-short j n h =
     let q : 1000 * n / 1000 ≡ n = omega arith in

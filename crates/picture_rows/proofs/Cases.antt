@@ -5,8 +5,8 @@ use mathlib.Core.List.{[], ◌∷◌}
 use Rattle.ints.specs.Lists.{sum, greatest}
 use Rattle.text.specs.Bytes.{bytes}
 use Rattle.script_words.specs.Parts.{parts}
-use Rattle.picture_rows.specs.Escape.{escapedByte, escaped}
-use Rattle.picture_rows.specs.Rows.{columnsOf, columns, widest, last_of, longest, cutEnd, row, rows}
+use Rattle.picture_rows.specs.Escape.{escaped_byte, escaped}
+use Rattle.picture_rows.specs.Rows.{columns_of, columns, widest, last_of, longest, cut_end, row, rows}
 
 pub named : (
     rows 3 3 (bytes "Tea")
@@ -33,13 +33,13 @@ pub named : (
     ∷ (row (bytes "ab") false ∷ row (bytes "cd") false ∷ row (bytes "ef") true ∷ [])
     ∷ (row (bytes "T") true ∷ []) ∷ []
     )
-unfolding rows cutEnd longest last_of columns columnsOf sum parts
+unfolding rows cut_end longest last_of columns columns_of sum parts
 named = refl
 
 pub wides : (widest (bytes "Customer relationship management") ∷ widest (0x61 ∷ 0xC3 ∷ 0xA9 ∷ 0x20 ∷ 0xE8 ∷ 0xAA ∷ 0x9E ∷ 0x78 ∷ []) ∷ widest [] ∷ []) ≡ (12 ∷ 3 ∷ 0 ∷ [])
-unfolding widest greatest columns columnsOf sum parts
+unfolding widest greatest columns columns_of sum parts
 wides = refl
 
 pub marked : escaped (bytes "a<b>&c") ≡ bytes "a&lt;b&gt;&amp;c"
-unfolding escaped escapedByte
+unfolding escaped escaped_byte
 marked = refl

@@ -12,23 +12,23 @@ use lib.Seq.{drop-cons, take-suc}
 use Rattle.ints.specs.Lists.{sum, greatest}
 use Rattle.ints.proofs.Tests.{test}
 use Rattle.script_words.specs.Parts.{parts, onto}
-use Rattle.picture_rows.specs.Rows.{columnsOf, columns, widest}
+use Rattle.picture_rows.specs.Rows.{columns_of, columns, widest}
 
 module _ (b : ℕ) where
-  pub col-ascii : b < 0x80 → columnsOf b ≡ 1
-  unfolding columnsOf
+  pub col-ascii : b < 0x80 → columns_of b ≡ 1
+  unfolding columns_of
   col-ascii h = rw (lt-ltb b 0x80 h)
 
-  pub col-later : 0x80 ≤ b → b < 0xC0 → columnsOf b ≡ 0
-  unfolding columnsOf
+  pub col-later : 0x80 ≤ b → b < 0xC0 → columns_of b ≡ 0
+  unfolding columns_of
   col-later h k = rw (le-ltb b 0x80 h, lt-ltb b 0xC0 k)
 
-  pub col-two : 0xC0 ≤ b → b < 0xE0 → columnsOf b ≡ 1
-  unfolding columnsOf
+  pub col-two : 0xC0 ≤ b → b < 0xE0 → columns_of b ≡ 1
+  unfolding columns_of
   col-two h k = rw (le-ltb b 0x80 (omega arith), le-ltb b 0xC0 h, lt-ltb b 0xE0 k)
 
-  pub col-more : 0xE0 ≤ b → columnsOf b ≡ 2
-  unfolding columnsOf
+  pub col-more : 0xE0 ≤ b → columns_of b ≡ 2
+  unfolding columns_of
   col-more h = rw (le-ltb b 0x80 (omega arith), le-ltb b 0xC0 (omega arith), le-ltb b 0xE0 h)
 
 pub columns-append : (s t : List ℕ) → columns (s ++ t) ≡ columns s + columns t
@@ -36,7 +36,7 @@ unfolding columns sum
 columns-append [] t = omega arith
 columns-append (b ∷ s) t = omega (arith, columns-append s t)
 
-pub columns-one : (b : ℕ) → columns (b ∷ []) ≡ columnsOf b
+pub columns-one : (b : ℕ) → columns (b ∷ []) ≡ columns_of b
 unfolding columns sum
 columns-one b = omega arith
 
@@ -44,7 +44,7 @@ pub columns-none : columns [] ≡ 0
 unfolding columns sum
 columns-none = refl
 
-pub columns-next : (s : List ℕ) (i : ℕ) → i < length s → columns (take (i + 1) s) ≡ columns (take i s) + columnsOf (get_or s i 0)
+pub columns-next : (s : List ℕ) (i : ℕ) → i < length s → columns (take (i + 1) s) ≡ columns (take i s) + columns_of (get_or s i 0)
 columns-next s i h =
     ap (λ (n : ℕ). columns (take n s)) (add-one i) ∙ ap columns (take-suc s i 0 h) ∙ columns-append (take i s) (get_or s i 0 ∷ [])
     ∙ ap (λ (n : ℕ). columns (take i s) + n) (columns-one (get_or s i 0))
@@ -63,7 +63,7 @@ after_none sep (b ∷ s) = go (cond (eqb b sep) ([] ∷ parts sep s) (onto (b �
     go [] = refl
     go (v ∷ vs) = omega arith
 
-after-onto : (w b : ℕ) (ws : List (List ℕ)) → after w (onto (b ∷ []) ws) ≡ after (w + columnsOf b) ws
+after-onto : (w b : ℕ) (ws : List (List ℕ)) → after w (onto (b ∷ []) ws) ≡ after (w + columns_of b) ws
 unfolding greatest
 after-onto w b [] = omega (arith, columns-one b)
 after-onto w b (v ∷ vs) = omega (arith, columns-append (b ∷ []) v, columns-one b)
@@ -80,12 +80,12 @@ module _ (s : List ℕ) (i most w : ℕ) where
       rw (add-one, drop-cons s i 0 h, eq-eqb (get_or s i 0) 32 e)
       (omega (arith, after_none 32 (drop (suc i) s), columns-none))
 
-  at_byte : i < length s → (get_or s i 0 ≡ 32 → ⊥) → sofar s i most w ≡ sofar s (i + 1) most (w + columnsOf (get_or s i 0))
+  at_byte : i < length s → (get_or s i 0 ≡ 32 → ⊥) → sofar s i most w ≡ sofar s (i + 1) most (w + columns_of (get_or s i 0))
   unfolding parts
   at_byte h n = rw (add-one, drop-cons s i 0 h, ne_eqb (get_or s i 0) 32 n) (ap (max most) (after-onto w (get_or s i 0) (parts 32 (drop (suc i) s))))
 
   pub widest-on : i < length s → let t = eqb (get_or s i 0) 32 in
-      sofar s i most w ≡ sofar s (i + 1) (cond t (max most w) most) (cond t 0 (w + columnsOf (get_or s i 0)))
+      sofar s i most w ≡ sofar s (i + 1) (cond t (max most w) most) (cond t 0 (w + columns_of (get_or s i 0)))
   widest-on h = test (eqb (get_or s i 0) 32) (λ e. rw e (at-space h (eqb-true (get_or s i 0) 32 e))) (λ e. rw e (at_byte h (eqb-false (get_or s i 0) 32 e)))
 
   pub widest-end : length s ≤ i → sofar s i most w ≡ max most w

@@ -11,27 +11,27 @@ use lib.ListN.{length, get_or, drop, drop_of_length-le, length-append}
 use lib.Seq.{drop-cons}
 use Rattle.ints.proofs.Laws.{if-ind}
 use Rattle.text.specs.Bytes.{bytes}
-use Rattle.picture_rows.specs.Escape.{escapedByte, escaped}
+use Rattle.picture_rows.specs.Escape.{escaped_byte, escaped}
 
 module _ (b : ℕ) where
-  pub is-and : b ≡ 38 → escapedByte b ≡ bytes "&amp;"
-  unfolding escapedByte
+  pub is-and : b ≡ 38 → escaped_byte b ≡ bytes "&amp;"
+  unfolding escaped_byte
   is-and e = rw (eq-eqb b 38 e)
 
-  pub is-less : (b ≡ 38 → ⊥) → b ≡ 60 → escapedByte b ≡ bytes "&lt;"
-  unfolding escapedByte
+  pub is-less : (b ≡ 38 → ⊥) → b ≡ 60 → escaped_byte b ≡ bytes "&lt;"
+  unfolding escaped_byte
   is-less n e = rw (ne_eqb b 38 n, eq-eqb b 60 e)
 
-  pub is_greater : (b ≡ 38 → ⊥) → (b ≡ 60 → ⊥) → b ≡ 62 → escapedByte b ≡ bytes "&gt;"
-  unfolding escapedByte
+  pub is_greater : (b ≡ 38 → ⊥) → (b ≡ 60 → ⊥) → b ≡ 62 → escaped_byte b ≡ bytes "&gt;"
+  unfolding escaped_byte
   is_greater n m e = rw (ne_eqb b 38 n, ne_eqb b 60 m, eq-eqb b 62 e)
 
-  pub is_plain : (b ≡ 38 → ⊥) → (b ≡ 60 → ⊥) → (b ≡ 62 → ⊥) → escapedByte b ≡ b ∷ []
-  unfolding escapedByte
+  pub is_plain : (b ≡ 38 → ⊥) → (b ≡ 60 → ⊥) → (b ≡ 62 → ⊥) → escaped_byte b ≡ b ∷ []
+  unfolding escaped_byte
   is_plain n m k = rw (ne_eqb b 38 n, ne_eqb b 60 m, ne_eqb b 62 k)
 
-  byte-short : length (escapedByte b) ≤ 5
-  unfolding escapedByte
+  byte-short : length (escaped_byte b) ≤ 5
+  unfolding escaped_byte
   byte-short =
       let other = cond (eqb b 62) (bytes "&gt;") (b ∷ []) in
       if-ind (eqb b 38) (bytes "&amp;") (cond (eqb b 60) (bytes "&lt;") other) (λ w. length w ≤ 5) (λ e. omega arith)
@@ -39,7 +39,7 @@ module _ (b : ℕ) where
       (λ f. if-ind (eqb b 62) (bytes "&gt;") (b ∷ []) (λ w. length w ≤ 5) (λ g. omega arith) (λ g. omega arith)))
 
 module _ (s : List ℕ) (i : ℕ) where
-  pub escaped-on : i < length s → escaped (drop i s) ≡ escapedByte (get_or s i 0) ++ escaped (drop (i + 1) s)
+  pub escaped-on : i < length s → escaped (drop i s) ≡ escaped_byte (get_or s i 0) ++ escaped (drop (i + 1) s)
   unfolding escaped
   escaped-on h = rw (add-one, drop-cons s i 0 h)
 
@@ -51,4 +51,4 @@ module _ (s : List ℕ) (i : ℕ) where
 pub escaped-short : (s : List ℕ) → length (escaped s) ≤ 5 * length s
 unfolding escaped
 escaped-short [] = omega arith
-escaped-short (b ∷ s) = omega (arith, length-append (escapedByte b) (escaped s), byte-short b, escaped-short s)
+escaped-short (b ∷ s) = omega (arith, length-append (escaped_byte b) (escaped s), byte-short b, escaped-short s)

@@ -14,7 +14,7 @@ use Rattle.ints.proofs.Laws.{if-ind}
 use Rattle.script_words.specs.Parts.{word_at}
 use Rattle.script_words.specs.inner.Ends.{PartEnds, between}
 use Rattle.script_words.proofs.PartLaws.{part-first, rest}
-use Rattle.picture_rows.specs.Rows.{columns, last_of, longest, isSpace, begins, cutEnd, row, isWhole, rows}
+use Rattle.picture_rows.specs.Rows.{columns, last_of, longest, is_space, begins, cut_end, row, is_whole, rows}
 use Rattle.picture_rows.specs.inner.Found.{FirstRow}
 
 pub cond_both : {A : Type 0} (a b : Bool) (x y : A) → cond a (cond b x y) y ≡ cond (a && b) x y
@@ -56,18 +56,18 @@ module _ (st : ℕ → Bool) (most : ℕ) (name : List ℕ) where
 
 -- ---- a row that is cut
 module _ (most : ℕ) (name : List ℕ) (e : ℕ) (h : e ≡ longest begins most name) where
-  pub cut-none : e ≡ 0 → 0 ≡ cutEnd most name
-  unfolding cutEnd
+  pub cut-none : e ≡ 0 → 0 ≡ cut_end most name
+  unfolding cut_end
   cut-none z =
       let q : longest begins most name ≡ 0 = sym h ∙ z in
       rw q (if-ind (eqb (get_or name 0 0) 32) 0 0 (λ n. 0 ≡ n) (λ _. refl) (λ _. refl))
 
-  pub cut-space : get_or name (e - 1) 0 ≡ 32 → e - 1 ≡ cutEnd most name
-  unfolding cutEnd
+  pub cut-space : get_or name (e - 1) 0 ≡ 32 → e - 1 ≡ cut_end most name
+  unfolding cut_end
   cut-space s = rw (← h, eq-eqb (get_or name (e - 1) 0) 32 s)
 
-  pub cut-plain : (get_or name (e - 1) 0 ≡ 32 → ⊥) → e ≡ cutEnd most name
-  unfolding cutEnd
+  pub cut-plain : (get_or name (e - 1) 0 ≡ 32 → ⊥) → e ≡ cut_end most name
+  unfolding cut_end
   cut-plain s = rw (← h, ne_eqb (get_or name (e - 1) 0) 32 s)
 
 -- ---- the first row
@@ -82,31 +82,31 @@ module _ (cols : ℕ) where
   rows_none (suc n) [] h = refl
   rows_none (suc n) (b ∷ s) h = absurd (omega arith)
 
-  first-is : (n : ℕ) (name : List ℕ) → 0 < length name → rows cols (suc n) name ≡ cond (isWhole n (longest isSpace cols name) name)
-      (row (take (longest isSpace cols name) name) false ∷ rows cols n (drop (longest isSpace cols name + 1) name))
+  first-is : (n : ℕ) (name : List ℕ) → 0 < length name → rows cols (suc n) name ≡ cond (is_whole n (longest is_space cols name) name)
+      (row (take (longest is_space cols name) name) false ∷ rows cols n (drop (longest is_space cols name + 1) name))
       (let inside = cond (eqb n 0) name (word_at name 0) in
-      row (take (cutEnd (cols - 1) inside) inside) true ∷ rows cols n (drop (length (word_at name 0) + 1) name))
+      row (take (cut_end (cols - 1) inside) inside) true ∷ rows cols n (drop (length (word_at name 0) + 1) name))
   unfolding rows
   first-is n [] h = absurd (omega arith)
   first-is n (b ∷ s) h = rw (add-one, add-one)
 
-  module _ (left : ℕ) (name : List ℕ) (l : 0 < left) (h : 0 < length name) (e : ℕ) (q : e ≡ longest isSpace cols name) where
-    pub row-whole : isWhole (left - 1) e name ≡ true → FirstRow cols left name e false (e + 1)
+  module _ (left : ℕ) (name : List ℕ) (l : 0 < left) (h : 0 < length name) (e : ℕ) (q : e ≡ longest is_space cols name) where
+    pub row-whole : is_whole (left - 1) e name ≡ true → FirstRow cols left name e false (e + 1)
     row-whole t = record {
       gives =
           let s : left ≡ suc (left - 1) = omega arith in
-          let t' : isWhole (left - 1) (longest isSpace cols name) name ≡ true = rw (← q) t in
+          let t' : is_whole (left - 1) (longest is_space cols name) name ≡ true = rw (← q) t in
           ap (λ (n : ℕ). rows cols n name) s ∙ first-is (left - 1) name h ∙ rw (t', q);
-      inside = omega (arith, q, longest-under isSpace cols name);
-      onward = (omega arith, omega (arith, q, longest-under isSpace cols name));
+      inside = omega (arith, q, longest-under is_space cols name);
+      onward = (omega arith, omega (arith, q, longest-under is_space cols name));
     }
 
-    pub row-part : (w m room : ℕ) → isWhole (left - 1) e name ≡ false → PartEnds 32 name 0 w → room ≡ cond (eqb left 1) (length name) w
-        → m ≡ cutEnd (cols - 1) (take room name) → m ≤ length (take room name) → FirstRow cols left name m true (w + 1)
+    pub row-part : (w m room : ℕ) → is_whole (left - 1) e name ≡ false → PartEnds 32 name 0 w → room ≡ cond (eqb left 1) (length name) w
+        → m ≡ cut_end (cols - 1) (take room name) → m ≤ length (take room name) → FirstRow cols left name m true (w + 1)
     row-part w m room t p r mq mh = record {
       gives =
           let s : left ≡ suc (left - 1) = omega arith in
-          let t' : isWhole (left - 1) (longest isSpace cols name) name ≡ false = rw (← q) t in
+          let t' : is_whole (left - 1) (longest is_space cols name) name ≡ false = rw (← q) t in
           ap (λ (n : ℕ). rows cols n name) s ∙ first-is (left - 1) name h ∙ rw (t', word-long, ← inside) (ap (λ f. row f true ∷ rows cols (left - 1) (drop (w + 1) name)) front);
       inside = omega (arith, mh, length-take room name);
       onward = (omega arith, omega (arith, p.inside));
@@ -129,7 +129,7 @@ module _ (cols : ℕ) where
               rw (k, ne_eqb (left - 1) 0 (λ y. z (omega (arith, y, l)))) (sym word)
         ]
 
-        front : take (cutEnd (cols - 1) (take room name)) (take room name) ≡ take m name
+        front : take (cut_end (cols - 1) (take room name)) (take room name) ≡ take m name
         front = rw (← mq) (take-take m room name (omega (arith, mh, length-take room name)))
 
 -- ---- rows of what is left of a name, of which a part is lent

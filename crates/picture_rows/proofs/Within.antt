@@ -14,7 +14,7 @@ use Rattle.ints.proofs.Laws.{if-ind}
 use Rattle.ints.proofs.Tests.{and_right, test}
 use Rattle.plan.specs.Checks.{every}
 use Rattle.script_words.specs.Parts.{parts, onto, word_at}
-use Rattle.picture_rows.specs.Rows.{columns, last_of, longest, isSpace, begins, cutEnd, Row, row, isWhole, rows}
+use Rattle.picture_rows.specs.Rows.{columns, last_of, longest, is_space, begins, cut_end, Row, row, is_whole, rows}
 use Rattle.picture_rows.proofs.ColumnLaws.{columns-append, columns-none}
 use Rattle.picture_rows.proofs.RowLaws.{ends_at, longest-under, no_rows}
 
@@ -47,8 +47,8 @@ module _ (most : ℕ) (name : List ℕ) where
         | no q ↦ leb-true (columns (take e name)) most (and_right (st (get_or name e 32)) (leb (columns (take e name)) most) (last-holds t (length name) q))
       ]
 
-  pub cut-wide : columns (take (cutEnd most name) name) ≤ most
-  unfolding cutEnd
+  pub cut-wide : columns (take (cut_end most name) name) ≤ most
+  unfolding cut_end
   cut-wide =
       let e = longest begins most name in
       if-ind (eqb (get_or name (e - 1) 0) 32) (e - 1) e (λ n. columns (take n name) ≤ most)
@@ -67,24 +67,24 @@ first_short (b ∷ s) = go (eqb b 32) (parts 32 s) (first_short s)
 
 -- ---- by the first row
 module _ (cols n : ℕ) (name : List ℕ) where
-  abbrev pub wholeRow : List Row
-  wholeRow = let e = longest isSpace cols name in row (take e name) false ∷ rows cols n (drop (suc e) name)
+  abbrev pub whole_row : List Row
+  whole_row = let e = longest is_space cols name in row (take e name) false ∷ rows cols n (drop (suc e) name)
 
-  abbrev pub partRow : List Row
-  partRow =
+  abbrev pub part_row : List Row
+  part_row =
       let inside = cond (eqb n 0) name (word_at name 0) in
-      row (take (cutEnd (cols - 1) inside) inside) true ∷ rows cols n (drop (suc (length (word_at name 0))) name)
+      row (take (cut_end (cols - 1) inside) inside) true ∷ rows cols n (drop (suc (length (word_at name 0))) name)
 
 by_first : (cols : ℕ) (P : ℕ → List ℕ → List Row → Type 0) → ((name : List ℕ) → P 0 name []) → ((n : ℕ) → P (suc n) [] [])
-    → ((n : ℕ) (name : List ℕ) → P n (drop (suc (longest isSpace cols name)) name) (rows cols n (drop (suc (longest isSpace cols name)) name)) → P (suc n) name (wholeRow cols n name))
-    → ((n : ℕ) (name : List ℕ) → P n (drop (suc (length (word_at name 0))) name) (rows cols n (drop (suc (length (word_at name 0))) name)) → P (suc n) name (partRow cols n name))
+    → ((n : ℕ) (name : List ℕ) → P n (drop (suc (longest is_space cols name)) name) (rows cols n (drop (suc (longest is_space cols name)) name)) → P (suc n) name (whole_row cols n name))
+    → ((n : ℕ) (name : List ℕ) → P n (drop (suc (length (word_at name 0))) name) (rows cols n (drop (suc (length (word_at name 0))) name)) → P (suc n) name (part_row cols n name))
     → (n : ℕ) (name : List ℕ) → P n name (rows cols n name)
 unfolding rows
 by_first cols P z e w p zero name = z name
 by_first cols P z e w p (suc n) [] = e n
 by_first cols P z e w p (suc n) (b ∷ s) =
-    if-ind (isWhole n (longest isSpace cols (b ∷ s)) (b ∷ s)) (wholeRow cols n (b ∷ s)) (partRow cols n (b ∷ s)) (P (suc n) (b ∷ s))
-    (λ _. w n (b ∷ s) (by_first cols P z e w p n (drop (suc (longest isSpace cols (b ∷ s))) (b ∷ s))))
+    if-ind (is_whole n (longest is_space cols (b ∷ s)) (b ∷ s)) (whole_row cols n (b ∷ s)) (part_row cols n (b ∷ s)) (P (suc n) (b ∷ s))
+    (λ _. w n (b ∷ s) (by_first cols P z e w p n (drop (suc (longest is_space cols (b ∷ s))) (b ∷ s))))
     (λ _. p n (b ∷ s) (by_first cols P z e w p n (drop (suc (length (word_at (b ∷ s) 0))) (b ∷ s))))
 
 every-cons : (cols : ℕ) (r : Row) (rs : List Row) → wide r ≤ cols → every (λ r. leb (wide r) cols) rs ≡ true → every (λ r. leb (wide r) cols) (r ∷ rs) ≡ true
@@ -99,10 +99,10 @@ every-none cols = refl
 pub rows-wide : (cols n : ℕ) (name : List ℕ) → 0 < cols → every (λ r. leb (wide r) cols) (rows cols n name) ≡ true
 rows-wide cols n name c =
     by_first cols (λ _ _ rs. every (λ r. leb (wide r) cols) rs ≡ true) (λ _. every-none cols) (λ _. every-none cols)
-    (λ n s h. every-cons cols (row (take (longest isSpace cols s) s) false) (rows cols n (drop (suc (longest isSpace cols s)) s))
-    (omega (arith, longest-wide cols s isSpace)) h)
+    (λ n s h. every-cons cols (row (take (longest is_space cols s) s) false) (rows cols n (drop (suc (longest is_space cols s)) s))
+    (omega (arith, longest-wide cols s is_space)) h)
     (λ n s h. let i = cond (eqb n 0) s (word_at s 0) in
-    every-cons cols (row (take (cutEnd (cols - 1) i) i) true) (rows cols n (drop (suc (length (word_at s 0))) s))
+    every-cons cols (row (take (cut_end (cols - 1) i) i) true) (rows cols n (drop (suc (length (word_at s 0))) s))
     (omega (arith, c, cut-wide (cols - 1) i)) h)
     n name
 
@@ -116,12 +116,12 @@ pub rows_long : (cols n : ℕ) (name : List ℕ) → long (rows cols n name) ≤
 unfolding sum
 rows_long cols n name =
     by_first cols (λ n s rs. long rs ≤ length s) (λ _. omega arith) (λ _. omega arith)
-    (λ n s h. let e = longest isSpace cols s in omega (arith, h, length-take e s, length-drop (suc e) s, longest-under isSpace cols s))
+    (λ n s h. let e = longest is_space cols s in omega (arith, h, length-take e s, length-drop (suc e) s, longest-under is_space cols s))
     part n name
   where
-    part : (n : ℕ) (s : List ℕ) → long (rows cols n (drop (suc (length (word_at s 0))) s)) ≤ length (drop (suc (length (word_at s 0))) s) → long (partRow cols n s) ≤ length s
-    part zero s h = omega (arith, ap long (no_rows cols (drop (suc (length (word_at s 0))) s)), length-take (cutEnd (cols - 1) s) s)
+    part : (n : ℕ) (s : List ℕ) → long (rows cols n (drop (suc (length (word_at s 0))) s)) ≤ length (drop (suc (length (word_at s 0))) s) → long (part_row cols n s) ≤ length s
+    part zero s h = omega (arith, ap long (no_rows cols (drop (suc (length (word_at s 0))) s)), length-take (cut_end (cols - 1) s) s)
     part (suc n) s h =
         let w = word_at s 0 in let i = cond (eqb (suc n) 0) s w in
         let z : i ≡ w = rw (ne_eqb (suc n) 0 (λ e. omega arith)) in
-        omega (arith, h, ap length z, length-take (cutEnd (cols - 1) i) i, length-drop (suc (length w)) s, first_short s)
+        omega (arith, h, ap length z, length-take (cut_end (cols - 1) i) i, length-drop (suc (length w)) s, first_short s)

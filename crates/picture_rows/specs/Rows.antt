@@ -4,11 +4,11 @@ use Rattle.ints.specs.Lists.{sum, greatest}
 use Rattle.script_words.specs.Parts.{words, word_at}
 
 -- Columns of a byte: 0 for a byte that continues a character, 2 for the first byte of a character from U+0800 on.
-unfoldable pub columnsOf : ℕ → ℕ
-columnsOf b = cond (ltb b 0x80) 1 (cond (ltb b 0xC0) 0 (cond (ltb b 0xE0) 1 2))
+unfoldable pub columns_of : ℕ → ℕ
+columns_of b = cond (ltb b 0x80) 1 (cond (ltb b 0xC0) 0 (cond (ltb b 0xE0) 1 2))
 
 unfoldable pub columns : List ℕ → ℕ
-columns s = sum (map columnsOf s)
+columns s = sum (map columns_of s)
 
 -- The columns of the widest word.
 unfoldable pub widest : List ℕ → ℕ
@@ -26,15 +26,15 @@ unfoldable pub longest : (ℕ → Bool) → ℕ → List ℕ → ℕ
 longest stops most name = last_of (λ e. stops (get_or name e 32) && leb (columns (take e name)) most) (length name)
 
 -- Where a word ends, and where a character begins.
-abbrev pub isSpace : ℕ → Bool
-isSpace b = eqb b 32
+abbrev pub is_space : ℕ → Bool
+is_space b = eqb b 32
 
 abbrev pub begins : ℕ → Bool
-begins b = ltb 0 (columnsOf b)
+begins b = ltb 0 (columns_of b)
 
 -- The end of the longest front of whole characters, a space at its end dropped.
-unfoldable pub cutEnd : ℕ → List ℕ → ℕ
-cutEnd most name =
+unfoldable pub cut_end : ℕ → List ℕ → ℕ
+cut_end most name =
     let e = longest begins most name in
     cond (eqb (get_or name (e - 1) 0) 32) (e - 1) e
 
@@ -47,8 +47,8 @@ abbrev pub row : List ℕ → Bool → Row
 row front cut = record { front = front; cut = cut }
 
 -- Whether whole words up to e make a row, after which there is room for n rows: the last row has to hold all that is left.
-abbrev pub isWhole : ℕ → ℕ → List ℕ → Bool
-isWhole n e name = cond (eqb n 0) (eqb e (length name)) (ltb 0 e)
+abbrev pub is_whole : ℕ → ℕ → List ℕ → Bool
+is_whole n e name = cond (eqb n 0) (eqb e (length name)) (ltb 0 e)
 
 -- At most so many rows of a name: each has whole words; or the front of the first word, or in the last row of all that is left, that leaves
 -- a column for the sign. What follows the words' space, or that of the word that is cut, stands in the next rows.
@@ -57,8 +57,8 @@ rows cols zero name = []
 rows cols (suc n) [] = []
 rows cols (suc n) (b ∷ s) =
     let name = b ∷ s in
-    let e = longest isSpace cols name in
+    let e = longest is_space cols name in
     let whole = row (take e name) false ∷ rows cols n (drop (suc e) name) in
     let inside = cond (eqb n 0) name (word_at name 0) in
-    let part = row (take (cutEnd (cols - 1) inside) inside) true ∷ rows cols n (drop (suc (length (word_at name 0))) name) in
-    cond (isWhole n e name) whole part
+    let part = row (take (cut_end (cols - 1) inside) inside) true ∷ rows cols n (drop (suc (length (word_at name 0))) name) in
+    cond (is_whole n e name) whole part

@@ -1,11 +1,11 @@
 // How wide names are.
 ghost use Rattle.std.specs.Prelude.{◌≡◌, cond, ◌≤◌, max};
 ghost use Rattle.picture_rows.specs.Rows as spec;
-ghost use Rattle.picture_rows.specs.Rows.{columnsOf};
+ghost use Rattle.picture_rows.specs.Rows.{columns_of};
 
 // Columns of a byte.
 pub fn columns_of(b: u8) -> usize
-    ensures { (result ≡ columnsOf b) × (result ≤ 2) }
+    ensures { (result ≡ columns_of b) × (result ≤ 2) }
 {
     if b < 0x80 {
         return 1;

@@ -1,7 +1,7 @@
 // Text as it stands in XML, written from a position of a lent buffer on. Each answers the position past what it wrote.
 ghost use Rattle.std.specs.Prelude.{[], ◌∷◌};
 ghost use Rattle.text_write.specs.inner.Written.{Room, Wrote};
-ghost use Rattle.picture_rows.specs.Escape.{escapedByte, escaped};
+ghost use Rattle.picture_rows.specs.Escape.{escaped_byte, escaped};
 
 use text_write::number::put_word;
 
@@ -16,8 +16,8 @@ fn put_byte(out: &mut [u8], at: usize, b: u8) -> usize
 
 // A byte.
 fn put_escaped_byte(out: &mut [u8], at: usize, b: u8) -> usize
-    requires { Room (escapedByte b) out.old at }
-    ensures { Wrote (escapedByte b) out.old at result out.new }
+    requires { Room (escaped_byte b) out.old at }
+    ensures { Wrote (escaped_byte b) out.old at result out.new }
 {
     if b == b'&' {
         return put_word(out, at, b"&amp;");

@@ -1,7 +1,7 @@
 // Rows of a name.
 ghost use Rattle.std.specs.Prelude.{◌≡◌, ◌-◌, ◌≤◌, ◌<◌, length, get_or};
 ghost use Rattle.picture_rows.specs.Rows as spec;
-ghost use Rattle.picture_rows.specs.Rows.{cutEnd, isWhole};
+ghost use Rattle.picture_rows.specs.Rows.{cut_end, is_whole};
 ghost use Rattle.picture_rows.specs.inner.Found.{stops, FirstRow};
 
 use crate::columns::{chosen, columns_of};
@@ -53,7 +53,7 @@ fn longest(name: &[u8], words: bool, most: usize) -> usize
 
 // The end of a row that is cut.
 fn cut_end(name: &[u8], most: usize) -> usize
-    ensures { (result ≡ cutEnd most name.now) × (result ≤ length name.now) }
+    ensures { (result ≡ cut_end most name.now) × (result ≤ length name.now) }
 {
     let end = longest(name, false, most);
     if end == 0 {
@@ -69,7 +69,7 @@ fn cut_end(name: &[u8], most: usize) -> usize
 // Whether whole words make the row.
 fn is_whole(left: u32, end: usize, name: &[u8]) -> bool
     requires { 0 < left }
-    ensures { result ≡ isWhole (left - 1) end name.now }
+    ensures { result ≡ is_whole (left - 1) end name.now }
 {
     if left == 1 {
         return end == name.len();

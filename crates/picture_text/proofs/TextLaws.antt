@@ -9,7 +9,7 @@ use lib.Seq.{ext_get_or}
 use Rattle.ints.specs.Lists.{sum}
 use Rattle.plan.specs.Plan.{PlanData, numbers}
 use Rattle.plan.proofs.Levels.{length-numbers}
-use Rattle.passes.specs.Drawing.{drawingOf}
+use Rattle.passes.specs.Drawing.{drawing_of}
 use Rattle.text.specs.Reading.{accepted, refused}
 use Rattle.text_marks.proofs.Shown.{marks-asked}
 use Rattle.text.proofs.Words.{never}
@@ -18,13 +18,13 @@ use Rattle.picture_names.specs.declared.types.NamesAnswer.{NamesAnswer}
 use Rattle.picture_names.specs.declared.types.NamesAnswer.TheVariants.{Good, Bad}
 use Rattle.picture_names.specs.inner.Indexed.{name_at, HoldsNames, Indexed}
 use Rattle.picture_names.proofs.Sizes.{names-sized}
-use Rattle.picture_marks.specs.Picture.{pictureOf}
-use Rattle.picture_marks.specs.inner.Asked.{namesIn, PictureAsked}
+use Rattle.picture_marks.specs.Picture.{picture_of}
+use Rattle.picture_marks.specs.inner.Asked.{names_in, PictureAsked}
 use Rattle.picture_marks.proofs.ByLists.{given-at}
 use Rattle.picture_fit.specs.declared.types.PictureAnswer.{PictureAnswer}
 use Rattle.picture_fit.specs.declared.types.PictureAnswer.TheVariants.{Refused, BadNames}
 use Rattle.picture_fit.specs.Fitted.{Left, fitted, Leaves}
-use Rattle.picture_text.specs.Text.{namedPicture, pictureIn}
+use Rattle.picture_text.specs.Text.{named_picture, picture_in}
 use Rattle.picture_text.specs.inner.Named.{NamedPlan}
 
 -- the same by another definition
@@ -32,44 +32,44 @@ pub leaves : {l m : Left} {r : PictureAnswer} {out : List ℕ} → l ≡ m → L
 leaves e w = rw e w
 
 -- ---- refused, and not
-pub refused-so : (n : ℕ) (names o : List ℕ) → Leaves (pictureIn (refused n) names o) (Refused n) o
-unfolding pictureIn
+pub refused-so : (n : ℕ) (names o : List ℕ) → Leaves (picture_in (refused n) names o) (Refused n) o
+unfolding picture_in
 refused-so n names o = record { answer = refl; buffer = refl }
 
-pub names-refused : (p : PlanData) (names o : List ℕ) (line : ℕ) → names_of p.vias names ≡ bad line → Leaves (pictureIn (accepted p) names o) (BadNames line) o
-unfolding pictureIn namedPicture
+pub names-refused : (p : PlanData) (names o : List ℕ) (line : ℕ) → names_of p.vias names ≡ bad line → Leaves (picture_in (accepted p) names o) (BadNames line) o
+unfolding picture_in named_picture
 names-refused p names o line e = rw e (record { answer = refl; buffer = refl })
 
 pub picture-of : (p : PlanData) (names o : List ℕ) (l : List (List ℕ)) → names_of p.vias names ≡ named l
-    → pictureIn (accepted p) names o ≡ fitted (pictureOf p (drawingOf p).final l) o
-unfolding pictureIn namedPicture
+    → picture_in (accepted p) names o ≡ fitted (picture_of p (drawing_of p).final l) o
+unfolding picture_in named_picture
 picture-of p names o l e = rw e
 
 -- ---- names by their places
-names-are : (text starts ends : List ℕ) (l : List (List ℕ)) (n : ℕ) → length l ≡ n → HoldsNames text starts ends l → namesIn text starts ends n ≡ l
+names-are : (text starts ends : List ℕ) (l : List (List ℕ)) (n : ℕ) → length l ≡ n → HoldsNames text starts ends l → names_in text starts ends n ≡ l
 names-are text starts ends l n e h =
-    ext_get_or [] (namesIn text starts ends n) l (long ∙ sym e) (λ v k. given-at (name_at text starts ends) [] n v (omega (arith, long)) ∙ h.names v (omega (arith, long)))
+    ext_get_or [] (names_in text starts ends n) l (long ∙ sym e) (λ v k. given-at (name_at text starts ends) [] n v (omega (arith, long)) ∙ h.names v (omega (arith, long)))
   where
-    long : length (namesIn text starts ends n) ≡ n
+    long : length (names_in text starts ends n) ≡ n
     long = length-map (numbers 0 n) (name_at text starts ends) ∙ length-numbers 0 n
 
 -- ---- what the picture of a plan asks for
 module _ (p : PlanData) (text starts ends : List ℕ) (h : NamedPlan p text starts ends) where
-  pub names-is : namesIn text starts ends (length p.vias) ≡ h.names
+  pub names-is : names_in text starts ends (length p.vias) ≡ h.names
   names-is = names-are text starts ends h.names (length p.vias) (names-sized p.vias text h.good).count h.holds
 
-  pub names-few : sum (map length (namesIn text starts ends (length p.vias))) ≤ 65536
+  pub names-few : sum (map length (names_in text starts ends (length p.vias))) ≤ 65536
   names-few = rw names-is (names-sized p.vias text h.good).short
 
-  pub picture-asked : PictureAsked p (drawingOf p).final text starts ends
+  pub picture-asked : PictureAsked p (drawing_of p).final text starts ends
   picture-asked =
       let m = marks-asked p h.plan in
       let n = (names-sized p.vias text h.good).count in
       record {
         drawn = record { plan = h.plan; positions = m.agreeing.positions; within = m.near.within };
         names = record {
-          starts-long = h.starts-long;
-          ends-long = h.ends-long;
+          starts_long = h.starts_long;
+          ends_long = h.ends_long;
           ordered = λ w k. h.holds.ordered w (omega (arith, n));
           inside = λ w k. h.holds.inside w (omega (arith, n));
         };
@@ -77,10 +77,10 @@ module _ (p : PlanData) (text starts ends : List ℕ) (h : NamedPlan p text star
 
 -- ---- by what the names answered
 module _ (p : PlanData) {text starts ends : List ℕ} {r : NamesAnswer} (o : List ℕ) (h : Indexed (names_of p.vias text) text starts ends r) where
-  pub bad-refused : {line : ℕ} → r ≡ Bad line → Leaves (pictureIn (accepted p) text o) (BadNames line) o
+  pub bad-refused : {line : ℕ} → r ≡ Bad line → Leaves (picture_in (accepted p) text o) (BadNames line) o
   bad-refused {line} e = go (names_of p.vias text) refl (sym h.answer ∙ e)
     where
-      go : (g : Names) → names_of p.vias text ≡ g → answer_of g ≡ Bad line → Leaves (pictureIn (accepted p) text o) (BadNames line) o
+      go : (g : Names) → names_of p.vias text ≡ g → answer_of g ≡ Bad line → Leaves (picture_in (accepted p) text o) (BadNames line) o
       go (bad n) f k = let same : n ≡ line = cc in names-refused p text o line (f ∙ ap bad same)
       go (named l) f k = never (cc)
 

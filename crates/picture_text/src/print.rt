@@ -2,8 +2,8 @@
 ghost use Rattle.std.specs.Prelude.{◌≤◌, length};
 ghost use Rattle.text.specs.Reading.{reading};
 ghost use Rattle.text_write.specs.inner.Written.{Fronts};
-ghost use Rattle.picture_marks.specs.inner.Asked.{maxPicture};
-ghost use Rattle.picture_text.specs.Printed.{namesRefusedLine, printed};
+ghost use Rattle.picture_marks.specs.inner.Asked.{max_picture};
+ghost use Rattle.picture_text.specs.Printed.{names_refused_line, printed};
 
 use crate::whole::picture_text;
 use picture_fit::types::PictureAnswer;
@@ -12,8 +12,8 @@ use text_write::number::{put_then, put_word};
 
 // "(names refused at line L)"
 fn refuse_names(line: u32, out: &mut [u8]) -> usize
-    requires { maxPicture ≤ length out.old }
-    ensures { Fronts (namesRefusedLine line) out.old result out.new }
+    requires { max_picture ≤ length out.old }
+    ensures { Fronts (names_refused_line line) out.old result out.new }
 {
     let at = put_word(out, 0, b"(names refused at line ");
     put_then(out, at, line as u64, b")\n")
@@ -21,7 +21,7 @@ fn refuse_names(line: u32, out: &mut [u8]) -> usize
 
 // The picture, or the one line that says what was refused, at the front of a buffer that has room for every picture: how many bytes.
 pub fn print(text: &[u8], names: &[u8], out: &mut [u8]) -> usize
-    requires { maxPicture ≤ length out.old }
+    requires { max_picture ≤ length out.old }
     ensures { Fronts (printed (reading text.now) names.now) out.old result out.new }
 {
     let answer = picture_text(text, names, out);

@@ -1,10 +1,10 @@
 // The picture of a text.
 ghost use Rattle.std.specs.Prelude.{◌≡◌, true};
 ghost use Rattle.plan.specs.Acceptable.{acceptable};
-ghost use Rattle.plan.specs.inner.Held.{heldPlan};
+ghost use Rattle.plan.specs.inner.Held.{held_plan};
 ghost use Rattle.text.specs.Reading.{accepted, reading};
 ghost use Rattle.picture_fit.specs.Fitted.{Leaves};
-ghost use Rattle.picture_text.specs.Text.{pictureIn};
+ghost use Rattle.picture_text.specs.Text.{picture_in};
 ghost use Rattle.picture_text.specs.inner.Named.{NamedPlan};
 
 use picture_fit::fit::fit_picture;
@@ -31,8 +31,8 @@ fn picture_named(
     ends: &[u32],
     out: &mut [u8],
 ) -> PictureAnswer
-    requires { NamedPlan (heldPlan gap spacing sizes.now vias.now halves.now uppers.now lowers.now ratings.now) names.now starts.now ends.now }
-    ensures { Leaves (pictureIn (accepted (heldPlan gap spacing sizes.now vias.now halves.now uppers.now
+    requires { NamedPlan (held_plan gap spacing sizes.now vias.now halves.now uppers.now lowers.now ratings.now) names.now starts.now ends.now }
+    ensures { Leaves (picture_in (accepted (held_plan gap spacing sizes.now vias.now halves.now uppers.now
         lowers.now ratings.now)) names.now out.old) result out.new }
 {
     let v = vias.len();
@@ -79,8 +79,8 @@ fn picture_plan(
     names: &[u8],
     out: &mut [u8],
 ) -> PictureAnswer
-    requires { acceptable (heldPlan gap spacing sizes.now vias.now halves.now uppers.now lowers.now ratings.now) ≡ true }
-    ensures { Leaves (pictureIn (accepted (heldPlan gap spacing sizes.now vias.now halves.now uppers.now
+    requires { acceptable (held_plan gap spacing sizes.now vias.now halves.now uppers.now lowers.now ratings.now) ≡ true }
+    ensures { Leaves (picture_in (accepted (held_plan gap spacing sizes.now vias.now halves.now uppers.now
         lowers.now ratings.now)) names.now out.old) result out.new }
 {
     let mut starts = [0u32; Plan::MAX_VERTICES];
@@ -97,7 +97,7 @@ fn picture_plan(
 // The picture of the text's plan, its boxes named by a text of names, in a lent buffer, with its length; later bytes stay. Refused 1 to 6 or
 // 14, or for a line of the names, the buffer stays as it is.
 pub fn picture_text(text: &[u8], names: &[u8], out: &mut [u8]) -> PictureAnswer
-    ensures { Leaves (pictureIn (reading text.now) names.now out.old) result out.new }
+    ensures { Leaves (picture_in (reading text.now) names.now out.old) result out.new }
 {
     let mut sizes = [0u16; Plan::MAX_LEVELS];
     let mut vias = [false; Plan::MAX_VERTICES];

@@ -4,27 +4,27 @@ use Rattle.ints.specs.Ints.{◌⊑◌}
 use Rattle.plan.specs.Plan.{PlanData}
 use Rattle.marks.specs.Marks.{WholeMark, box, bend, line}
 use Rattle.picture_view.specs.Measure.{measure, leftmost, rightmost}
-use Rattle.picture_view.specs.View.{viewLeft, viewTop, viewWidth, viewHeight}
+use Rattle.picture_view.specs.View.{view_left, view_top, view_width, view_height}
 
 -- The view's ends in thousandths of a step.
-abbrev pub leftEnd : PlanData → List ℤ → ℤ
-leftEnd p xs = pos 500 *ℤ viewLeft (leftmost p.halves xs) (measure p)
+abbrev pub left_end : PlanData → List ℤ → ℤ
+left_end p xs = pos 500 *ℤ view_left (leftmost p.halves xs) (measure p)
 
 abbrev pub width : PlanData → List ℤ → ℤ
-width p xs = pos 500 *ℤ viewWidth (leftmost p.halves xs) (rightmost p.halves xs) (measure p)
+width p xs = pos 500 *ℤ view_width (leftmost p.halves xs) (rightmost p.halves xs) (measure p)
 
-abbrev pub topEnd : PlanData → ℤ
-topEnd p = pos 500 *ℤ viewTop (measure p)
+abbrev pub top_end : PlanData → ℤ
+top_end p = pos 500 *ℤ view_top (measure p)
 
 abbrev pub height : PlanData → ℤ
-height p = pos (1000 * viewHeight p)
+height p = pos (1000 * view_height p)
 
 -- A point, in thousandths, lies inside the view.
 pub record Inside (p : PlanData) (xs : List ℤ) (x y : ℤ) : Type 0 where
-  pub from-left : leftEnd p xs ⊑ x
-  pub to-right : x ⊑ (leftEnd p xs +ℤ width p xs)
-  pub from-top : topEnd p ⊑ y
-  pub to-bottom : y ⊑ (topEnd p +ℤ height p)
+  pub from_left : left_end p xs ⊑ x
+  pub to_right : x ⊑ (left_end p xs +ℤ width p xs)
+  pub from_top : top_end p ⊑ y
+  pub to_bottom : y ⊑ (top_end p +ℤ height p)
 
 -- So does the rectangle of half-width a and half-height b around it.
 pub record AllInside (p : PlanData) (xs : List ℤ) (x y : ℤ) (a b : ℕ) : Type 0 where

@@ -1,32 +1,32 @@
 -- The first lines of a picture: what part of the plane is shown, and the constant style.
 use Rattle.std.specs.Prelude.{List, ◌++◌, ℕ, ◌+◌, ◌*◌, ℤ, pos, ◌+ℤ◌, ◌-ℤ◌}
-use Rattle.plan.specs.Plan.{PlanData, heightOf}
+use Rattle.plan.specs.Plan.{PlanData, height_of}
 use Rattle.text.specs.Bytes.{bytes}
 use Rattle.picture_numbers.specs.Thousandths.{across, down}
 use Rattle.picture_view.specs.Measure.{measure, leftmost, rightmost}
 
 -- The view's left end, top and width in half steps: "X = lo/2 − u/2, Y = −u/2, W = (hi − lo)/2 + u".
-abbrev pub viewLeft : ℤ → ℕ → ℤ
-viewLeft lo u = lo -ℤ pos u
+abbrev pub view_left : ℤ → ℕ → ℤ
+view_left lo u = lo -ℤ pos u
 
-abbrev pub viewTop : ℕ → ℤ
-viewTop u = pos 0 -ℤ pos u
+abbrev pub view_top : ℕ → ℤ
+view_top u = pos 0 -ℤ pos u
 
-abbrev pub viewWidth : ℤ → ℤ → ℕ → ℤ
-viewWidth lo hi u = (hi -ℤ lo) +ℤ pos (2 * u)
+abbrev pub view_width : ℤ → ℤ → ℕ → ℤ
+view_width lo hi u = (hi -ℤ lo) +ℤ pos (2 * u)
 
 -- The first line, with the view's height h in steps.
 unfoldable pub head_of : ℤ → ℤ → ℕ → ℕ → List ℕ
 head_of lo hi u h =
-    bytes "<svg xmlns=\"http://www.w3.org/2000/svg\" version=\"1.1\" class=\"drawing\" viewBox=\"" ++ across (viewLeft lo u)
-    ++ bytes " " ++ across (viewTop u) ++ bytes " " ++ across (viewWidth lo hi u) ++ bytes " " ++ down h ++ bytes "\">\n"
+    bytes "<svg xmlns=\"http://www.w3.org/2000/svg\" version=\"1.1\" class=\"drawing\" view_box=\"" ++ across (view_left lo u)
+    ++ bytes " " ++ across (view_top u) ++ bytes " " ++ across (view_width lo hi u) ++ bytes " " ++ down h ++ bytes "\">\n"
 
 -- "H = (K − 1) S + u": the lowest level's y, and u.
-abbrev pub viewHeight : PlanData → ℕ
-viewHeight p = heightOf p p.levels + measure p
+abbrev pub view_height : PlanData → ℕ
+view_height p = height_of p p.levels + measure p
 
-abbrev pub pictureHead : PlanData → List ℤ → List ℕ
-pictureHead p xs = head_of (leftmost p.halves xs) (rightmost p.halves xs) (measure p) (viewHeight p)
+abbrev pub picture_head : PlanData → List ℤ → List ℕ
+picture_head p xs = head_of (leftmost p.halves xs) (rightmost p.halves xs) (measure p) (view_height p)
 
 -- Colours and letters, by day and by night.
 unfoldable pub style : List ℕ

@@ -15,15 +15,15 @@ use Rattle.ints.specs.Ints.{size, ◌⊑◌}
 use Rattle.ints.proofs.Laws.{cases, ints}
 use Rattle.ints.proofs.Tests.{and_left, and_right, ◌and◌}
 use Rattle.ints.proofs.Reach.{within-size, within-get, within-cut}
-use Rattle.run.specs.Run.{free, at, nondecreasing, neighboursInOrder, span}
+use Rattle.run.specs.Run.{free, at, nondecreasing, neighbours_in_order, span}
 use Rattle.run.proofs.Leads.{lead-positions}
 use Rattle.run.proofs.Sorted.{Sorted, sorted-cons, sorted, sorted-get}
 use Rattle.run.specs.declared.types.Bound.{Bound}
 use Rattle.run.specs.declared.types.Bound.TheVariants.{Free, At}
 use Rattle.ints.specs.Lists.{sum}
-use Rattle.ints.specs.Reach.{reach, isWithin, allWithin}
-use Rattle.run.specs.Call.{memberOf, positionsOf, boxesFrom, isDistance, allDistances}
-use Rattle.run_columns.specs.inner.Columns.{partsInOrder}
+use Rattle.ints.specs.Reach.{reach, is_within, all_within}
+use Rattle.run.specs.Call.{member_of, positions_of, boxes_from, is_distance, all_distances}
+use Rattle.run_columns.specs.inner.Columns.{parts_in_order}
 use Rattle.run_halves.proofs.Boxes.{span-is}
 
 -- ---- sums
@@ -32,21 +32,21 @@ pub min-leb : (t n m : ℕ) → t ≡ min n (m + 1) → leb t m ≡ leb n m
 min-leb t n m e = cases n m (λ h. le-leb t m (omega arith) ∙ sym (le-leb n m h)) (λ h. lt-leb t m (omega arith) ∙ sym (lt-leb n m h))
 
 -- ---- the members
-pub member-le : (b : Bound) → memberOf b ≤ 1
+pub member-le : (b : Bound) → member_of b ≤ 1
 member-le Free = omega arith
 member-le (At x) = omega arith
 
 -- ---- positions and distances within their limits
-pub bound-size : (b : Bound) (x : ℤ) → b ≡ At x → allWithin (positionsOf b) ≡ true → size x ≤ reach
-unfolding allWithin
-bound-size b x e h = within-size x (and_left (isWithin x) true (rw e at h))
+pub bound-size : (b : Bound) (x : ℤ) → b ≡ At x → all_within (positions_of b) ≡ true → size x ≤ reach
+unfolding all_within
+bound-size b x e h = within-size x (and_left (is_within x) true (rw e at h))
 
-pub distances-step : (ds : List ℕ) (i : ℕ) → i < length ds → allDistances (drop i ds) ≡ (isDistance (get_or ds i 0) && allDistances (drop (i + 1) ds))
-unfolding allDistances
+pub distances-step : (ds : List ℕ) (i : ℕ) → i < length ds → all_distances (drop i ds) ≡ (is_distance (get_or ds i 0) && all_distances (drop (i + 1) ds))
+unfolding all_distances
 distances-step ds i h = rw (add-one, drop-cons ds i 0)
 
-pub distances-end : (ds : List ℕ) (i : ℕ) → length ds ≤ i → allDistances (drop i ds) ≡ true
-unfolding allDistances
+pub distances-end : (ds : List ℕ) (i : ℕ) → length ds ≤ i → all_distances (drop i ds) ≡ true
+unfolding all_distances
 distances-end ds i h = rw (drop_of_length-le ds h)
 
 -- ---- nondecreasing order
@@ -68,7 +68,7 @@ order-end xs i h = go xs (i - 1) (omega arith)
     go (x ∷ xs) (suc i) h = go xs i (omega arith)
 
 -- in that order none is farther out than the first or the last
-within-between : (x a b : ℤ) → a ⊑ x → x ⊑ b → isWithin a ≡ true → isWithin b ≡ true → isWithin x ≡ true
+within-between : (x a b : ℤ) → a ⊑ x → x ⊑ b → is_within a ≡ true → is_within b ≡ true → is_within x ≡ true
 within-between (pos n) a b p q e f = le-leb n reach (omega (arith, within-size b f))
 within-between (negsuc n) a b p q e f = le-leb (suc n) reach (omega (arith, within-size a e))
 
@@ -76,8 +76,8 @@ last-above : (x : ℤ) (xs : List ℤ) → Sorted (at x) xs → x ⊑ get_or (x 
 last-above x [] r = omega arith
 last-above x (y ∷ xs) r = sorted-get x (pos 0) (y ∷ xs) (length xs) (omega arith) r
 
-within-from : (a x : ℤ) (xs : List ℤ) → a ⊑ x → Sorted (at x) xs → isWithin a ≡ true → isWithin (get_or (x ∷ xs) (length xs) (pos 0)) ≡ true → allWithin (x ∷ xs) ≡ true
-unfolding allWithin
+within-from : (a x : ℤ) (xs : List ℤ) → a ⊑ x → Sorted (at x) xs → is_within a ≡ true → is_within (get_or (x ∷ xs) (length xs) (pos 0)) ≡ true → all_within (x ∷ xs) ≡ true
+unfolding all_within
 within-from a x [] p r e f = ◌and◌ f refl
 within-from a x (y ∷ xs) p (sorted-cons q r) e f =
     let g = within-between x a (get_or (y ∷ xs) (length xs) (pos 0)) p (last-above x (y ∷ xs) (sorted-cons q r)) e f in
@@ -88,21 +88,21 @@ same_tests true b f g = sym (f refl)
 same_tests false true f g = g refl
 same_tests false false f g = refl
 
-pub ends-within : (xs : List ℤ) → nondecreasing xs ≡ true → (isWithin (get_or xs 0 (pos 0)) && isWithin (get_or xs (length xs - 1) (pos 0))) ≡ allWithin xs
-unfolding allWithin
+pub ends-within : (xs : List ℤ) → nondecreasing xs ≡ true → (is_within (get_or xs 0 (pos 0)) && is_within (get_or xs (length xs - 1) (pos 0))) ≡ all_within xs
+unfolding all_within
 ends-within xs e =
-    same_tests (isWithin (get_or xs 0 (pos 0)) && isWithin (get_or xs (length xs - 1) (pos 0))) (allWithin xs)
-    (λ f. go xs (sorted xs e) (and_left (isWithin (get_or xs 0 (pos 0))) _ f) (and_right (isWithin (get_or xs 0 (pos 0))) _ f))
+    same_tests (is_within (get_or xs 0 (pos 0)) && is_within (get_or xs (length xs - 1) (pos 0))) (all_within xs)
+    (λ f. go xs (sorted xs e) (and_left (is_within (get_or xs 0 (pos 0))) _ f) (and_right (is_within (get_or xs 0 (pos 0))) _ f))
     (λ f. ◌and◌ (within-get xs 0 f) (within-get xs (length xs - 1) f))
   where
-    go : (xs : List ℤ) → Sorted free xs → isWithin (get_or xs 0 (pos 0)) ≡ true → isWithin (get_or xs (length xs - 1) (pos 0)) ≡ true → allWithin xs ≡ true
+    go : (xs : List ℤ) → Sorted free xs → is_within (get_or xs 0 (pos 0)) ≡ true → is_within (get_or xs (length xs - 1) (pos 0)) ≡ true → all_within xs ≡ true
     go [] r f g = refl
     go (x ∷ xs) (sorted-cons o r) f g = let k : length (x ∷ xs) - 1 ≡ length xs = omega arith in
         within-from x x xs (omega arith) r f (rw k at g)
 
 -- ---- the neighbours of every box
-pub in-order-same : (os : List ℤ) (ds cs : List ℕ) (ns : List ℤ) (ws : List ℕ) → length os ≡ length cs → length ws ≡ length ns → neighboursInOrder (boxesFrom os ds cs ns ws) ≡ partsInOrder cs ns
-unfolding neighboursInOrder boxesFrom partsInOrder
+pub in-order-same : (os : List ℤ) (ds cs : List ℕ) (ns : List ℤ) (ws : List ℕ) → length os ≡ length cs → length ws ≡ length ns → neighbours_in_order (boxes_from os ds cs ns ws) ≡ parts_in_order cs ns
+unfolding neighbours_in_order boxes_from parts_in_order
 in-order-same [] ds [] ns ws h k = refl
 in-order-same [] ds (c ∷ cs) ns ws h k = absurd (omega arith)
 in-order-same (o ∷ os) ds [] ns ws h k = absurd (omega arith)
@@ -112,8 +112,8 @@ in-order-same (o ∷ os) ds (c ∷ cs) ns ws h k = rw (
 )
 
 -- within reach, and each box's in order
-abbrev pub takenParts : List ℕ → List ℤ → Bool
-takenParts cs ns = allWithin ns && partsInOrder cs ns
+abbrev pub taken_parts : List ℕ → List ℤ → Bool
+taken_parts cs ns = all_within ns && parts_in_order cs ns
 
 -- the tests of one box, then those of the others
 and-pairs : (a b c d : Bool) → ((a && b) && (c && d)) ≡ ((a && c) && (b && d))
@@ -123,26 +123,26 @@ and-pairs true false false d = refl
 and-pairs false b c d = refl
 
 pub parts-step : (cs : List ℕ) (ns : List ℤ) (i from : ℕ) → i < length cs → let part = take (from + get_or cs i 0 - from) (drop from ns) in
-    takenParts (drop i cs) (drop from ns) ≡ ((allWithin part && nondecreasing part) && takenParts (drop (i + 1) cs) (drop (from + get_or cs i 0) ns))
-unfolding partsInOrder
+    taken_parts (drop i cs) (drop from ns) ≡ ((all_within part && nondecreasing part) && taken_parts (drop (i + 1) cs) (drop (from + get_or cs i 0) ns))
+unfolding parts_in_order
 parts-step cs ns i from h = let c = get_or cs i 0 in let e : from + c - from ≡ c = omega arith in
     rw (e, add-one, drop-cons cs i 0, ← drop-drop, within-cut c (drop from ns))
-    (and-pairs (allWithin (take c (drop from ns))) (allWithin (drop c (drop from ns))) (nondecreasing (take c (drop from ns))) (partsInOrder (drop (suc i) cs) (drop c (drop from ns))))
+    (and-pairs (all_within (take c (drop from ns))) (all_within (drop c (drop from ns))) (nondecreasing (take c (drop from ns))) (parts_in_order (drop (suc i) cs) (drop c (drop from ns))))
 
-pub parts-end : (cs : List ℕ) (ns : List ℤ) (i from : ℕ) → length cs ≤ i → length ns ≤ from → takenParts (drop i cs) (drop from ns) ≡ true
-unfolding partsInOrder allWithin
+pub parts-end : (cs : List ℕ) (ns : List ℤ) (i from : ℕ) → length cs ≤ i → length ns ≤ from → taken_parts (drop i cs) (drop from ns) ≡ true
+unfolding parts_in_order all_within
 parts-end cs ns i from h k = rw (drop_of_length-le cs h, drop_of_length-le ns k)
 
 -- ---- the distance of the bounds
-pub sum-distances : (ds : List ℕ) → allDistances ds ≡ true → sum ds ≤ length ds * (2 * reach)
-unfolding sum allDistances
+pub sum-distances : (ds : List ℕ) → all_distances ds ≡ true → sum ds ≤ length ds * (2 * reach)
+unfolding sum all_distances
 sum-distances [] e = omega arith
 sum-distances (d ∷ ds) e =
-    let h = leb-true d (2 * reach) (and_right (leb 1 d) (leb d (2 * reach)) (and_left (isDistance d) (allDistances ds) e)) in
-    omega (arith, sum-distances ds (and_right (isDistance d) (allDistances ds) e))
+    let h = leb-true d (2 * reach) (and_right (leb 1 d) (leb d (2 * reach)) (and_left (is_distance d) (all_distances ds) e)) in
+    omega (arith, sum-distances ds (and_right (is_distance d) (all_distances ds) e))
 
 -- the bounds at both sides, so that there is one distance more than boxes
-pub bounds-sum : (os : List ℤ) (ds cs : List ℕ) (ns : List ℤ) (ws : List ℕ) → length os ≡ length cs → length ds ≡ length os + 1 → get_or ds 0 0 + span (boxesFrom os (drop 1 ds) cs ns ws) ≡ sum ds
+pub bounds-sum : (os : List ℤ) (ds cs : List ℕ) (ns : List ℤ) (ws : List ℕ) → length os ≡ length cs → length ds ≡ length os + 1 → get_or ds 0 0 + span (boxes_from os (drop 1 ds) cs ns ws) ≡ sum ds
 unfolding sum
 bounds-sum os [] cs ns ws h k = absurd (omega arith)
 bounds-sum os (d ∷ ds) cs ns ws h k = ap (λ n. d + n) (span-is os ds cs ns ws h (omega arith))

@@ -1,7 +1,7 @@
 // The call place-run.
 ghost use Rattle.std.specs.Prelude.{◌≡◌, true, ◌+◌, length};
 ghost use Rattle.run.specs.Call.{Outcome, call_of, is_taken, placed_of};
-ghost use Rattle.place_run.specs.inner.Requests.{requestOf};
+ghost use Rattle.place_run.specs.inner.Requests.{request_of};
 
 use crate::place::{MAX_NEIGHBOURS, place};
 use crate::refusal::is_taken;
@@ -25,9 +25,9 @@ fn place_summed(
     sums: &mut [u64],
     answer: &mut [i64],
 )
-    requires answer_value { is_taken (requestOf left right old.now distances.now counts.now neighbours.now ratings.now) answer.old ≡ true }
+    requires answer_value { is_taken (request_of left right old.now distances.now counts.now neighbours.now ratings.now) answer.old ≡ true }
     requires sums_len { length sums.old ≡ length ratings.now + 1 }
-    ensures { answer.new ≡ placed_of (requestOf left right old.now distances.now counts.now
+    ensures { answer.new ≡ placed_of (request_of left right old.now distances.now counts.now
         neighbours.now ratings.now) }
 {
     fill_offsets(ratings, sums);
@@ -47,8 +47,8 @@ fn place_many(
     ratings: &[u64],
     answer: &mut [i64],
 )
-    requires { is_taken (requestOf left right old.now distances.now counts.now neighbours.now ratings.now) answer.old ≡ true }
-    ensures { answer.new ≡ placed_of (requestOf left right old.now distances.now counts.now
+    requires { is_taken (request_of left right old.now distances.now counts.now neighbours.now ratings.now) answer.old ≡ true }
+    ensures { answer.new ≡ placed_of (request_of left right old.now distances.now counts.now
         neighbours.now ratings.now) }
 {
     let n = ratings.len();
@@ -92,8 +92,8 @@ fn place_rated(
     ratings: &[u64],
     answer: &mut [i64],
 )
-    requires { is_taken (requestOf left right old.now distances.now counts.now neighbours.now ratings.now) answer.old ≡ true }
-    ensures { answer.new ≡ placed_of (requestOf left right old.now distances.now counts.now
+    requires { is_taken (request_of left right old.now distances.now counts.now neighbours.now ratings.now) answer.old ≡ true }
+    ensures { answer.new ≡ placed_of (request_of left right old.now distances.now counts.now
         neighbours.now ratings.now) }
 {
     let n = ratings.len();

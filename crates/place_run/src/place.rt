@@ -1,13 +1,13 @@
 // Placing one run between its bounds: the limits of its boxes in run coordinates, by halves, and back. Ratings are handed in as sums so
 // far, one more than there are neighbours.
 ghost use Rattle.std.specs.Prelude.{◌≡◌, true, ◌+◌, ◌≤◌, length, get_or};
-ghost use Rattle.run.specs.inner.Coordinates.{leftLimit, rightLimit};
+ghost use Rattle.run.specs.inner.Coordinates.{left_limit, right_limit};
 ghost use Rattle.ints.specs.Lists.{sum};
-ghost use Rattle.run.specs.Call.{limitOf, leftDistance, is_taken, placed_of};
+ghost use Rattle.run.specs.Call.{limit_of, left_distance, is_taken, placed_of};
 ghost use Rattle.run_halves.specs.inner.Halves.{SmallLimit};
-ghost use Rattle.run_columns.specs.inner.Offsets.{maxOffset};
-ghost use Rattle.run_columns.specs.inner.Sums.{ratingsBetween};
-ghost use Rattle.place_run.specs.inner.Requests.{requestOf};
+ghost use Rattle.run_columns.specs.inner.Offsets.{max_offset};
+ghost use Rattle.run_columns.specs.inner.Sums.{ratings_between};
+ghost use Rattle.place_run.specs.inner.Requests.{request_of};
 
 use crate::refusal::members;
 use ints::{minus, plus};
@@ -22,8 +22,8 @@ pub const MAX_NEIGHBOURS: usize = 2048;
 
 // The left bound plus its distance to the first box: no box stands left of it.
 fn left_limit(left: Bound, distances: &[u64]) -> Bound
-    requires { SmallLimit (limitOf left) × (get_or distances.now 0 0 ≤ maxOffset) }
-    ensures { limitOf result ≡ leftLimit (limitOf left) (leftDistance left distances.now) }
+    requires { SmallLimit (limit_of left) × (get_or distances.now 0 0 ≤ max_offset) }
+    ensures { limit_of result ≡ left_limit (limit_of left) (left_distance left distances.now) }
 {
     match left {
         Bound::Free => Bound::Free,
@@ -36,8 +36,8 @@ fn left_limit(left: Bound, distances: &[u64]) -> Bound
 
 // The right bound less all distances between the first box and it: no box stands right of it in run coordinates.
 fn right_limit(right: Bound, steps: &[u64]) -> Bound
-    requires { SmallLimit (limitOf right) × (sum steps.now ≤ maxOffset) }
-    ensures { limitOf result ≡ rightLimit (limitOf right) (sum steps.now) }
+    requires { SmallLimit (limit_of right) × (sum steps.now ≤ max_offset) }
+    ensures { limit_of result ≡ right_limit (limit_of right) (sum steps.now) }
 {
     match right {
         Bound::Free => Bound::Free,
@@ -59,10 +59,10 @@ pub fn place(
     sums: &[u64],
     answer: &mut [i64],
 )
-    requires answer_value { is_taken (requestOf left right old.now distances.now counts.now neighbours.now (ratingsBetween sums.now)) answer.old ≡ true }
+    requires answer_value { is_taken (request_of left right old.now distances.now counts.now neighbours.now (ratings_between sums.now)) answer.old ≡ true }
     requires sums_len { length sums.now ≡ length neighbours.now + 1 }
-    ensures { answer.new ≡ placed_of (requestOf left right old.now distances.now counts.now
-        neighbours.now (ratingsBetween sums.now)) }
+    ensures { answer.new ≡ placed_of (request_of left right old.now distances.now counts.now
+        neighbours.now (ratings_between sums.now)) }
 {
     let r = old.len();
     if r == 0 {

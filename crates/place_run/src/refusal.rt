@@ -1,12 +1,12 @@
 // Refusal 8 of documents 01 and 02: whether a run that is handed to place-run is taken. Positions are half steps.
 ghost use Rattle.std.specs.Prelude.{◌≡◌, true, ◌&&◌, List, ℕ, ◌+◌, ◌-◌, ◌≤◌, ◌<◌, min, length, get_or, ℤ, pos};
 ghost use Rattle.run.specs.Run.{nondecreasing};
-ghost use Rattle.run.specs.Words.{isPossible};
+ghost use Rattle.run.specs.Words.{is_possible};
 ghost use Rattle.ints.specs.Lists.{sum};
-ghost use Rattle.ints.specs.Ratings.{isRating, allRatings};
-ghost use Rattle.ints.specs.Reach.{isWithin, allWithin};
-ghost use Rattle.run.specs.Call.{limitOf, memberOf, positionsOf, leftDistance, otherDistances, boxesFrom, maxBoxes, maxNeighbours, isDistance, allDistances, is_taken};
-ghost use Rattle.run_columns.specs.inner.Columns.{partsInOrder};
+ghost use Rattle.ints.specs.Ratings.{is_rating, all_ratings};
+ghost use Rattle.ints.specs.Reach.{is_within, all_within};
+ghost use Rattle.run.specs.Call.{limit_of, member_of, positions_of, left_distance, other_distances, boxes_from, max_boxes, max_neighbours, is_distance, all_distances, is_taken};
+ghost use Rattle.run_columns.specs.inner.Columns.{parts_in_order};
 
 use ints::too_near;
 use ints::within::{all_within, is_within};
@@ -26,7 +26,7 @@ const MAX_RATING: u64 = 100;
 
 // The neighbours in all, or one more than the limit if there are more.
 fn neighbours_in_all(counts: &[u64]) -> u64
-    ensures { result ≡ min (sum counts.now) (maxNeighbours + 1) }
+    ensures { result ≡ min (sum counts.now) (max_neighbours + 1) }
 {
     let mut total: u64 = 0;
     let mut i = 0;
@@ -42,7 +42,7 @@ fn neighbours_in_all(counts: &[u64]) -> u64
 
 // How many members a side adds.
 pub fn members(bound: Bound) -> usize
-    ensures { result ≡ memberOf bound }
+    ensures { result ≡ member_of bound }
 {
     match bound {
         Bound::Free => 0,
@@ -52,8 +52,8 @@ pub fn members(bound: Bound) -> usize
 
 // One less than the members, bounds included; 0 if there are none.
 fn distances_due(left: Bound, boxes: u64, right: Bound) -> u64
-    requires { boxes ≤ maxBoxes }
-    ensures { result ≡ memberOf left + boxes + memberOf right - 1 }
+    requires { boxes ≤ max_boxes }
+    ensures { result ≡ member_of left + boxes + member_of right - 1 }
 {
     let all = members(left) as u64 + boxes + members(right) as u64;
     if all == 0 { 0 } else { all - 1 }
@@ -61,7 +61,7 @@ fn distances_due(left: Bound, boxes: u64, right: Bound) -> u64
 
 // A side with no bound hands in no position.
 fn bound_within(bound: Bound) -> bool
-    ensures { result ≡ allWithin (positionsOf bound) }
+    ensures { result ≡ all_within (positions_of bound) }
 {
     match bound {
         Bound::Free => true,
@@ -71,13 +71,13 @@ fn bound_within(bound: Bound) -> bool
 
 // Whether a distance is from 1 to 2^41.
 fn is_distance(d: u64) -> bool
-    ensures { result ≡ isDistance d }
+    ensures { result ≡ is_distance d }
 {
     1 <= d && d <= MAX_DISTANCE
 }
 
 fn all_distances(distances: &[u64]) -> bool
-    ensures { result ≡ allDistances distances.now }
+    ensures { result ≡ all_distances distances.now }
 {
     let mut i = 0;
     while i < distances.len() {
@@ -91,13 +91,13 @@ fn all_distances(distances: &[u64]) -> bool
 
 // Whether a rating is from 1 to 100.
 fn is_rating(w: u64) -> bool
-    ensures { result ≡ isRating w }
+    ensures { result ≡ is_rating w }
 {
     1 <= w && w <= MAX_RATING
 }
 
 fn all_ratings(ratings: &[u64]) -> bool
-    ensures { result ≡ allRatings ratings.now }
+    ensures { result ≡ all_ratings ratings.now }
 {
     let mut i = 0;
     while i < ratings.len() {
@@ -124,7 +124,7 @@ fn is_nondecreasing(positions: &[i64]) -> bool
 
 // Whether the first and the last are within ±2^40.
 fn ends_within(positions: &[i64]) -> bool
-    ensures { result ≡ (isWithin (get_or positions.now 0 (pos 0)) && isWithin (get_or positions.now (length positions.now - 1) (pos 0))) }
+    ensures { result ≡ (is_within (get_or positions.now 0 (pos 0)) && is_within (get_or positions.now (length positions.now - 1) (pos 0))) }
 {
     if positions.len() == 0 {
         return true;
@@ -135,7 +135,7 @@ fn ends_within(positions: &[i64]) -> bool
 // Whether the neighbours of one box are within ±2^40 and in nondecreasing order. In that order none is farther out than the
 // first or the last.
 fn part_is_taken(positions: &[i64]) -> bool
-    ensures { result ≡ (allWithin positions.now && nondecreasing positions.now) }
+    ensures { result ≡ (all_within positions.now && nondecreasing positions.now) }
 {
     is_nondecreasing(positions) && ends_within(positions)
 }
@@ -143,7 +143,7 @@ fn part_is_taken(positions: &[i64]) -> bool
 // Whether those of every box are; each box has as many as its count says.
 fn neighbours_are_taken(counts: &[u64], neighbours: &[i64]) -> bool
     requires { length neighbours.now ≡ sum counts.now }
-    ensures { result ≡ (allWithin neighbours.now && partsInOrder counts.now neighbours.now) }
+    ensures { result ≡ (all_within neighbours.now && parts_in_order counts.now neighbours.now) }
 {
     let mut from: usize = 0;
     let mut i = 0;
@@ -160,12 +160,12 @@ fn neighbours_are_taken(counts: &[u64], neighbours: &[i64]) -> bool
 
 // Whether the bounds, if both are there, are not nearer than their distance.
 fn is_possible(left: Bound, right: Bound, distances: &[u64]) -> bool
-    requires left_value { (allWithin (positionsOf left) ≡ true) × (allWithin (positionsOf right) ≡ true) }
-    requires distances_len_bound { (length distances.now ≤ maxBoxes + 1) × (allDistances distances.now ≡ true) }
+    requires left_value { (all_within (positions_of left) ≡ true) × (all_within (positions_of right) ≡ true) }
+    requires distances_len_bound { (length distances.now ≤ max_boxes + 1) × (all_distances distances.now ≡ true) }
     ensures { (old : List ℤ) (counts : List ℕ) (neighbours : List ℤ) (ratings : List ℕ) → length old ≡ length counts
-        → length distances.now ≡ memberOf left + length old + memberOf right - 1
-        → result ≡ isPossible (limitOf left) (leftDistance left distances.now)
-        (boxesFrom old (otherDistances left distances.now) counts neighbours ratings) (limitOf right) }
+        → length distances.now ≡ member_of left + length old + member_of right - 1
+        → result ≡ is_possible (limit_of left) (left_distance left distances.now)
+        (boxes_from old (other_distances left distances.now) counts neighbours ratings) (limit_of right) }
 {
     match left {
         Bound::Free => true,

@@ -9,9 +9,9 @@ use borrow.Author.Tests.{eqb-true, eqb-false, eq-eqb, ne_eqb}
 use lib.Dec.{eqb}
 use lib.ListN.{length, get_or, drop, set, replicate, length-set, length-replicate, get_or-replicate, drop_of_length-le}
 use lib.Seq.{drop-cons, get_or-set_same, get_or-set_other}
-use Rattle.ints.specs.Lists.{countIf, count_of}
+use Rattle.ints.specs.Lists.{count_if, count_of}
 use Rattle.plan.specs.Plan.{numbers}
-use Rattle.plan.specs.Segments.{segmentsFrom, segmentsOf, aboveIn, belowIn}
+use Rattle.plan.specs.Segments.{segments_from, segments_of, above_in, below_in}
 use Rattle.plan.specs.Checks.{every, is_through, check5}
 use Rattle.plan.specs.inner.Graph.{graph_of, Counted, through}
 
@@ -26,15 +26,15 @@ by-same a b {G} f g = go (eqb a b) refl
 -- ---- count_of
 module _ (v x : ℕ) (xs : List ℕ) where
   pub count_same : x ≡ v → count_of v (x ∷ xs) ≡ suc (count_of v xs)
-  unfolding count_of countIf
+  unfolding count_of count_if
   count_same h = rw (eq-eqb x v h)
 
   pub count-other : (x ≡ v → ⊥) → count_of v (x ∷ xs) ≡ count_of v xs
-  unfolding count_of countIf
+  unfolding count_of count_if
   count-other h = rw (ne_eqb x v h)
 
 pub count_none : (v : ℕ) → count_of v [] ≡ 0
-unfolding count_of countIf
+unfolding count_of count_if
 count_none v = refl
 
 pub count-le : (v : ℕ) (xs : List ℕ) → count_of v xs ≤ length xs
@@ -71,8 +71,8 @@ module _ (xs counts : List ℕ) (i : ℕ) (w : Counting xs counts i) where
   count_small v h = omega (arith, w.each v h, count-le v xs)
 
 -- ---- a vertex's segments
-pub above-count : («as» bs : List ℕ) (v : ℕ) → length «as» ≡ length bs → length (aboveIn (segmentsFrom «as» bs) v) ≡ count_of v bs
-unfolding segmentsFrom aboveIn
+pub above-count : («as» bs : List ℕ) (v : ℕ) → length «as» ≡ length bs → length (above_in (segments_from «as» bs) v) ≡ count_of v bs
+unfolding segments_from above_in
 above-count [] [] v e = sym (count_none v)
 above-count [] (b ∷ bs) v e = absurd (omega arith)
 above-count (a ∷ «as») [] v e = absurd (omega arith)
@@ -80,8 +80,8 @@ above-count (a ∷ «as») (b ∷ bs) v e =
     let more = above-count «as» bs v (omega arith) in
     by-same b v (λ h. rw (eq-eqb b v h, count_same v b bs h, more)) (λ h. rw (ne_eqb b v h, count-other v b bs h) more)
 
-pub below-count : («as» bs : List ℕ) (v : ℕ) → length «as» ≡ length bs → length (belowIn (segmentsFrom «as» bs) v) ≡ count_of v «as»
-unfolding segmentsFrom belowIn
+pub below-count : («as» bs : List ℕ) (v : ℕ) → length «as» ≡ length bs → length (below_in (segments_from «as» bs) v) ≡ count_of v «as»
+unfolding segments_from below_in
 below-count [] [] v e = sym (count_none v)
 below-count [] (b ∷ bs) v e = absurd (omega arith)
 below-count (a ∷ «as») [] v e = absurd (omega arith)
@@ -90,30 +90,30 @@ below-count (a ∷ «as») (b ∷ bs) v e =
     by-same a v (λ h. rw (eq-eqb a v h, count_same v a «as» h, more)) (λ h. rw (ne_eqb a v h, count-other v a «as» h) more)
 
 -- ---- check 5: of the vertices from v on, n of them
-abbrev pub throughFrom : List Bool → List ℕ → List ℕ → ℕ → ℕ → Bool
-throughFrom vias «as» bs v n = every (is_through (graph_of [] vias «as» bs) (segmentsFrom «as» bs)) (numbers v n)
+abbrev pub through_from : List Bool → List ℕ → List ℕ → ℕ → ℕ → Bool
+through_from vias «as» bs v n = every (is_through (graph_of [] vias «as» bs) (segments_from «as» bs)) (numbers v n)
 
 module _ (vias : List Bool) («as» bs : List ℕ) where
-  pub check5-same : (sizes : List ℕ) → check5 (graph_of sizes vias «as» bs) ≡ throughFrom vias «as» bs 0 (length vias)
-  unfolding check5 segmentsOf is_through
+  pub check5-same : (sizes : List ℕ) → check5 (graph_of sizes vias «as» bs) ≡ through_from vias «as» bs 0 (length vias)
+  unfolding check5 segments_of is_through
   check5-same sizes = refl
 
-  pub through-none : (v n : ℕ) → n ≡ 0 → throughFrom vias «as» bs v n ≡ true
+  pub through-none : (v n : ℕ) → n ≡ 0 → through_from vias «as» bs v n ≡ true
   unfolding every numbers
   through-none v n h = rw h
 
   module _ (k : ℕ) (up down : List ℕ) (u : Counted k bs up) (d : Counted k «as» down) (e : length «as» ≡ length bs) (v : ℕ) (h : v < k) where
-    pub through_same : is_through (graph_of [] vias «as» bs) (segmentsFrom «as» bs) v ≡ through (get_or vias v false) (get_or up v 0) (get_or down v 0)
+    pub through_same : is_through (graph_of [] vias «as» bs) (segments_from «as» bs) v ≡ through (get_or vias v false) (get_or up v 0) (get_or down v 0)
     unfolding is_through
     through_same = rw (above-count «as» bs v e, below-count «as» bs v e, u.each v h, d.each v h)
 
     pub through-on : (n m : ℕ) → n ≡ m + 1 → through (get_or vias v false) (get_or up v 0) (get_or down v 0) ≡ true
-        → throughFrom vias «as» bs v n ≡ throughFrom vias «as» bs (v + 1) m
+        → through_from vias «as» bs v n ≡ through_from vias «as» bs (v + 1) m
     unfolding every numbers
     through-on zero m q t = absurd (omega arith)
     through-on (suc n) m q t = let i : n ≡ m = omega arith in rw (through_same, t, i)
 
-    pub through-stop : (n : ℕ) → 0 < n → through (get_or vias v false) (get_or up v 0) (get_or down v 0) ≡ false → throughFrom vias «as» bs v n ≡ false
+    pub through-stop : (n : ℕ) → 0 < n → through (get_or vias v false) (get_or up v 0) (get_or down v 0) ≡ false → through_from vias «as» bs v n ≡ false
     unfolding every numbers
     through-stop zero q t = absurd (omega arith)
     through-stop (suc n) q t = rw (through_same, t)

@@ -11,10 +11,10 @@ use lib.Dec.{ltb, eqb}
 use Rattle.ints.specs.Lists.{chosen}
 use Rattle.ints.proofs.Laws.{cases, if-ind}
 use Rattle.ints.proofs.Tests.{test, and_left, and_right, cond-left, cond-right}
-use Rattle.plan.specs.Plan.{PlanData, levelOf}
-use Rattle.plan.specs.Segments.{Segment, segmentsOf, isInner, innerIn, innerSegments}
-use Rattle.plan.specs.Checks.{any, goesOneDown, check3, comesBefore, rising, check4, crosses, check6}
-use Rattle.plan.specs.Walk.{innerBelow, walkFrom, walk}
+use Rattle.plan.specs.Plan.{PlanData, level_of}
+use Rattle.plan.specs.Segments.{Segment, segments_of, is_inner, inner_in, inner_segments}
+use Rattle.plan.specs.Checks.{any, goes_one_down, check3, comes_before, rising, check4, crosses, check6}
+use Rattle.plan.specs.Walk.{inner_below, walk_from, walk}
 use Rattle.plan.proofs.All.{All, all_nil, all_cons, all_map, all_tail, every-all, no_true}
 use Rattle.plan.proofs.GraphLaws.{Down, down-of}
 use Rattle.plan.proofs.LevelLaws.{level-rises}
@@ -76,7 +76,7 @@ pub record Before (s t : Segment) : Type 0 where
   pub le : s.upper ≤ t.upper
   pub lt : s.upper ≡ t.upper → s.lower < t.lower
 
-before_of : (s t : Segment) → comesBefore s t ≡ true → Before s t
+before_of : (s t : Segment) → comes_before s t ≡ true → Before s t
 before_of s t e = cases t.upper s.upper
     (λ h. let both = rw (le-ltb s.upper t.upper h) at e in
     let same = eqb-true s.upper t.upper (and_left (eqb s.upper t.upper) (ltb s.lower t.lower) both) in
@@ -95,8 +95,8 @@ unfolding rising
 sorted [] e = pairs-none
 sorted (s ∷ []) e = pairs-more all_nil pairs-none
 sorted (s ∷ t ∷ ss) e =
-    let b = before_of s t (cond-left (comesBefore s t) (rising (t ∷ ss)) e) in
-    let more = sorted (t ∷ ss) (cond-right (comesBefore s t) (rising (t ∷ ss)) e) in
+    let b = before_of s t (cond-left (comes_before s t) (rising (t ∷ ss)) e) in
+    let more = sorted (t ∷ ss) (cond-right (comes_before s t) (rising (t ∷ ss)) e) in
     pairs-more (all_cons b (all_map (λ u h. before-trans b h) (pairs-head more))) more
 
 -- ---- of the members that pass a test holds what holds of all
@@ -150,8 +150,8 @@ pairs-each {A} {R} group (x ∷ xs) h =
     (all_map (λ y k e. k (eq-eqb (group y) (group x) e)) (all-chosen same xs (pairs-head first)))
     (pairs-each group xs (λ l. tail-pairs (λ y. eqb (group y) l) x xs (h l)))
 
-pub inner-chosen : (p : PlanData) (ss : List Segment) → innerIn p ss ≡ chosen (isInner p) ss
-unfolding innerIn chosen
+pub inner-chosen : (p : PlanData) (ss : List Segment) → inner_in p ss ≡ chosen (is_inner p) ss
+unfolding inner_in chosen
 inner-chosen p [] = refl
 inner-chosen p (s ∷ ss) = rw (inner-chosen p ss)
 
@@ -162,7 +162,7 @@ cond-false false = refl
 
 module _ (p : PlanData) where
   abbrev level : Segment → ℕ
-  level s = levelOf p s.upper
+  level s = level_of p s.upper
 
   fall-crosses : (s t : Segment) → Before s t → level s ≡ level t → t.lower < s.lower → crosses p s t ≡ true
   unfolding crosses
@@ -190,48 +190,48 @@ module _ (p : PlanData) where
   self-apart s = rw (le-ltb s.upper s.upper (omega arith))
 
   -- ---- a walk that comes to no descent
-  risen : (n last : ℕ) (ss : List Segment) → (walkFrom n last ss).crossed ≡ false → All (λ t. last ≤ t.lower) ss × Pairs (λ s t. s.lower ≤ t.lower) ss
-  unfolding walkFrom
+  risen : (n last : ℕ) (ss : List Segment) → (walk_from n last ss).crossed ≡ false → All (λ t. last ≤ t.lower) ss × Pairs (λ s t. s.lower ≤ t.lower) ss
+  unfolding walk_from
   risen n last [] e = (all_nil, pairs-none)
   risen n last (s ∷ ss) e = cases last s.lower
       (λ h. let more = risen (n + 1) s.lower ss (rw (le-ltb s.lower last h) at e) in
       (all_cons h (all_map (λ t k. omega arith) more.0), pairs-more more.0 more.1))
       (λ h. no_true (sym (rw (lt-ltb s.lower last h) at e)))
 
-  rises : (n last : ℕ) (ss : List Segment) → Pairs (λ s t. s.lower ≤ t.lower) ss → All (λ t. last ≤ t.lower) ss → (walkFrom n last ss).crossed ≡ false
-  unfolding walkFrom
+  rises : (n last : ℕ) (ss : List Segment) → Pairs (λ s t. s.lower ≤ t.lower) ss → All (λ t. last ≤ t.lower) ss → (walk_from n last ss).crossed ≡ false
+  unfolding walk_from
   rises n last [] up h = refl
   rises n last (s ∷ ss) (pairs-more up ups) (all_cons h hs) = rw (le-ltb s.lower last h) (rises (n + 1) s.lower ss ups up)
 
   -- ---- both ways
-  inner-sorted : check4 p ≡ true → Pairs Before (innerSegments p)
-  unfolding check4 innerSegments
-  inner-sorted c4 = rw inner-chosen (chosen-pairs (isInner p) (sorted (segmentsOf p) c4))
+  inner-sorted : check4 p ≡ true → Pairs Before (inner_segments p)
+  unfolding check4 inner_segments
+  inner-sorted c4 = rw inner-chosen (chosen-pairs (is_inner p) (sorted (segments_of p) c4))
 
   -- check 6 asks of any two inner segments from one level, in their order, that the lower end of the second stands no further left
   abbrev Uncrossed : Segment → Segment → Type 0
   Uncrossed s t = level t ≡ level s → s.lower ≤ t.lower
 
-  passes-uncrossed : check4 p ≡ true → check6 p ≡ true → Pairs Uncrossed (innerSegments p)
+  passes-uncrossed : check4 p ≡ true → check6 p ≡ true → Pairs Uncrossed (inner_segments p)
   unfolding check6
   passes-uncrossed c4 c6 =
-      let inner = innerSegments p in
+      let inner = inner_segments p in
       let two = all_map (λ s h. some-none (crosses p s) inner h) (some-none (λ s. any (crosses p s) inner) inner (not-true (any (λ s. any (crosses p s) inner) inner) c6)) in
       pairs-map (λ s t w. no-fall s t w.0 w.1) (pairs-both (inner-sorted c4) (in_order inner two))
 
-  uncrossed-passes : check4 p ≡ true → Pairs Uncrossed (innerSegments p) → check6 p ≡ true
+  uncrossed-passes : check4 p ≡ true → Pairs Uncrossed (inner_segments p) → check6 p ≡ true
   unfolding check6
   uncrossed-passes c4 up =
-      let inner = innerSegments p in
+      let inner = inner_segments p in
       let apart = pairs-map (λ s t w. rise-apart s t w.0 w.1) (pairs-both (inner-sorted c4) up) in
       let two = any-two {R = λ s t. crosses p s t ≡ false} self-apart apart in
       ap not (none-some (λ s. any (crosses p s) inner) (all_map (λ s k. none-some (crosses p s) k) two))
 
   -- ---- level by level
   pub walks-clear : check4 p ≡ true → check6 p ≡ true → (l : ℕ) → (walk p l).crossed ≡ false
-  unfolding walk innerBelow
+  unfolding walk inner_below
   walks-clear c4 c6 l =
-      let inner = innerSegments p in
+      let inner = inner_segments p in
       let on : Segment → Bool = λ s. eqb (level s) l in
       let same = chosen-same on inner in
       let ups = pairs-with same (chosen-pairs on (passes-uncrossed c4 c6)) in
@@ -240,27 +240,27 @@ module _ (p : PlanData) where
       (all_map (λ s h. omega arith) same)
 
   pub clear-passes : check4 p ≡ true → ((l : ℕ) → (walk p l).crossed ≡ false) → check6 p ≡ true
-  unfolding walk innerBelow
+  unfolding walk inner_below
   clear-passes c4 h =
-      uncrossed-passes c4 (pairs-each {R = λ s t. s.lower ≤ t.lower} level (innerSegments p) (λ l. (risen 0 0 (chosen (λ s. eqb (level s) l) (innerSegments p)) (h l)).1))
+      uncrossed-passes c4 (pairs-each {R = λ s t. s.lower ≤ t.lower} level (inner_segments p) (λ l. (risen 0 0 (chosen (λ s. eqb (level s) l) (inner_segments p)) (h l)).1))
 
   -- ---- all levels in one walk: a segment goes one level down, so from one level to the next no lower end stands further left
-  pub inner-down : check3 p ≡ true → All (Down p) (innerSegments p)
-  unfolding check3 innerSegments
-  inner-down c3 = rw inner-chosen (chosen-all (isInner p) (all_map (down-of p) (every-all (goesOneDown p) (segmentsOf p) c3)))
+  pub inner_down : check3 p ≡ true → All (Down p) (inner_segments p)
+  unfolding check3 inner_segments
+  inner_down c3 = rw inner-chosen (chosen-all (is_inner p) (all_map (down-of p) (every-all (goes_one_down p) (segments_of p) c3)))
 
   uncrossed-on : (s t : Segment) → Down p s → Down p t → Before s t → Uncrossed s t → s.lower ≤ t.lower
-  unfolding levelOf
+  unfolding level_of
   uncrossed-on s t d e b h = cases s.lower t.lower
       (λ k. k)
       (λ k. h (omega (arith, d.one_down, e.one_down, level-rises p.sizes s.upper t.upper b.le, level-rises p.sizes t.lower s.lower (omega arith))))
 
   -- where checks 3 and 4 hold, check 6 is one walk over the inner segments of all levels
-  pub check6-walk : check3 p ≡ true → check4 p ≡ true → check6 p ≡ not (walkFrom 0 0 (innerSegments p)).crossed
+  pub check6-walk : check3 p ≡ true → check4 p ≡ true → check6 p ≡ not (walk_from 0 0 (inner_segments p)).crossed
   check6-walk c3 c4 =
-      let inner = innerSegments p in
-      let down = inner-down c3 in
-      test (walkFrom 0 0 inner).crossed
+      let inner = inner_segments p in
+      let down = inner_down c3 in
+      test (walk_from 0 0 inner).crossed
       (λ crossed. test (check6 p)
       (λ six.
       let up = pairs-map (λ s t w. uncrossed-on s t w.0.0 w.0.1 w.1.0 w.1.1) (pairs-with down (pairs-both (inner-sorted c4) (passes-uncrossed c4 six))) in

@@ -1,35 +1,35 @@
 -- Which plan data are those of a text that passes checks 1 to 6.
 use Rattle.std.specs.Prelude.{Bool, true, false, cond, ◌&&◌, List, [], ◌∷◌, ℕ, eqb, leb, length}
 use Rattle.ints.specs.Lists.{sum}
-use Rattle.ints.specs.Ratings.{allRatings}
-use Rattle.ints.specs.Refusals.{noneRefuses}
-use Rattle.plan.specs.Plan.{PlanData, vertexCount}
-use Rattle.plan.specs.Limits.{within, maxLevels, maxGap, maxSpacing, maxHalfWidth, maxOnLevel, maxVertices, maxSegments}
-use Rattle.plan.specs.Checks.{every, checksOf}
+use Rattle.ints.specs.Ratings.{all_ratings}
+use Rattle.ints.specs.Refusals.{none_refuses}
+use Rattle.plan.specs.Plan.{PlanData, vertex_count}
+use Rattle.plan.specs.Limits.{within, max_levels, max_gap, max_spacing, max_half_width, max_on_level, max_vertices, max_segments}
+use Rattle.plan.specs.Checks.{every, checks_of}
 
 -- Each vertex has its half-width: a box one within the limit, a via 0.
-abbrev pub halfHolds : Bool → ℕ → Bool
-halfHolds true h = eqb h 0
-halfHolds false h = within 1 maxHalfWidth h
+abbrev pub half_holds : Bool → ℕ → Bool
+half_holds true h = eqb h 0
+half_holds false h = within 1 max_half_width h
 
-unfoldable pub halvesHold : List Bool → List ℕ → Bool
-halvesHold [] [] = true
-halvesHold [] (h ∷ hs) = false
-halvesHold (v ∷ vs) [] = false
-halvesHold (v ∷ vs) (h ∷ hs) =
-    let more = halvesHold vs hs in
-    cond (halfHolds v h) more false
+unfoldable pub halves_hold : List Bool → List ℕ → Bool
+halves_hold [] [] = true
+halves_hold [] (h ∷ hs) = false
+halves_hold (v ∷ vs) [] = false
+halves_hold (v ∷ vs) (h ∷ hs) =
+    let more = halves_hold vs hs in
+    cond (half_holds v h) more false
 
 -- Every number and count is within its limit, and the counts agree.
-unfoldable pub limitsHold : PlanData → Bool
-limitsHold p =
-    let sizes = every (within 1 maxOnLevel) p.sizes in
-    let halves = halvesHold p.vias p.halves in
-    within 1 maxLevels p.levels && within 1 maxGap p.gap && within 1 maxSpacing p.spacing
-    && eqb (length p.sizes) p.levels && sizes && eqb (sum p.sizes) (vertexCount p)
-    && leb (vertexCount p) maxVertices && halves
-    && eqb (length p.lowers) (length p.uppers) && leb (length p.uppers) maxSegments
-    && eqb (length p.ratings) (length p.uppers) && allRatings p.ratings
+unfoldable pub limits_hold : PlanData → Bool
+limits_hold p =
+    let sizes = every (within 1 max_on_level) p.sizes in
+    let halves = halves_hold p.vias p.halves in
+    within 1 max_levels p.levels && within 1 max_gap p.gap && within 1 max_spacing p.spacing
+    && eqb (length p.sizes) p.levels && sizes && eqb (sum p.sizes) (vertex_count p)
+    && leb (vertex_count p) max_vertices && halves
+    && eqb (length p.lowers) (length p.uppers) && leb (length p.uppers) max_segments
+    && eqb (length p.ratings) (length p.uppers) && all_ratings p.ratings
 
 unfoldable pub acceptable : PlanData → Bool
-acceptable p = limitsHold p && noneRefuses (checksOf p)
+acceptable p = limits_hold p && none_refuses (checks_of p)

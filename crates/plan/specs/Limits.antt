@@ -5,23 +5,23 @@ use Rattle.std.specs.Prelude.{Bool, ◌&&◌, ℕ, leb}
 abbrev pub within : ℕ → ℕ → ℕ → Bool
 within lo hi n = leb lo n && leb n hi
 
-abbrev pub maxLevels : ℕ
-maxLevels = 64
+abbrev pub max_levels : ℕ
+max_levels = 64
 
-abbrev pub maxGap : ℕ
-maxGap = 100
+abbrev pub max_gap : ℕ
+max_gap = 100
 
-abbrev pub maxSpacing : ℕ
-maxSpacing = 10000
+abbrev pub max_spacing : ℕ
+max_spacing = 10000
 
-abbrev pub maxHalfWidth : ℕ
-maxHalfWidth = 200
+abbrev pub max_half_width : ℕ
+max_half_width = 200
 
-abbrev pub maxOnLevel : ℕ
-maxOnLevel = 64
+abbrev pub max_on_level : ℕ
+max_on_level = 64
 
-abbrev pub maxVertices : ℕ
-maxVertices = 1024
+abbrev pub max_vertices : ℕ
+max_vertices = 1024
 
-abbrev pub maxSegments : ℕ
-maxSegments = 2048
+abbrev pub max_segments : ℕ
+max_segments = 2048

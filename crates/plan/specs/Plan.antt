@@ -36,14 +36,14 @@ data_of levels gap spacing sizes vias halves uppers lowers ratings = record {
   ratings = ratings;
 }
 
-abbrev pub vertexCount : PlanData → ℕ
-vertexCount p = length p.vias
+abbrev pub vertex_count : PlanData → ℕ
+vertex_count p = length p.vias
 
-abbrev pub isVia : PlanData → ℕ → Bool
-isVia p v = get_or p.vias v false
+abbrev pub is_via : PlanData → ℕ → Bool
+is_via p v = get_or p.vias v false
 
-abbrev pub halfWidth : PlanData → ℕ → ℕ
-halfWidth p v = get_or p.halves v 0
+abbrev pub half_width : PlanData → ℕ → ℕ
+half_width p v = get_or p.halves v 0
 
 -- The numbers from v on, n of them.
 unfoldable pub numbers : ℕ → ℕ → List ℕ
@@ -51,35 +51,35 @@ numbers v zero = []
 numbers v (suc n) = v ∷ numbers (v + 1) n
 
 -- The levels from the top, each with its vertices from left to right.
-unfoldable pub levelsFrom : ℕ → List ℕ → List (List ℕ)
-levelsFrom v [] = []
-levelsFrom v (n ∷ ns) = numbers v n ∷ levelsFrom (v + n) ns
+unfoldable pub levels_from : ℕ → List ℕ → List (List ℕ)
+levels_from v [] = []
+levels_from v (n ∷ ns) = numbers v n ∷ levels_from (v + n) ns
 
-unfoldable pub levelsOf : PlanData → List (List ℕ)
-levelsOf p = levelsFrom 0 p.sizes
+unfoldable pub levels_of : PlanData → List (List ℕ)
+levels_of p = levels_from 0 p.sizes
 
 -- The vertices of level l.
-unfoldable pub levelAt : PlanData → ℕ → List ℕ
-levelAt p l = get_or (levelsOf p) (l - 1) []
+unfoldable pub level_at : PlanData → ℕ → List ℕ
+level_at p l = get_or (levels_of p) (l - 1) []
 
 -- The level on which vertex v stands. (Of a number that is no vertex, one more than there are levels.)
-unfoldable pub levelIn : List ℕ → ℕ → ℕ
-levelIn [] v = 1
-levelIn (n ∷ ns) v =
-    let lower = levelIn ns (v - n) in
+unfoldable pub level_in : List ℕ → ℕ → ℕ
+level_in [] v = 1
+level_in (n ∷ ns) v =
+    let lower = level_in ns (v - n) in
     let next = suc lower in
     cond (ltb v n) 1 next
 
-unfoldable pub levelOf : PlanData → ℕ → ℕ
-levelOf p v = levelIn p.sizes v
+unfoldable pub level_of : PlanData → ℕ → ℕ
+level_of p v = level_in p.sizes v
 
 -- "Level l has y = S × (l − 1) steps."
-unfoldable pub heightOf : PlanData → ℕ → ℕ
-heightOf p l = p.spacing * (l - 1)
+unfoldable pub height_of : PlanData → ℕ → ℕ
+height_of p l = p.spacing * (l - 1)
 
 -- "The distance of siblings v, w is halfwidth(v) + G + halfwidth(w) steps."
 abbrev pub distance : PlanData → ℕ → ℕ → ℕ
-distance p v w = halfWidth p v + p.gap + halfWidth p w
+distance p v w = half_width p v + p.gap + half_width p w
 
 -- Two neighbours on a level.
 pub record Siblings : Type 0 where
@@ -87,24 +87,24 @@ pub record Siblings : Type 0 where
   pub right : ℕ
 
 -- Each two neighbours of a level written from left to right, and of all levels.
-unfoldable pub pairsOn : List ℕ → List Siblings
-pairsOn [] = []
-pairsOn (v ∷ []) = []
-pairsOn (v ∷ w ∷ ws) = record { left = v; right = w } ∷ pairsOn (w ∷ ws)
+unfoldable pub pairs_on : List ℕ → List Siblings
+pairs_on [] = []
+pairs_on (v ∷ []) = []
+pairs_on (v ∷ w ∷ ws) = record { left = v; right = w } ∷ pairs_on (w ∷ ws)
 
-unfoldable pub siblingsOf : List (List ℕ) → List Siblings
-siblingsOf [] = []
-siblingsOf (l ∷ ls) = pairsOn l ++ siblingsOf ls
+unfoldable pub siblings_of : List (List ℕ) → List Siblings
+siblings_of [] = []
+siblings_of (l ∷ ls) = pairs_on l ++ siblings_of ls
 
 -- The left sibling of v, and its right sibling, where it has one.
-unfoldable pub leftSibling : List Siblings → ℕ → Option ℕ
-leftSibling [] v = none
-leftSibling (s ∷ ss) v =
-    let more = leftSibling ss v in
+unfoldable pub left_sibling : List Siblings → ℕ → Option ℕ
+left_sibling [] v = none
+left_sibling (s ∷ ss) v =
+    let more = left_sibling ss v in
     cond (eqb s.right v) (some s.left) more
 
-unfoldable pub rightSibling : List Siblings → ℕ → Option ℕ
-rightSibling [] v = none
-rightSibling (s ∷ ss) v =
-    let more = rightSibling ss v in
+unfoldable pub right_sibling : List Siblings → ℕ → Option ℕ
+right_sibling [] v = none
+right_sibling (s ∷ ss) v =
+    let more = right_sibling ss v in
     cond (eqb s.left v) (some s.right) more

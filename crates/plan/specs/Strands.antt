@@ -1,7 +1,7 @@
 -- Strands: "A strand is one box, or a maximal chain of vias joined by segments."
 use Rattle.std.specs.Prelude.{List, [], ◌∷◌, ℕ, zero, suc}
 use Rattle.plan.specs.Plan.{PlanData}
-use Rattle.plan.specs.Segments.{Segment, aboveIn, belowIn, innerSegments}
+use Rattle.plan.specs.Segments.{Segment, above_in, below_in, inner_segments}
 
 -- The first vertex of a list, and v itself if there is none.
 abbrev pub first_or : ℕ → List ℕ → ℕ
@@ -9,23 +9,23 @@ first_or v [] = v
 first_or v (w ∷ ws) = w
 
 -- The topmost via of the chain through v: n times one inner segment up, or as far as they go.
-unfoldable pub topFrom : List Segment → ℕ → ℕ → ℕ
-topFrom inner zero v = v
-topFrom inner (suc n) v = topFrom inner n (first_or v (aboveIn inner v))
+unfoldable pub top_from : List Segment → ℕ → ℕ → ℕ
+top_from inner zero v = v
+top_from inner (suc n) v = top_from inner n (first_or v (above_in inner v))
 
 -- The chain from v down, at most n + 1 vertices.
 abbrev pub follow : (ℕ → List ℕ) → List ℕ → List ℕ
 follow f [] = []
 follow f (w ∷ ws) = f w
 
-unfoldable pub chainFrom : List Segment → ℕ → ℕ → List ℕ
-chainFrom inner zero v = v ∷ []
-chainFrom inner (suc n) v = v ∷ follow (λ w. chainFrom inner n w) (belowIn inner v)
+unfoldable pub chain_from : List Segment → ℕ → ℕ → List ℕ
+chain_from inner zero v = v ∷ []
+chain_from inner (suc n) v = v ∷ follow (λ w. chain_from inner n w) (below_in inner v)
 
 -- The strand of v, from the top, over the plan's inner segments and its number of levels. A box is on no inner segment, and
 -- so is its own strand.
-unfoldable pub strandIn : List Segment → ℕ → ℕ → List ℕ
-strandIn inner levels v = chainFrom inner levels (topFrom inner levels v)
+unfoldable pub strand_in : List Segment → ℕ → ℕ → List ℕ
+strand_in inner levels v = chain_from inner levels (top_from inner levels v)
 
-unfoldable pub strandOf : PlanData → ℕ → List ℕ
-strandOf p v = strandIn (innerSegments p) p.levels v
+unfoldable pub strand_of : PlanData → ℕ → List ℕ
+strand_of p v = strand_in (inner_segments p) p.levels v

@@ -1,6 +1,6 @@
 // A plan as it is stored: document 01's limits, and the arrays that they bound.
 ghost use Rattle.std.specs.Prelude.{◌≡◌};
-ghost use Rattle.plan.specs.Stored.{storedPlan, emptyPlan};
+ghost use Rattle.plan.specs.Stored.{stored_plan, empty_plan};
 
 // The vertices are numbered from 0 in reading order. Of each level `sizes` has how many vertices stand on it; of each vertex
 // `vias` has whether it is a via and `halves` its half-width; of each segment `uppers` and `lowers` have its ends A and B,
@@ -48,7 +48,7 @@ impl Plan {
         lowers: [u32; Plan::MAX_SEGMENTS],
         ratings: [u32; Plan::MAX_SEGMENTS],
     ) -> Self
-        ensures { result ≡ storedPlan levels gap spacing sizes vias halves uppers lowers ratings }
+        ensures { result ≡ stored_plan levels gap spacing sizes vias halves uppers lowers ratings }
     {
         Self {
             levels,
@@ -65,7 +65,7 @@ impl Plan {
 
     // 0 throughout.
     pub fn empty() -> Self
-        ensures { result ≡ emptyPlan }
+        ensures { result ≡ empty_plan }
     {
         Plan::new(
             0,

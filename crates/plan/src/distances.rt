@@ -1,11 +1,11 @@
 // How far siblings stand apart at least.
 ghost use Rattle.std.specs.Prelude.{◌≡◌, ◌<◌, length};
-ghost use Rattle.plan.specs.inner.Distances.{Narrow, distanceBy};
+ghost use Rattle.plan.specs.inner.Distances.{Narrow, distance_by};
 
 // The distance of siblings u and v.
 pub fn distance(gap: u32, u: usize, v: usize, halves: &[u16]) -> u32
     requires { Narrow gap halves.now × (u < length halves.now) × (v < length halves.now) }
-    ensures { result ≡ distanceBy gap halves.now u v }
+    ensures { result ≡ distance_by gap halves.now u v }
 {
     halves[u] as u32 + gap + halves[v] as u32
 }

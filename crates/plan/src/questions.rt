@@ -1,13 +1,13 @@
 // What checks 3 to 5 ask of one segment, of two, or of one vertex.
 ghost use Rattle.std.specs.Prelude.{◌≡◌};
-ghost use Rattle.plan.specs.Checks.{comesBefore};
-ghost use Rattle.plan.specs.inner.Graph.{segment, oneDown, through};
+ghost use Rattle.plan.specs.Checks.{comes_before};
+ghost use Rattle.plan.specs.inner.Graph.{segment, one_down, through};
 
 use ints::wide;
 
 // Whether a and b are vertices, b one level below a.
 pub fn one_down(level: &[u16], a: u32, b: u32) -> bool
-    ensures { result ≡ oneDown level.now (segment a b) }
+    ensures { result ≡ one_down level.now (segment a b) }
 {
     let upper = a as usize;
     let lower = b as usize;
@@ -22,7 +22,7 @@ pub fn one_down(level: &[u16], a: u32, b: u32) -> bool
 
 // Whether the segment from a to b comes before that from c to d.
 pub fn comes_before(a: u32, b: u32, c: u32, d: u32) -> bool
-    ensures { result ≡ comesBefore (segment a b) (segment c d) }
+    ensures { result ≡ comes_before (segment a b) (segment c d) }
 {
     a < c || (a == c && b < d)
 }

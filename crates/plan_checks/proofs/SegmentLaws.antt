@@ -8,21 +8,21 @@ use native.Mathlib.Omega.{arith}
 use borrow.Author.Tests.{lt-ltb, le-ltb}
 use lib.ListN.{length, get_or}
 use Rattle.ints.proofs.Laws.{cases}
-use Rattle.plan.specs.Plan.{levelOf}
-use Rattle.plan.specs.Segments.{Segment, segmentsOf}
-use Rattle.plan.specs.Checks.{every, goesOneDown, check3, comesBefore, rising}
-use Rattle.plan.specs.inner.Graph.{graph_of, segment, Levelled, oneDown}
+use Rattle.plan.specs.Plan.{level_of}
+use Rattle.plan.specs.Segments.{Segment, segments_of}
+use Rattle.plan.specs.Checks.{every, goes_one_down, check3, comes_before, rising}
+use Rattle.plan.specs.inner.Graph.{graph_of, segment, Levelled, one_down}
 use Rattle.plan_walks.specs.inner.Walks.{after}
 use Rattle.plan_walks.proofs.AfterLaws.{after-all, after_one}
 
 -- ---- rising
 module _ («as» bs : List ℕ) (i : ℕ) (e : length «as» ≡ length bs) where
-  pub order-on : i + 1 < length «as» → comesBefore (segment (get_or «as» i 0) (get_or bs i 0)) (segment (get_or «as» (i + 1) 0) (get_or bs (i + 1) 0)) ≡ true
+  pub order-on : i + 1 < length «as» → comes_before (segment (get_or «as» i 0) (get_or bs i 0)) (segment (get_or «as» (i + 1) 0) (get_or bs (i + 1) 0)) ≡ true
       → rising (after «as» bs i) ≡ rising (after «as» bs (i + 1))
   unfolding rising
   order-on h t = rw (after_one «as» bs i (omega arith) e, after_one «as» bs (i + 1) h e, t)
 
-  pub order-stop : i + 1 < length «as» → comesBefore (segment (get_or «as» i 0) (get_or bs i 0)) (segment (get_or «as» (i + 1) 0) (get_or bs (i + 1) 0)) ≡ false
+  pub order-stop : i + 1 < length «as» → comes_before (segment (get_or «as» i 0) (get_or bs i 0)) (segment (get_or «as» (i + 1) 0) (get_or bs (i + 1) 0)) ≡ false
       → rising (after «as» bs i) ≡ false
   unfolding rising
   order-stop h t = rw (after_one «as» bs i (omega arith) e, after_one «as» bs (i + 1) h e, t)
@@ -54,8 +54,8 @@ every-same t u (x ∷ xs) h = rw (h x, every-same t u xs h)
 
 -- ---- check 3, by the list of levels
 module _ (sizes : List ℕ) (vias : List Bool) (level : List ℕ) (w : Levelled sizes level) (e : length vias ≡ length level) («as» bs : List ℕ) where
-  pub one-down-same : (s : Segment) → goesOneDown (graph_of sizes vias «as» bs) s ≡ oneDown level s
-  unfolding levelOf
+  pub one-down-same : (s : Segment) → goes_one_down (graph_of sizes vias «as» bs) s ≡ one_down level s
+  unfolding level_of
   one-down-same s =
       let a = s.upper in
       let b = s.lower in
@@ -64,6 +64,6 @@ module _ (sizes : List ℕ) (vias : List Bool) (level : List ℕ) (w : Levelled 
       (λ h. rw (le-ltb a n h))
       (λ h. cases n b (λ k. rw (lt-ltb a n h, le-ltb b n k)) (λ k. rw (w.each a h, w.each b k))))
 
-  pub check3-same : check3 (graph_of sizes vias «as» bs) ≡ every (oneDown level) (after «as» bs 0)
-  unfolding check3 segmentsOf
-  check3-same = every-same (goesOneDown (graph_of sizes vias «as» bs)) (oneDown level) (after «as» bs 0) one-down-same
+  pub check3-same : check3 (graph_of sizes vias «as» bs) ≡ every (one_down level) (after «as» bs 0)
+  unfolding check3 segments_of
+  check3-same = every-same (goes_one_down (graph_of sizes vias «as» bs)) (one_down level) (after «as» bs 0) one-down-same

@@ -1,8 +1,8 @@
 // Checks 3 and 4 of document 01, over slices that are as long as the data, and checks 3 to 6 in this order. Each stops at the first
 // that fails.
 ghost use Rattle.std.specs.Prelude.{◌≡◌, Bool, List, [], ◌∷◌, ℕ, length};
-ghost use Rattle.ints.specs.Refusals.{check, firstRefusal};
-ghost use Rattle.plan.specs.Checks.{check3, check4, checksOf};
+ghost use Rattle.ints.specs.Refusals.{check, first_refusal};
+ghost use Rattle.plan.specs.Checks.{check3, check4, checks_of};
 ghost use Rattle.plan.specs.inner.Graph.{graph_of, Levelled, InLimits};
 
 use crate::levels::levels;
@@ -55,7 +55,7 @@ pub fn check_levels(sizes: &[u16], vias: &[bool], uppers: &[u32], lowers: &[u32]
 
 // The number of the first of two checks that fails, 0 if both hold.
 pub fn first_of(m: u32, a: bool, n: u32, b: bool) -> u32
-    ensures { result ≡ firstRefusal (check m a ∷ check n b ∷ []) }
+    ensures { result ≡ first_refusal (check m a ∷ check n b ∷ []) }
 {
     if !a {
         return m;
@@ -66,7 +66,7 @@ pub fn first_of(m: u32, a: bool, n: u32, b: bool) -> u32
 // Checks 3 to 6 in this order: the number of the first that fails, 0 if none does.
 pub fn check_plan(sizes: &[u16], vias: &[bool], uppers: &[u32], lowers: &[u32]) -> u32
     requires { InLimits sizes.now vias.now uppers.now lowers.now }
-    ensures { result ≡ firstRefusal (checksOf (graph_of sizes.now vias.now uppers.now lowers.now)) }
+    ensures { result ≡ first_refusal (checks_of (graph_of sizes.now vias.now uppers.now lowers.now)) }
 {
     let ends = check_levels(sizes, vias, uppers, lowers);
     let order = check_order(uppers, lowers);

@@ -1,8 +1,8 @@
 // The level of every vertex, once for all segments, and its height, once for all lines and marks.
 ghost use Rattle.std.specs.Prelude.{◌≡◌, ◌+◌, ◌-◌, ◌≤◌, min, length};
-ghost use Rattle.plan.specs.Limits.{maxLevels, maxVertices};
+ghost use Rattle.plan.specs.Limits.{max_levels, max_vertices};
 ghost use Rattle.plan.specs.inner.Graph.{filled, Levelled};
-ghost use Rattle.plan_checks.specs.inner.Heights.{levelHeight, HeightsOf, AreLevels, Raised};
+ghost use Rattle.plan_checks.specs.inner.Heights.{level_height, HeightsOf, AreLevels, Raised};
 
 use ints::wide;
 use plan::data::Plan;
@@ -27,7 +27,7 @@ fn fill(level: &mut [u16], from: usize, to: usize, l: u16)
 
 // Writes the level of each vertex. A number past the last level's vertices gets one more than there are levels.
 pub fn levels(sizes: &[u16], level: &mut [u16])
-    requires { length sizes.now ≤ maxLevels }
+    requires { length sizes.now ≤ max_levels }
     ensures { Levelled sizes.now level.new }
 {
     let mut from: usize = 0;
@@ -43,8 +43,8 @@ pub fn levels(sizes: &[u16], level: &mut [u16])
 
 // "Level l has y = S × (l − 1) steps."
 fn level_height(spacing: u32, l: u16) -> u64
-    requires { (1 ≤ l) × (l ≤ maxLevels + 1) }
-    ensures { result ≡ levelHeight spacing l }
+    requires { (1 ≤ l) × (l ≤ max_levels + 1) }
+    ensures { result ≡ level_height spacing l }
 {
     spacing as u64 * (l - 1) as u64
 }
@@ -63,7 +63,7 @@ fn raise(spacing: u32, level: &[u16], out: &mut [u64])
 
 // Writes the height of each vertex, in steps below the top level.
 pub fn heights(spacing: u32, sizes: &[u16], out: &mut [u64])
-    requires { (length sizes.now ≤ maxLevels) × (length out.old ≤ maxVertices) }
+    requires { (length sizes.now ≤ max_levels) × (length out.old ≤ max_vertices) }
     ensures { HeightsOf spacing sizes.now out.new }
 {
     let mut level = [0u16; Plan::MAX_VERTICES];

@@ -1,6 +1,6 @@
 // Check 5 of document 01, over slices that are as long as the data. It stops at the first via that fails.
 ghost use Rattle.std.specs.Prelude.{◌≡◌, List, ℕ, ◌≤◌, length, replicate};
-ghost use Rattle.plan.specs.Limits.{maxVertices, maxSegments};
+ghost use Rattle.plan.specs.Limits.{max_vertices, max_segments};
 ghost use Rattle.plan.specs.Checks.{check5};
 ghost use Rattle.plan.specs.inner.Graph.{graph_of, Below, Counted, Within};
 
@@ -9,8 +9,8 @@ use plan::questions::is_through;
 
 // Counts, for each vertex, how many of the ends it is.
 fn count(ends: &[u32], counts: &mut [u16])
-    requires { Below maxVertices ends.now × (length ends.now ≤ maxSegments) × (counts.old ≡ replicate maxVertices 0) }
-    ensures { Counted maxVertices ends.now counts.new }
+    requires { Below max_vertices ends.now × (length ends.now ≤ max_segments) × (counts.old ≡ replicate max_vertices 0) }
+    ensures { Counted max_vertices ends.now counts.new }
 {
     let mut i: usize = 0;
     while i < ends.len() {

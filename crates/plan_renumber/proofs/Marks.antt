@@ -13,20 +13,20 @@ use lib.Seq.{drop-cons, get_or-set_same, get_or-set_other}
 use Rattle.ints.specs.Lists.{sum, count_of}
 use Rattle.ints.proofs.Laws.{cases}
 use Rattle.ints.proofs.Tests.{test, and_left, and_right}
-use Rattle.plan.specs.Plan.{PlanData, vertexCount, levelOf}
+use Rattle.plan.specs.Plan.{PlanData, vertex_count, level_of}
 use Rattle.plan.specs.Checks.{every}
 use Rattle.plan.specs.inner.Graph.{Levelled}
 use Rattle.plan.proofs.All.{all-get, all-of-get, every-all, all-every}
 use Rattle.plan.proofs.CountLaws.{by-same, count_same, count-other, count_none}
-use Rattle.plan_renumber.specs.Renumber.{ownNumbers}
-use Rattle.plan_renumber.specs.inner.Own.{isNew, bit, Markable, Marked, Numbers}
+use Rattle.plan_renumber.specs.Renumber.{own_numbers}
+use Rattle.plan_renumber.specs.inner.Own.{is_new, bit, Markable, Marked, Numbers}
 use Rattle.plan_renumber.proofs.Own.{Own, own, own-test}
 
 one_of : (b : Bool) → bit b ≡ 1 → b ≡ true
 one_of true e = refl
 one_of false e = absurd (omega arith)
 
-pub new-below : (level : List ℕ) (seen : List Bool) (l v : ℕ) → isNew level seen l v ≡ true → v < length level
+pub new-below : (level : List ℕ) (seen : List Bool) (l v : ℕ) → is_new level seen l v ≡ true → v < length level
 new-below level seen l v t =
     let a = ltb v (length level) in
     let b = eqb (get_or level v 0) l in
@@ -44,7 +44,7 @@ module _ (level m : List ℕ) where
 
   module _ (seen : List Bool) (i : ℕ) (w : Marked level m seen i) (h : i < length m) (long : length level ≡ length m) where
     -- a number that is new
-    pub mark_on : isNew level seen (get_or level i 0) (get_or m i 0) ≡ true → Marked level m (set seen (get_or m i 0) true) (i + 1)
+    pub mark_on : is_new level seen (get_or level i 0) (get_or m i 0) ≡ true → Marked level m (set seen (get_or m i 0) true) (i + 1)
     mark_on t =
         let x = get_or m i 0 in
         let l = get_or level i 0 in
@@ -73,14 +73,14 @@ module _ (level m : List ℕ) where
         }
 
     -- one that is not
-    pub mark-fails : isNew level seen (get_or level i 0) (get_or m i 0) ≡ false → (p : PlanData) → Numbers p p.sizes m → Levelled p.sizes level → ownNumbers p m ≡ false
-    unfolding levelOf
-    mark-fails t p n lv = test (ownNumbers p m) (λ e. absurd (go (own p m n.summed e))) (λ e. e)
+    pub mark-fails : is_new level seen (get_or level i 0) (get_or m i 0) ≡ false → (p : PlanData) → Numbers p p.sizes m → Levelled p.sizes level → own_numbers p m ≡ false
+    unfolding level_of
+    mark-fails t p n lv = test (own_numbers p m) (λ e. absurd (go (own p m n.summed e))) (λ e. e)
       where
         go : Own p m → ⊥
         go o =
             let x = get_or m i 0 in
-            let k : i < vertexCount p = omega (arith, n.many) in
+            let k : i < vertex_count p = omega (arith, n.many) in
             let below : x < length m = omega (arith, o.once.below i k, n.many) in
             let same : get_or level x 0 ≡ get_or level i 0 = lv.each x (omega arith) ∙ o.level i k ∙ sym (lv.each i (omega arith)) in
             let ys = drop (suc i) m in
@@ -91,8 +91,8 @@ module _ (level m : List ℕ) where
 
   -- once all are marked
   pub marked-own : (seen : List Bool) → Marked level m seen (length m) → (p : PlanData) → Numbers p p.sizes m → Levelled p.sizes level → length level ≡ length m
-      → every (λ b. b) seen ≡ ownNumbers p m
-  unfolding levelOf
+      → every (λ b. b) seen ≡ own_numbers p m
+  unfolding level_of
   marked-own seen w p n lv long =
       let count : (v : ℕ) → v < length m → bit (get_or seen v false) ≡ count_of v m = λ v h.
       omega (arith, w.counts v h, ap (count_of v) (drop_of_length-le m {i = length m} (omega arith)), count_none v) in
@@ -107,7 +107,7 @@ module _ (level m : List ℕ) where
         level = λ i h. let k : i < length m = omega (arith, n.many) in
             sym (lv.each (get_or m i 0) (omega (arith, w.below i k))) ∙ w.stays i k ∙ lv.each i (omega arith);
       })))
-      (λ e. e ∙ sym (test (ownNumbers p m)
+      (λ e. e ∙ sym (test (own_numbers p m)
       (λ q. let o = own p m n.summed q in absurd (true≢false (sym (all-every (λ b. b) (all-of-get seen false (λ v h.
       let k : v < length m = omega (arith, w.long) in
       one_of (get_or seen v false) (count v k ∙ o.once.once v (omega (arith, n.many)))))) ∙ e)))
@@ -136,4 +136,4 @@ none-set (suc n) (suc k) (suc v) = none-set n k v
 
 -- ---- said of the plan's own level sizes
 pub own-sizes : (p : PlanData) (sizes m : List ℕ) → Numbers p sizes m → Numbers p p.sizes m
-own-sizes p sizes m n = record { sizesAre = refl; summed = ap sum n.sizesAre ∙ n.summed; many = n.many }
+own-sizes p sizes m n = record { sizes_are = refl; summed = ap sum n.sizes_are ∙ n.summed; many = n.many }

@@ -2,8 +2,8 @@
 ghost use Rattle.std.specs.Prelude.{◌≡◌, length};
 ghost use Rattle.plan.specs.Plan.{PlanData};
 ghost use Rattle.plan.specs.Checks.{every};
-ghost use Rattle.plan_renumber.specs.Renumber.{ownNumbers};
-ghost use Rattle.plan_renumber.specs.inner.Own.{isNew, Markable, Marks, FewNumbers, Numbers};
+ghost use Rattle.plan_renumber.specs.Renumber.{own_numbers};
+ghost use Rattle.plan_renumber.specs.inner.Own.{is_new, Markable, Marks, FewNumbers, Numbers};
 
 use ints::wide;
 use plan::data::Plan;
@@ -12,7 +12,7 @@ use plan_checks::levels::levels;
 // Whether v is a vertex on level l that was not seen yet. `level` has the level of every vertex.
 fn is_new(level: &[u16], seen: &[bool], l: u16, v: usize) -> bool
     requires { length seen.now ≡ length level.now }
-    ensures { result ≡ isNew level.now seen.now l v }
+    ensures { result ≡ is_new level.now seen.now l v }
 {
     if level.len() <= v {
         return false;
@@ -56,7 +56,7 @@ fn all(seen: &[bool]) -> bool
 // The same, with room for the level of every vertex and for a mark of each.
 fn own_by(sizes: &[u16], numbers: &[u16], level: &mut [u16], seen: &mut [bool]) -> bool
     requires { FewNumbers sizes.now numbers.now × Markable level.old numbers.now seen.old }
-    ensures { (p : PlanData) → Numbers p sizes.now numbers.now → result ≡ ownNumbers p numbers.now }
+    ensures { (p : PlanData) → Numbers p sizes.now numbers.now → result ≡ own_numbers p numbers.now }
 {
     levels(sizes, level);
     if !mark(level, numbers, seen) {
@@ -68,7 +68,7 @@ fn own_by(sizes: &[u16], numbers: &[u16], level: &mut [u16], seen: &mut [bool]) 
 // Whether these numbers are own numbers of a plan with these level sizes and as many vertices.
 pub fn own_numbers(sizes: &[u16], numbers: &[u16]) -> bool
     requires { FewNumbers sizes.now numbers.now }
-    ensures { (p : PlanData) → Numbers p sizes.now numbers.now → result ≡ ownNumbers p numbers.now }
+    ensures { (p : PlanData) → Numbers p sizes.now numbers.now → result ≡ own_numbers p numbers.now }
 {
     let mut level = [0u16; Plan::MAX_VERTICES];
     let mut seen = [false; Plan::MAX_VERTICES];

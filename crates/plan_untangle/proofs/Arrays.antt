@@ -5,8 +5,8 @@ use mathlib.Core.Bool.{Bool, true}
 use mathlib.Core.List.{List}
 use native.Mathlib.Omega.{arith}
 use lib.ListN.{length}
-use Rattle.plan.specs.Plan.{PlanData, vertexCount}
-use Rattle.plan.specs.Segments.{segmentsFrom, segmentsOf}
+use Rattle.plan.specs.Plan.{PlanData, vertex_count}
+use Rattle.plan.specs.Segments.{segments_from, segments_of}
 use Rattle.plan.specs.Checks.{rising, check4}
 use Rattle.plan_renumber.specs.Renumber.{renumbered}
 use Rattle.plan_renumber.specs.inner.Words.{Once, Lists, Renumberable}
@@ -19,9 +19,9 @@ use Rattle.plan_untangle.proofs.Whole.{tangled-within}
 module _ (sizes : List ℕ) (vias : List Bool) (halves us ls ws numbers turn upper places codes keys : List ℕ) (flags : List Bool)
     (s : SomeTangled sizes vias us ls) (r : Rooms vias halves us ws numbers turn upper places codes keys flags) where
   -- check 4, of the arrays
-  rise : rising (segmentsFrom us ls) ≡ true
-  unfolding check4 segmentsOf
-  rise = let t = s.lists in rw (t.uppersAre, t.lowersAre) at t.four
+  rise : rising (segments_from us ls) ≡ true
+  unfolding check4 segments_of
+  rise = let t = s.lists in rw (t.uppers_are, t.lowers_are) at t.four
 
   -- once the order is found
   pub renumberable : (numbers' turn' places' : List ℕ) → ((p : PlanData) → Tangled p sizes vias us ls → numbers' ≡ order p)
@@ -29,21 +29,21 @@ module _ (sizes : List ℕ) (vias : List Bool) (halves us ls ws numbers turn upp
   renumberable numbers' turn' places' o tl pl =
       let p = s.plan in
       let w = tangled-within p sizes vias us ls s.lists in
-      let once : Once (vertexCount p) numbers' = rw (o p s.lists) (order-own p).once in
-      let long : length numbers' ≡ length vias = once.long ∙ ap length s.lists.viasAre in
+      let once : Once (vertex_count p) numbers' = rw (o p s.lists) (order-own p).once in
+      let long : length numbers' ≡ length vias = once.long ∙ ap length s.lists.vias_are in
       record {
         movable = record {
-          numbers = record { few = omega (arith, w.vertices); long = pl ∙ r.tables.places-long ∙ sym long; once = rw once.long once };
+          numbers = record { few = omega (arith, w.vertices); long = pl ∙ r.tables.places_long ∙ sym long; once = rw once.long once };
           ends = w.ends;
-          long = r.keys-long;
+          long = r.keys_long;
           upper = λ i h. omega (arith, w.upper i h);
           lower = λ i h. omega (arith, w.lower i h);
           rise = rise;
           rated = r.rated;
         };
-        vias-long = sym long;
+        vias_long = sym long;
         halves_long = r.halves_long ∙ sym long;
-        spare-long = tl ∙ r.tables.turns-long ∙ sym long;
+        spare_long = tl ∙ r.tables.turns_long ∙ sym long;
         flags_long = r.flags_long ∙ sym long;
       }
 
@@ -53,8 +53,8 @@ pub untangles : (p : PlanData) (sizes : List ℕ) (vias : List Bool) (halves us 
     → ((q : PlanData) → Lists q vias halves us ls ws → Lists (renumbered q numbers) vias' halves' us' ls' ws') → Untangles p numbers vias' halves' us' ls' ws'
 unfolding untangled
 untangles p sizes vias halves us ls ws t h r numbers o vias' halves' us' ls' ws' f = record {
-  numbersAre = o;
-  lists = rw o at (f p (record { viasAre = t.viasAre; halvesAre = h; uppersAre = t.uppersAre; lowersAre = t.lowersAre; ratingsAre = r }));
+  numbers_are = o;
+  lists = rw o at (f p (record { vias_are = t.vias_are; halves_are = h; uppers_are = t.uppers_are; lowers_are = t.lowers_are; ratings_are = r }));
 }
 
 pub at_least : (a b : ℕ) → a ≡ b → b ≤ a

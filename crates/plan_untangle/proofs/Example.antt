@@ -3,13 +3,13 @@
 use mathlib.Core.Path.{◌≡◌, refl}
 use mathlib.Core.Bool.{true, false}
 use mathlib.Core.List.{[], ◌∷◌}
-use Rattle.sorting.specs.Sort.{insertBy, sortBy}
+use Rattle.sorting.specs.Sort.{insert_by, sort_by}
 use Rattle.ints.specs.Lists.{chosen}
-use Rattle.sorting.specs.Share.{refill, shareOut}
-use Rattle.plan.specs.Plan.{PlanData, data_of, numbers, levelIn, levelOf}
-use Rattle.plan.specs.Segments.{segmentsFrom, segmentsOf, ratedFrom, ratedOf, aboveIn, above}
-use Rattle.plan_renumber.specs.Renumber.{place_in, movedSegments, renumbered}
-use Rattle.plan_untangle.specs.Order.{orderTo, order, untangled}
+use Rattle.sorting.specs.Share.{refill, share_out}
+use Rattle.plan.specs.Plan.{PlanData, data_of, numbers, level_in, level_of}
+use Rattle.plan.specs.Segments.{segments_from, segments_of, rated_from, rated_of, above_in, above}
+use Rattle.plan_renumber.specs.Renumber.{place_in, moved_segments, renumbered}
+use Rattle.plan_untangle.specs.Order.{order_to, order, untangled}
 
 abbrev tangled : PlanData
 tangled =
@@ -18,19 +18,19 @@ tangled =
     (1 ∷ 2 ∷ 3 ∷ 4 ∷ 5 ∷ 6 ∷ 7 ∷ 100 ∷ [])
 
 -- opens every definition that is computed here
-unfoldable untangledOpen : Unit {0}
-unfolding untangled renumbered movedSegments order orderTo shareOut refill chosen sortBy insertBy place_in numbers levelOf levelIn above aboveIn ratedOf ratedFrom segmentsOf segmentsFrom
-untangledOpen = tt
+unfoldable untangled_open : Unit {0}
+unfolding untangled renumbered moved_segments order order_to share_out refill chosen sort_by insert_by place_in numbers level_of level_in above above_in rated_of rated_from segments_of segments_from
+untangled_open = tt
 
 tangled-order : order tangled ≡ 0 ∷ 1 ∷ 2 ∷ 3 ∷ 5 ∷ 4 ∷ 7 ∷ 6 ∷ 8 ∷ 9 ∷ []
-unfolding untangledOpen
+unfolding untangled_open
 tangled-order = refl
 
 tangled-lowers : (untangled tangled).lowers ≡ 2 ∷ 3 ∷ 4 ∷ 5 ∷ 6 ∷ 7 ∷ 9 ∷ 8 ∷ []
-unfolding untangledOpen
+unfolding untangled_open
 tangled-lowers = refl
 
 -- each rating goes with its segment
 tangled-ratings : (untangled tangled).ratings ≡ 1 ∷ 2 ∷ 3 ∷ 4 ∷ 6 ∷ 5 ∷ 100 ∷ 7 ∷ []
-unfolding untangledOpen
+unfolding untangled_open
 tangled-ratings = refl

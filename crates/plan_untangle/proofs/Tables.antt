@@ -11,7 +11,7 @@ use lib.ListN.{length, get_or, set, drop, length-set, drop_of_length-le}
 use lib.Seq.{ext_get_or, drop-cons, get_or-set_same, get_or-set_other}
 use Rattle.ints.proofs.Laws.{cases}
 use Rattle.plan.specs.Plan.{numbers}
-use Rattle.plan.specs.Segments.{Segment, segmentsFrom, aboveIn}
+use Rattle.plan.specs.Segments.{Segment, segments_from, above_in}
 use Rattle.plan.specs.Strands.{first_or}
 use Rattle.plan.specs.inner.Graph.{segment}
 use Rattle.plan.proofs.CountLaws.{by-same}
@@ -43,33 +43,33 @@ counted-all o out i w h =
 pub record Ending (ss : List Segment) (o upper : List ℕ) (i : ℕ) : Type 0 where
   pub within : i ≤ length ss
   pub long : length upper ≡ length o
-  pub each : (v : ℕ) → v < length o → get_or upper v 0 ≡ first_or v (aboveIn (drop i ss) v)
+  pub each : (v : ℕ) → v < length o → get_or upper v 0 ≡ first_or v (above_in (drop i ss) v)
 
 module _ (v : ℕ) (s : Segment) (ss : List Segment) where
-  first-here : s.lower ≡ v → first_or v (aboveIn (s ∷ ss) v) ≡ s.upper
-  unfolding aboveIn
+  first-here : s.lower ≡ v → first_or v (above_in (s ∷ ss) v) ≡ s.upper
+  unfolding above_in
   first-here e = rw (eq-eqb s.lower v e)
 
-  first_past : (s.lower ≡ v → ⊥) → first_or v (aboveIn (s ∷ ss) v) ≡ first_or v (aboveIn ss v)
-  unfolding aboveIn
+  first_past : (s.lower ≡ v → ⊥) → first_or v (above_in (s ∷ ss) v) ≡ first_or v (above_in ss v)
+  unfolding above_in
   first_past e = rw (ne_eqb s.lower v e)
 
-pub ending-start : (us ls upper : List ℕ) → Endable us ls upper → Ending (segmentsFrom us ls) upper upper (length us)
-unfolding aboveIn
+pub ending-start : (us ls upper : List ℕ) → Endable us ls upper → Ending (segments_from us ls) upper upper (length us)
+unfolding above_in
 ending-start us ls upper g =
-    let ss = segmentsFrom us ls in
+    let ss = segments_from us ls in
     let long = segments-count us ls (sym g.ends) in
     record {
       within = omega arith;
       long = refl;
       each = λ v h. ap (λ (l : List ℕ). get_or l v 0) g.own ∙ get-numbers 0 (length upper) v 0 h ∙ zero-add v
-          ∙ ap (λ (l : List Segment). first_or v (aboveIn l v)) (sym (drop_of_length-le ss {i = length us} (omega arith)));
+          ∙ ap (λ (l : List Segment). first_or v (above_in l v)) (sym (drop_of_length-le ss {i = length us} (omega arith)));
     }
 
-pub ending-on : (us ls o upper : List ℕ) (i : ℕ) → length us ≡ length ls → Ending (segmentsFrom us ls) o upper (i + 1) → i < length us → get_or ls i 0 < length o
-    → Ending (segmentsFrom us ls) o (set upper (get_or ls i 0) (get_or us i 0)) i
+pub ending-on : (us ls o upper : List ℕ) (i : ℕ) → length us ≡ length ls → Ending (segments_from us ls) o upper (i + 1) → i < length us → get_or ls i 0 < length o
+    → Ending (segments_from us ls) o (set upper (get_or ls i 0) (get_or us i 0)) i
 ending-on us ls o upper i e w h k =
-    let ss = segmentsFrom us ls in
+    let ss = segments_from us ls in
     let a = get_or us i 0 in
     let b = get_or ls i 0 in
     let here : drop i ss ≡ segment a b ∷ drop (i + 1) ss =
@@ -83,24 +83,24 @@ ending-on us ls o upper i e w h k =
           (λ n. rw here (get_or-set_other upper b v a 0 (λ r. n (sym r)) ∙ w.each v q ∙ sym (first_past v (segment a b) (drop (i + 1) ss) n)));
     }
 
-pub ending-end : (us ls o upper : List ℕ) (i : ℕ) → Ending (segmentsFrom us ls) o upper i → i ≡ 0 → Ended us ls upper
-ending-end us ls o upper i w e = record { each = λ v h. w.each v (omega (arith, w.long)) ∙ ap (λ (j : ℕ). first_or v (aboveIn (drop j (segmentsFrom us ls)) v)) e }
+pub ending-end : (us ls o upper : List ℕ) (i : ℕ) → Ending (segments_from us ls) o upper i → i ≡ 0 → Ended us ls upper
+ending-end us ls o upper i w e = record { each = λ v h. w.each v (omega (arith, w.long)) ∙ ap (λ (j : ℕ). first_or v (above_in (drop j (segments_from us ls)) v)) e }
 
 -- ---- turns: those of the first i vertices are set
-abbrev pub turnAt : List Bool → List ℕ → List ℕ → ℕ → ℕ
-turnAt vias upper level v = cond (get_or vias v false && get_or vias (get_or upper v 0) false) (get_or level v 0) 0
+abbrev pub turn_at : List Bool → List ℕ → List ℕ → ℕ → ℕ
+turn_at vias upper level v = cond (get_or vias v false && get_or vias (get_or upper v 0) false) (get_or level v 0) 0
 
 pub record Turning (vias : List Bool) (upper level turn : List ℕ) (i : ℕ) : Type 0 where
   pub within : i ≤ length level
   pub long : length turn ≡ length level
-  pub done : (v : ℕ) → v < i → get_or turn v 0 ≡ turnAt vias upper level v
+  pub done : (v : ℕ) → v < i → get_or turn v 0 ≡ turn_at vias upper level v
   pub ahead : (v : ℕ) → i ≤ v → get_or turn v 0 ≡ get_or level v 0
 
 module _ (vias : List Bool) (upper level : List ℕ) where
   pub turning-start : Turning vias upper level level 0
   turning-start = record { within = omega arith; long = refl; done = λ v h. absurd (omega arith); ahead = λ v h. refl }
 
-  pub turning-on : (turn : List ℕ) (i x : ℕ) → Turning vias upper level turn i → i < length level → x ≡ turnAt vias upper level i → Turning vias upper level (set turn i x) (i + 1)
+  pub turning-on : (turn : List ℕ) (i x : ℕ) → Turning vias upper level turn i → i < length level → x ≡ turn_at vias upper level i → Turning vias upper level (set turn i x) (i + 1)
   turning-on turn i x w h e = record {
     within = omega arith;
     long = length-set turn i x ∙ w.long;

@@ -1,7 +1,7 @@
 // The order of a tangled plan's vertices: each level from the second down rearranged by the order that the one above has by then.
 ghost use Rattle.std.specs.Prelude.{◌≡◌, cond, ◌&&◌, ◌≤◌, length};
 ghost use Rattle.plan.specs.Plan.{PlanData, numbers};
-ghost use Rattle.plan.specs.Limits.{maxVertices};
+ghost use Rattle.plan.specs.Limits.{max_vertices};
 ghost use Rattle.plan_untangle.specs.Order.{order as order_of};
 ghost use Rattle.plan_untangle.specs.inner.Ordering.{Tangled, SomeTangled, Endable, Ended, Turnable, Turned, Ordering, SomeOrdering, ShareRoom, Tables};
 
@@ -11,7 +11,7 @@ use plan_checks::levels::levels;
 
 // Writes the numbers from 0 on.
 pub fn count_up(out: &mut [u16])
-    requires { length out.old ≤ maxVertices }
+    requires { length out.old ≤ max_vertices }
     ensures { out.new ≡ numbers 0 (length out.old) }
 {
     let mut i: usize = 0;

@@ -12,15 +12,15 @@ use Rattle.ints.specs.Lists.{chosen, sum}
 use Rattle.ints.proofs.Laws.{cases}
 use Rattle.ints.proofs.Lists.{take_more}
 use Rattle.ints.proofs.Tests.{test}
-use Rattle.plan.specs.Plan.{PlanData, levelOf}
-use Rattle.plan.specs.Segments.{Segment, segmentsFrom, segmentsOf, isInner, innerIn, innerSegments}
+use Rattle.plan.specs.Plan.{PlanData, level_of}
+use Rattle.plan.specs.Segments.{Segment, segments_from, segments_of, is_inner, inner_in, inner_segments}
 use Rattle.plan.specs.Checks.{check4}
-use Rattle.plan.specs.Walk.{innerBelow, walkFrom, walk}
+use Rattle.plan.specs.Walk.{inner_below, walk_from, walk}
 use Rattle.plan.specs.inner.Graph.{graph_of, Below}
 use Rattle.plan.specs.declared.walk.Walk.{Walk}
 use Rattle.plan.proofs.All.{All, all_nil, all_cons, all_map}
 use Rattle.plan.proofs.LevelLaws.{level-between}
-use Rattle.plan.proofs.Levels.{level_in}
+use Rattle.plan.proofs.Levels.{level_in_lem}
 use Rattle.plan.proofs.Crossings.{Pairs, pairs-none, pairs-more, Before, sorted}
 use Rattle.plan.proofs.Walks.{chosen-empty}
 use Rattle.plan_walks.specs.inner.Walks.{after, ahead}
@@ -42,43 +42,43 @@ module _ (end : ℕ) («as» bs : List ℕ) (i : ℕ) where
     ahead-on k = rw (after_one «as» bs i h e, lt-ltb (get_or «as» i 0) end k)
 
 -- ---- the walk over the inner ones of them: after the first i segments, with so many taken and the last lower end
-abbrev pub walkAt : List Bool → List ℕ → List ℕ → ℕ → ℕ → ℕ → ℕ → Walk
-walkAt vias «as» bs end i taken last = walkFrom taken last (innerIn (graph_of [] vias «as» bs) (ahead end (after «as» bs i)))
+abbrev pub walk_at : List Bool → List ℕ → List ℕ → ℕ → ℕ → ℕ → ℕ → Walk
+walk_at vias «as» bs end i taken last = walk_from taken last (inner_in (graph_of [] vias «as» bs) (ahead end (after «as» bs i)))
 
 module _ (vias : List Bool) («as» bs : List ℕ) (end i : ℕ) (e : length «as» ≡ length bs) (h : i < length «as») (k : get_or «as» i 0 < end) (taken last : ℕ) where
   abbrev inner : Bool
   inner = get_or vias (get_or «as» i 0) false && get_or vias (get_or bs i 0) false
 
-  walk-skip : inner ≡ false → walkAt vias «as» bs end i taken last ≡ walkAt vias «as» bs end (i + 1) taken last
-  unfolding innerIn
+  walk-skip : inner ≡ false → walk_at vias «as» bs end i taken last ≡ walk_at vias «as» bs end (i + 1) taken last
+  unfolding inner_in
   walk-skip t = rw (ahead-on end «as» bs i e h k, t)
 
-  walk-on : inner ≡ true → last ≤ get_or bs i 0 → walkAt vias «as» bs end i taken last ≡ walkAt vias «as» bs end (i + 1) (taken + 1) (get_or bs i 0)
-  unfolding innerIn walkFrom
+  walk-on : inner ≡ true → last ≤ get_or bs i 0 → walk_at vias «as» bs end i taken last ≡ walk_at vias «as» bs end (i + 1) (taken + 1) (get_or bs i 0)
+  unfolding inner_in walk_from
   walk-on t m = rw (ahead-on end «as» bs i e h k, t, le-ltb (get_or bs i 0) last m)
 
-  pub walk-stop : inner ≡ true → get_or bs i 0 < last → walkAt vias «as» bs end i taken last ≡ record { crossed = true; taken = taken + 1 }
-  unfolding innerIn walkFrom
+  pub walk-stop : inner ≡ true → get_or bs i 0 < last → walk_at vias «as» bs end i taken last ≡ record { crossed = true; taken = taken + 1 }
+  unfolding inner_in walk_from
   walk-stop t m = rw (ahead-on end «as» bs i e h k, t, lt-ltb (get_or bs i 0) last m)
 
   -- t is whether the segment is inner
   pub walk-go : (t : Bool) → t ≡ inner → (t ≡ true → last ≤ get_or bs i 0)
-      → walkAt vias «as» bs end i taken last ≡ walkAt vias «as» bs end (i + 1) (cond t (taken + 1) taken) (cond t (get_or bs i 0) last)
+      → walk_at vias «as» bs end i taken last ≡ walk_at vias «as» bs end (i + 1) (cond t (taken + 1) taken) (cond t (get_or bs i 0) last)
   walk-go true q m = walk-on (sym q) (m refl)
   walk-go false q m = walk-skip (sym q)
 
-pub walk_none : (p : PlanData) (taken last : ℕ) (ss : List Segment) → ss ≡ [] → walkFrom taken last (innerIn p ss) ≡ record { crossed = false; taken = taken }
-unfolding innerIn walkFrom
+pub walk_none : (p : PlanData) (taken last : ℕ) (ss : List Segment) → ss ≡ [] → walk_from taken last (inner_in p ss) ≡ record { crossed = false; taken = taken }
+unfolding inner_in walk_from
 walk_none p taken last ss e = rw e
 
 -- ---- the segments of one level
-segments-none : («as» : List ℕ) → segmentsFrom «as» [] ≡ []
-unfolding segmentsFrom
+segments-none : («as» : List ℕ) → segments_from «as» [] ≡ []
+unfolding segments_from
 segments-none [] = refl
 segments-none (a ∷ «as») = refl
 
-after-drop : («as» bs : List ℕ) (i : ℕ) → after «as» bs i ≡ drop i (segmentsFrom «as» bs)
-unfolding segmentsFrom
+after-drop : («as» bs : List ℕ) (i : ℕ) → after «as» bs i ≡ drop i (segments_from «as» bs)
+unfolding segments_from
 after-drop [] bs zero = refl
 after-drop [] bs (suc i) = refl
 after-drop (a ∷ «as») [] zero = refl
@@ -87,8 +87,8 @@ after-drop (a ∷ «as») (b ∷ bs) zero = refl
 after-drop (a ∷ «as») (b ∷ bs) (suc i) = after-drop «as» bs i
 
 -- where every upper end comes before the end, all are ahead
-ahead-whole : (n : ℕ) («as» bs : List ℕ) → Below n «as» → ahead n (segmentsFrom «as» bs) ≡ segmentsFrom «as» bs
-unfolding ahead segmentsFrom
+ahead-whole : (n : ℕ) («as» bs : List ℕ) → Below n «as» → ahead n (segments_from «as» bs) ≡ segments_from «as» bs
+unfolding ahead segments_from
 ahead-whole n [] bs h = refl
 ahead-whole n (a ∷ «as») [] h = refl
 ahead-whole n (a ∷ «as») (b ∷ bs) h = rw (lt-ltb a n (h 0 (omega arith)), ahead-whole n «as» bs (λ i k. h (suc i) (omega arith)))
@@ -109,16 +109,16 @@ module _ (t : Segment → Bool) (a b : ℕ) (low : (s : Segment) → s.upper < a
       (λ k. rw (le-ltb s.upper a k) (chosen-front (s ∷ ss) (pairs-more r rs) (all_cons k (all_map (λ u w. omega (arith, w.le)) r))))
       (λ k. rw (low s k, lt-ltb s.upper a k) (chosen-stretch h ss rs))
 
-inner-after : (p : PlanData) (t : Segment → Bool) (ss : List Segment) → chosen t (innerIn p ss) ≡ innerIn p (chosen t ss)
-unfolding innerIn chosen
+inner-after : (p : PlanData) (t : Segment → Bool) (ss : List Segment) → chosen t (inner_in p ss) ≡ inner_in p (chosen t ss)
+unfolding inner_in chosen
 inner-after p t [] = refl
-inner-after p t (s ∷ ss) = let more = inner-after p t ss in test (isInner p s)
+inner-after p t (s ∷ ss) = let more = inner-after p t ss in test (is_inner p s)
     (λ e. test (t s) (λ f. rw (e, f, e, more)) (λ f. rw (e, f, more)))
     (λ e. test (t s) (λ f. rw (e, f, e, more)) (λ f. rw (e, f, more)))
 
 module _ (sizes : List ℕ) (vias : List Bool) («as» bs : List ℕ) where
-  inner-same : (ss : List Segment) → innerIn (graph_of sizes vias «as» bs) ss ≡ innerIn (graph_of [] vias «as» bs) ss
-  unfolding innerIn
+  inner-same : (ss : List Segment) → inner_in (graph_of sizes vias «as» bs) ss ≡ inner_in (graph_of [] vias «as» bs) ss
+  unfolding inner_in
   inner-same [] = refl
   inner-same (s ∷ ss) = rw (inner-same ss)
 
@@ -131,33 +131,33 @@ module _ (sizes : List ℕ) (vias : List Bool) («as» bs : List ℕ) where
 
   module _ (k : ℕ) (h : k < length sizes) where
     abbrev here : Segment → Bool
-    here s = eqb (levelOf graph s.upper) (suc k)
+    here s = eqb (level_of graph s.upper) (suc k)
 
-    on-level : (s : Segment) → levelOf graph s.upper ≡ suc k → (sum (take k sizes) ≤ s.upper) × (s.upper < sum (take (suc k) sizes))
-    unfolding levelOf
+    on-level : (s : Segment) → level_of graph s.upper ≡ suc k → (sum (take k sizes) ≤ s.upper) × (s.upper < sum (take (suc k) sizes))
+    unfolding level_of
     on-level s e = let b = level-between sizes k s.upper h e in (b.0, omega (arith, b.1, take_more sizes k))
 
     on-stretch : (s : Segment) → sum (take k sizes) ≤ s.upper → s.upper < sum (take (suc k) sizes) → here s ≡ true
-    unfolding levelOf
-    on-stretch s a b = eq-eqb (levelOf graph s.upper) (suc k) (level_in sizes k s.upper a (omega (arith, take_more sizes k)))
+    unfolding level_of
+    on-stretch s a b = eq-eqb (level_of graph s.upper) (suc k) (level_in_lem sizes k s.upper a (omega (arith, take_more sizes k)))
 
-    stays : (s : Segment) → (levelOf graph s.upper ≡ suc k → ⊥) → here s ≡ false
-    stays s other = ne_eqb (levelOf graph s.upper) (suc k) other
+    stays : (s : Segment) → (level_of graph s.upper ≡ suc k → ⊥) → here s ≡ false
+    stays s other = ne_eqb (level_of graph s.upper) (suc k) other
 
     -- the walk over the segments that leave a level, by their places
-    pub walk-level : check4 graph ≡ true → walkAt vias «as» bs (sum (take (suc k) sizes)) (leaving k) 0 0 ≡ walk graph (suc k)
-    unfolding check4 walk innerBelow innerSegments segmentsOf
+    pub walk-level : check4 graph ≡ true → walk_at vias «as» bs (sum (take (suc k) sizes)) (leaving k) 0 0 ≡ walk graph (suc k)
+    unfolding check4 walk inner_below inner_segments segments_of
     walk-level c4 =
         let a = sum (take k sizes) in
         let b = sum (take (suc k) sizes) in
-        let ss = segmentsFrom «as» bs in
+        let ss = segments_from «as» bs in
         let whole = chosen-stretch here a b (λ s m. stays s (λ e. omega (arith, (on-level s e).0))) (λ s m. stays s (λ e. omega (arith, (on-level s e).1))) on-stretch
         (omega (arith, take_more sizes k)) ss (sorted ss c4) in
-        ap (walkFrom 0 0) (ap (innerIn (graph_of [] vias «as» bs)) (ap (ahead b) (after-drop «as» bs (leaving k)) ∙ sym whole) ∙ sym (inner-same (chosen here ss)) ∙ sym (inner-after graph here ss))
+        ap (walk_from 0 0) (ap (inner_in (graph_of [] vias «as» bs)) (ap (ahead b) (after-drop «as» bs (leaving k)) ∙ sym whole) ∙ sym (inner-same (chosen here ss)) ∙ sym (inner-after graph here ss))
 
   -- the walk over all segments
-  pub walk-whole : (end : ℕ) → Below end «as» → walkAt vias «as» bs end 0 0 0 ≡ walkFrom 0 0 (innerSegments graph)
-  unfolding innerSegments segmentsOf
+  pub walk-whole : (end : ℕ) → Below end «as» → walk_at vias «as» bs end 0 0 0 ≡ walk_from 0 0 (inner_segments graph)
+  unfolding inner_segments segments_of
   walk-whole end h =
-      ap (walkFrom 0 0) (ap (innerIn (graph_of [] vias «as» bs)) (ap (ahead end) (after-drop «as» bs 0) ∙ ahead-whole end «as» bs h)
-      ∙ sym (inner-same (segmentsFrom «as» bs)))
+      ap (walk_from 0 0) (ap (inner_in (graph_of [] vias «as» bs)) (ap (ahead end) (after-drop «as» bs 0) ∙ ahead-whole end «as» bs h)
+      ∙ sym (inner-same (segments_from «as» bs)))

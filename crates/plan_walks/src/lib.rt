@@ -1,11 +1,11 @@
 // The walk from a level to the next (document 02, E3), and check 6 of document 01 as that walk over all levels; over slices that are
 // as long as the data.
 ghost use Rattle.std.specs.Prelude.{◌≡◌, true, false, cond, ◌&&◌, List, ℕ, ◌+◌, ◌<◌, ◌≤◌, length, get_or};
-ghost use Rattle.plan.specs.Limits.{maxLevels, maxSegments};
+ghost use Rattle.plan.specs.Limits.{max_levels, max_segments};
 ghost use Rattle.plan.specs.Checks.{check3, check4, check6};
 ghost use Rattle.plan.specs.Walk.{walk};
 ghost use Rattle.plan.specs.inner.Graph.{graph_of, Within};
-ghost use Rattle.plan_walks.specs.inner.Walks.{after, ahead, walkTo};
+ghost use Rattle.plan_walks.specs.inner.Walks.{after, ahead, walk_to};
 
 use ints::total;
 use plan::walk::Walk;
@@ -29,7 +29,7 @@ fn latest(inner: bool, lower: u32, last: u32) -> u32
 
 // How many inner segments are taken: one more if this one is inner.
 fn counted(inner: bool, taken: usize) -> usize
-    requires { taken < maxSegments }
+    requires { taken < max_segments }
     ensures { result ≡ cond inner (taken + 1) taken }
 {
     if inner { taken + 1 } else { taken }
@@ -39,7 +39,7 @@ fn counted(inner: bool, taken: usize) -> usize
 // at the first descent.
 fn walk_to(vias: &[bool], uppers: &[u32], lowers: &[u32], from: usize, end: usize) -> Walk
     requires { Within vias.now uppers.now lowers.now }
-    ensures { result ≡ walkTo vias.now uppers.now lowers.now from end }
+    ensures { result ≡ walk_to vias.now uppers.now lowers.now from end }
 {
     let mut taken: usize = 0;
     let mut last: u32 = 0;
@@ -103,7 +103,7 @@ fn count_before(uppers: &[u32], end: usize) -> usize
 
 // The walk from level l to the next.
 pub fn walk_from(sizes: &[u16], vias: &[bool], uppers: &[u32], lowers: &[u32], l: usize) -> Walk
-    requires { (1 ≤ l) × (l ≤ length sizes.now) × (length sizes.now ≤ maxLevels) × Within vias.now uppers.now lowers.now }
+    requires { (1 ≤ l) × (l ≤ length sizes.now) × (length sizes.now ≤ max_levels) × Within vias.now uppers.now lowers.now }
     ensures { check4 (graph_of sizes.now vias.now uppers.now lowers.now) ≡ true
         → result ≡ walk (graph_of sizes.now vias.now uppers.now lowers.now) l }
 {

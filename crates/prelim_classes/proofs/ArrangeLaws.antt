@@ -11,7 +11,7 @@ use lib.ListN.{length, get_or, set, take, drop, length-drop, length-reverse, dro
 use lib.Seq.{drop-cons, sets, get_or-take, get_or-drop, get_or-append-add, length-take-le}
 use Rattle.ints.proofs.Laws.{cases}
 use Rattle.plan.specs.Plan.{numbers}
-use Rattle.prelim_classes.specs.inner.Arranged.{followers, levelBy, vertexBy}
+use Rattle.prelim_classes.specs.inner.Arranged.{followers, level_by, vertex_by}
 use Rattle.prelim_classes.proofs.ChainLaws.{by-test}
 
 -- ---- writing a list from a place on
@@ -26,10 +26,10 @@ pub sets_end : (l : List ℕ) (i k : ℕ) (vs : List ℕ) → length vs ≤ k �
 sets_end l i k vs h = ap (sets l i) (drop_of_length-le vs h)
 
 -- ---- a level
-pub numbers-long : (v n : ℕ) → length (numbers v n) ≡ n
+pub numbers_long : (v n : ℕ) → length (numbers v n) ≡ n
 unfolding numbers
-numbers-long v zero = refl
-numbers-long v (suc n) = ap suc (numbers-long (v + 1) n)
+numbers_long v zero = refl
+numbers_long v (suc n) = ap suc (numbers_long (v + 1) n)
 
 pub numbers-at : (v n j : ℕ) → j < n → get_or (numbers v n) j 0 ≡ v + j
 unfolding numbers
@@ -57,15 +57,15 @@ reversed-at (x ∷ xs) j h =
     later k = omega arith
 
 module _ (reversed : Bool) (v n : ℕ) where
-  pub level-long : length (levelBy reversed v n) ≡ n
-  level-long = by-test reversed (λ e. rw e (length-reverse (numbers v n) ∙ numbers-long v n)) (λ e. rw e (numbers-long v n))
+  pub level-long : length (level_by reversed v n) ≡ n
+  level-long = by-test reversed (λ e. rw e (length-reverse (numbers v n) ∙ numbers_long v n)) (λ e. rw e (numbers_long v n))
 
-  pub level-at : (j : ℕ) → j < n → get_or (levelBy reversed v n) j 0 ≡ vertexBy reversed v n j
+  pub level-at : (j : ℕ) → j < n → get_or (level_by reversed v n) j 0 ≡ vertex_by reversed v n j
   level-at j h = by-test reversed
-      (λ e. rw e (reversed-at (numbers v n) j (omega (arith, numbers-long v n)) ∙ ap (λ (m : ℕ). get_or (numbers v n) (m - 1 - j) 0) (numbers-long v n) ∙ numbers-at v n (n - 1 - j) (omega arith) ∙ omega arith))
+      (λ e. rw e (reversed-at (numbers v n) j (omega (arith, numbers_long v n)) ∙ ap (λ (m : ℕ). get_or (numbers v n) (m - 1 - j) 0) (numbers_long v n) ∙ numbers-at v n (n - 1 - j) (omega arith) ∙ omega arith))
       (λ e. rw e (numbers-at v n j h))
 
-  pub level-below : (m : ℕ) → v + n ≤ m → (j : ℕ) → j < n → get_or (levelBy reversed v n) j 0 < m
+  pub level-below : (m : ℕ) → v + n ≤ m → (j : ℕ) → j < n → get_or (level_by reversed v n) j 0 < m
   level-below m k j h = by-test reversed
       (λ e. let q = rw e at (level-at j h) in rw e (omega arith))
       (λ e. let q = rw e at (level-at j h) in rw e (omega arith))

@@ -12,7 +12,7 @@ use Rattle.ints.proofs.Laws.{cases}
 use Rattle.plan.proofs.CountLaws.{by-same}
 use Rattle.prelim_classes.specs.inner.Links.{along, chain, RisingFrom, Rising, among, positions, Bucketed}
 use Rattle.preliminary.specs.Classes.{give}
-use Rattle.preliminary.specs.Place.{markAll}
+use Rattle.preliminary.specs.Place.{mark_all}
 
 -- by a test
 pub by-test : (b : Bool) {G : Type 0} → (b ≡ true → G) → (b ≡ false → G) → G
@@ -97,12 +97,12 @@ module _ (next : List ℕ) (r : Rising next) (v : ℕ) where
   unfolding give
   give-end c xs h = rw (along-end next (length next) v h)
 
-  pub mark_on : (xs : List Bool) → v < length next → markAll (chain next v) xs ≡ markAll (chain next (get_or next v 0)) (set xs v true)
-  unfolding markAll
+  pub mark_on : (xs : List Bool) → v < length next → mark_all (chain next v) xs ≡ mark_all (chain next (get_or next v 0)) (set xs v true)
+  unfolding mark_all
   mark_on xs h = rw (chain-on next 0 r v (omega arith) h)
 
-  pub mark-end : (xs : List Bool) → length next ≤ v → markAll (chain next v) xs ≡ xs
-  unfolding markAll
+  pub mark-end : (xs : List Bool) → length next ≤ v → mark_all (chain next v) xs ≡ xs
+  unfolding mark_all
   mark-end xs h = rw (along-end next (length next) v h)
 
 pub other-above : (i v : ℕ) → i ≤ v → (v ≡ i → ⊥) → i + 1 ≤ v

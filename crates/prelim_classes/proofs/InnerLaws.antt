@@ -12,22 +12,22 @@ use lib.Seq.{drop-cons, get_or-set_same, get_or-set_other}
 use Rattle.ints.proofs.Laws.{cases}
 use Rattle.plan.specs.Strands.{first_or}
 use Rattle.plan.proofs.CountLaws.{by-same}
-use Rattle.prelim_classes.specs.inner.Strands.{innerEnds}
+use Rattle.prelim_classes.specs.inner.Strands.{inner_ends}
 use Rattle.prelim_classes.proofs.ChainLaws.{by-test}
 
 -- ---- inner links
 pub record LinksFrom (vias : List Bool) («as» bs link : List ℕ) (i : ℕ) : Type 0 where
-  pub each : (v : ℕ) → v < length vias → get_or link v 0 ≡ first_or 2048 (innerEnds vias (drop i «as») (drop i bs) v)
+  pub each : (v : ℕ) → v < length vias → get_or link v 0 ≡ first_or 2048 (inner_ends vias (drop i «as») (drop i bs) v)
 
 module _ (vias : List Bool) («as» bs : List ℕ) where
   pub links-start : (link : List ℕ) → link ≡ replicate (length vias) 2048 → LinksFrom vias «as» bs link (length «as»)
-  unfolding innerEnds
+  unfolding inner_ends
   links-start link e = record { each = λ v k. rw (e, get_or-replicate {A = ℕ} (length vias) v 2048 0 k, drop_of_length-le «as» {i = length «as»} (omega arith)) refl }
 
   ends_at : (i : ℕ) → i < length «as» → i < length bs → (v : ℕ)
-      → innerEnds vias (drop i «as») (drop i bs) v
-      ≡ cond (eqb (get_or «as» i 0) v && (get_or vias (get_or «as» i 0) false && get_or vias (get_or bs i 0) false)) (get_or bs i 0 ∷ innerEnds vias (drop (i + 1) «as») (drop (i + 1) bs) v) (innerEnds vias (drop (i + 1) «as») (drop (i + 1) bs) v)
-  unfolding innerEnds
+      → inner_ends vias (drop i «as») (drop i bs) v
+      ≡ cond (eqb (get_or «as» i 0) v && (get_or vias (get_or «as» i 0) false && get_or vias (get_or bs i 0) false)) (get_or bs i 0 ∷ inner_ends vias (drop (i + 1) «as») (drop (i + 1) bs) v) (inner_ends vias (drop (i + 1) «as») (drop (i + 1) bs) v)
+  unfolding inner_ends
   ends_at i h k v = rw (add-one, drop-cons «as» i 0 h, drop-cons bs i 0 k)
 
   pub links-on : (link : List ℕ) (i : ℕ) → length link ≡ length vias → i < length «as» → i < length bs → get_or «as» i 0 < length vias → LinksFrom vias «as» bs link (i + 1) → (link' : List ℕ)

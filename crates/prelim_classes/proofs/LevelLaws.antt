@@ -12,19 +12,19 @@ use lib.ListN.{length, get_or, take, drop, length-append, drop_of_length-le, get
 use lib.Seq.{drop-cons, sets, sets-eq, length-sets, length-take-le, take_at, drop_at, take_all, get_or-append-add}
 use Rattle.ints.specs.inner.Members.{Mem}
 use Rattle.ints.proofs.Laws.{cases}
-use Rattle.plan.specs.Plan.{numbers, levelsFrom, Siblings, pairsOn, siblingsOf}
+use Rattle.plan.specs.Plan.{numbers, levels_from, Siblings, pairs_on, siblings_of}
 use Rattle.plan.proofs.Sound.{mem-left, mem-right, mem-numbers}
 use Rattle.ints.specs.Lists.{sum}
 use Rattle.prelim_classes.specs.inner.Walks.{cut}
-use Rattle.prelim_classes.specs.inner.Links.{pairsBy}
-use Rattle.prelim_classes.specs.inner.Arranged.{joined, followers, levelBy, levelsBy}
+use Rattle.prelim_classes.specs.inner.Links.{pairs_by}
+use Rattle.prelim_classes.specs.inner.Arranged.{joined, followers, level_by, levels_by}
 use Rattle.prelim_classes.proofs.ArrangeLaws.{level-long, level-below, followers-long}
 
 -- ---- the loop
 pub record Arranging (reversed : Bool) (sizes order right : List ℕ) (l from : ℕ) : Type 0 where
   pub left : from + sum (drop l sizes) ≡ length order
-  pub orders : take from order ++ joined (levelsBy reversed from (drop l sizes)) ≡ joined (levelsBy reversed 0 sizes)
-  pub rights : take from right ++ joined (map followers (levelsBy reversed from (drop l sizes))) ≡ joined (map followers (levelsBy reversed 0 sizes))
+  pub orders : take from order ++ joined (levels_by reversed from (drop l sizes)) ≡ joined (levels_by reversed 0 sizes)
+  pub rights : take from right ++ joined (map followers (levels_by reversed from (drop l sizes))) ≡ joined (map followers (levels_by reversed 0 sizes))
 
 pub arrange-start : (reversed : Bool) (sizes order right : List ℕ) → sum sizes ≡ length order → Arranging reversed sizes order right 0 0
 arrange-start reversed sizes order right e = record { left = omega arith; orders = refl; rights = refl }
@@ -44,8 +44,8 @@ module _ (xs vs : List ℕ) (from : ℕ) (h : from + length vs ≤ length xs) wh
       ∙ ap (take (length vs)) (drop_at (take from xs) (vs ++ drop (from + length vs) xs) from (length-take-le from xs (omega arith)))
       ∙ take_at vs (drop (from + length vs) xs) (length vs) refl
 
-level-first : (reversed : Bool) (sizes : List ℕ) (l from : ℕ) → l < length sizes → levelsBy reversed from (drop l sizes) ≡ levelBy reversed from (get_or sizes l 0) ∷ levelsBy reversed (from + get_or sizes l 0) (drop (l + 1) sizes)
-unfolding levelsBy
+level-first : (reversed : Bool) (sizes : List ℕ) (l from : ℕ) → l < length sizes → levels_by reversed from (drop l sizes) ≡ level_by reversed from (get_or sizes l 0) ∷ levels_by reversed (from + get_or sizes l 0) (drop (l + 1) sizes)
+unfolding levels_by
 level-first reversed sizes l from h = rw (add-one, drop-cons sizes l 0)
 
 joined-first : (vs : List ℕ) (ls : List (List ℕ)) → joined (vs ∷ ls) ≡ vs ++ joined ls
@@ -56,8 +56,8 @@ joined-none : joined [] ≡ []
 unfolding joined
 joined-none = refl
 
-levels-none : (reversed : Bool) (sizes : List ℕ) (l from : ℕ) → length sizes ≤ l → levelsBy reversed from (drop l sizes) ≡ []
-unfolding levelsBy
+levels-none : (reversed : Bool) (sizes : List ℕ) (l from : ℕ) → length sizes ≤ l → levels_by reversed from (drop l sizes) ≡ []
+unfolding levels_by
 levels-none reversed sizes l from h = rw (drop_of_length-le sizes h)
 
 sum_first : (sizes : List ℕ) (l : ℕ) → l < length sizes → sum (drop l sizes) ≡ get_or sizes l 0 + sum (drop (l + 1) sizes)
@@ -73,18 +73,18 @@ module _ (reversed : Bool) (sizes order right : List ℕ) (l from : ℕ) (w : Ar
   arrange-fits h = omega (arith, sum_first sizes l h, w.left)
 
   pub arrange-on : (n : ℕ) → l < length sizes → n ≡ get_or sizes l 0 → length right ≡ length order → (order' right' : List ℕ)
-      → order' ≡ sets order from (levelBy reversed from n) → right' ≡ sets right from (followers (take (from + n - from) (drop from order')))
+      → order' ≡ sets order from (level_by reversed from n) → right' ≡ sets right from (followers (take (from + n - from) (drop from order')))
       → Arranging reversed sizes order' right' (l + 1) (from + n)
   arrange-on n h e r order' right' o q =
-      let lev = levelBy reversed from n in
+      let lev = level_by reversed from n in
       let long = level-long reversed from n in
       let fits = arrange-fits h in
       let room : from + length lev ≤ length order = omega (arith, long) in
       let n-is : from + n - from ≡ n = omega arith in
       let part : take (from + n - from) (drop from order') ≡ lev =
       ap (λ (k : ℕ). take k (drop from order')) (n-is ∙ sym long) ∙ ap (λ (x : List ℕ). take (length lev) (drop from x)) o ∙ sets-part order lev from room in
-      let rest = levelsBy reversed (from + n) (drop (l + 1) sizes) in
-      let first : levelsBy reversed from (drop l sizes) ≡ lev ∷ rest = level-first reversed sizes l from h ∙ ap (λ (k : ℕ). levelBy reversed from k ∷ levelsBy reversed (from + k) (drop (l + 1) sizes)) (sym e) in
+      let rest = levels_by reversed (from + n) (drop (l + 1) sizes) in
+      let first : levels_by reversed from (drop l sizes) ≡ lev ∷ rest = level-first reversed sizes l from h ∙ ap (λ (k : ℕ). level_by reversed from k ∷ levels_by reversed (from + k) (drop (l + 1) sizes)) (sym e) in
       let taken : take (from + n) order' ≡ take from order ++ lev =
       ap (λ (k : ℕ). take (from + k) order') (sym long) ∙ ap (take (from + length lev)) o ∙ sets-take order lev from room in
       let fl = followers-long lev in
@@ -104,36 +104,36 @@ module _ (reversed : Bool) (sizes order right : List ℕ) (l from : ℕ) (w : Ar
     at-end : from ≡ length order
     at-end = omega (arith, sum-none sizes l h, w.left)
 
-    pub arrange-orders : order ≡ joined (levelsBy reversed 0 sizes)
+    pub arrange-orders : order ≡ joined (levels_by reversed 0 sizes)
     arrange-orders = sym (take_all from order (omega (arith, at-end))) ∙ sym (append-nil (take from order))
         ∙ ap (λ (x : List ℕ). take from order ++ x) (sym (ap joined (levels-none reversed sizes l from h) ∙ joined-none)) ∙ w.orders
 
-    pub arrange-rights : right ≡ joined (map followers (levelsBy reversed 0 sizes))
+    pub arrange-rights : right ≡ joined (map followers (levels_by reversed 0 sizes))
     arrange-rights = sym (take_all from right (omega (arith, at-end))) ∙ sym (append-nil (take from right))
         ∙ ap (λ (x : List ℕ). take from right ++ x) (sym (ap (λ (y : List (List ℕ)). joined (map followers y)) (levels-none reversed sizes l from h) ∙ joined-none)) ∙ w.rights
 
 -- ---- the levels again
-pub cut-joined : (reversed : Bool) (v : ℕ) (sizes : List ℕ) → cut sizes (joined (levelsBy reversed v sizes)) ≡ levelsBy reversed v sizes
-unfolding cut levelsBy joined
+pub cut-joined : (reversed : Bool) (v : ℕ) (sizes : List ℕ) → cut sizes (joined (levels_by reversed v sizes)) ≡ levels_by reversed v sizes
+unfolding cut levels_by joined
 cut-joined reversed v [] = refl
 cut-joined reversed v (n ∷ ns) =
-    let lev = levelBy reversed v n in
-    let rest = joined (levelsBy reversed (v + n) ns) in
+    let lev = level_by reversed v n in
+    let rest = joined (levels_by reversed (v + n) ns) in
     let long = level-long reversed v n in
     rw (take_at lev rest n long, drop_at lev rest n long) (ap (λ (x : List (List ℕ)). lev ∷ x) (cut-joined reversed (v + n) ns))
 
-pub joined-long : (reversed : Bool) (v : ℕ) (sizes : List ℕ) → length (joined (levelsBy reversed v sizes)) ≡ sum sizes
-unfolding levelsBy joined sum
+pub joined-long : (reversed : Bool) (v : ℕ) (sizes : List ℕ) → length (joined (levels_by reversed v sizes)) ≡ sum sizes
+unfolding levels_by joined sum
 joined-long reversed v [] = refl
-joined-long reversed v (n ∷ ns) = length-append (levelBy reversed v n) (joined (levelsBy reversed (v + n) ns)) ∙ omega (arith, level-long reversed v n, joined-long reversed (v + n) ns)
+joined-long reversed v (n ∷ ns) = length-append (level_by reversed v n) (joined (levels_by reversed (v + n) ns)) ∙ omega (arith, level-long reversed v n, joined-long reversed (v + n) ns)
 
 -- every place has a vertex
-pub joined-below : (reversed : Bool) (v : ℕ) (sizes : List ℕ) (m : ℕ) → v + sum sizes ≤ m → (i : ℕ) → i < sum sizes → get_or (joined (levelsBy reversed v sizes)) i 0 < m
-unfolding levelsBy joined sum
+pub joined-below : (reversed : Bool) (v : ℕ) (sizes : List ℕ) (m : ℕ) → v + sum sizes ≤ m → (i : ℕ) → i < sum sizes → get_or (joined (levels_by reversed v sizes)) i 0 < m
+unfolding levels_by joined sum
 joined-below reversed v [] m h i k = absurd (omega arith)
 joined-below reversed v (n ∷ ns) m h i k =
-    let lev = levelBy reversed v n in
-    let rest = joined (levelsBy reversed (v + n) ns) in
+    let lev = level_by reversed v n in
+    let rest = joined (levels_by reversed (v + n) ns) in
     let long = level-long reversed v n in
     cases n i
     (λ o. let z : i ≡ length lev + (i - n) = omega (arith, long) in
@@ -146,16 +146,16 @@ mem-reverse [] v m = absurd m
 mem-reverse (x ∷ xs) v (inl e) = rw (reverse-cons x xs) (mem-right (reverse xs) (x ∷ []) v (inl e))
 mem-reverse (x ∷ xs) v (inr m) = rw (reverse-cons x xs) (mem-left (reverse xs) (x ∷ []) v (mem-reverse xs v m))
 
-level-mem : (reversed : Bool) (v n w : ℕ) → v ≤ w → w < v + n → Mem w (levelBy reversed v n)
+level-mem : (reversed : Bool) (v n w : ℕ) → v ≤ w → w < v + n → Mem w (level_by reversed v n)
 level-mem true v n w h k = mem-reverse (numbers v n) w (mem-numbers v n w h k)
 level-mem false v n w h k = mem-numbers v n w h k
 
-pub joined-mem : (reversed : Bool) (v : ℕ) (sizes : List ℕ) (w : ℕ) → v ≤ w → w < v + sum sizes → Mem w (joined (levelsBy reversed v sizes))
-unfolding levelsBy joined sum
+pub joined-mem : (reversed : Bool) (v : ℕ) (sizes : List ℕ) (w : ℕ) → v ≤ w → w < v + sum sizes → Mem w (joined (levels_by reversed v sizes))
+unfolding levels_by joined sum
 joined-mem reversed v [] w h k = absurd (omega arith)
 joined-mem reversed v (n ∷ ns) w h k =
-    let lev = levelBy reversed v n in
-    let rest = joined (levelsBy reversed (v + n) ns) in
+    let lev = level_by reversed v n in
+    let rest = joined (levels_by reversed (v + n) ns) in
     cases (v + n) w
     (λ o. mem-right lev rest w (joined-mem reversed (v + n) ns w o (omega arith)))
     (λ o. mem-left lev rest w (level-mem reversed v n w h o))
@@ -165,18 +165,18 @@ mem_below m [] h w k = absurd k
 mem_below m (v ∷ vs) h w (inl e) = rw e (h 0 (omega arith))
 mem_below m (v ∷ vs) h w (inr k) = mem_below m vs (λ i o. h (suc i) (omega arith)) w k
 
-pub joined_in : (reversed : Bool) (v : ℕ) (sizes : List ℕ) (w : ℕ) → Mem w (joined (levelsBy reversed v sizes)) → w < v + sum sizes
+pub joined_in : (reversed : Bool) (v : ℕ) (sizes : List ℕ) (w : ℕ) → Mem w (joined (levels_by reversed v sizes)) → w < v + sum sizes
 joined_in reversed v sizes w m =
-    mem_below (v + sum sizes) (joined (levelsBy reversed v sizes)) (λ i h. joined-below reversed v sizes (v + sum sizes) (omega arith) i (omega (arith, joined-long reversed v sizes))) w m
+    mem_below (v + sum sizes) (joined (levels_by reversed v sizes)) (λ i h. joined-below reversed v sizes (v + sum sizes) (omega arith) i (omega (arith, joined-long reversed v sizes))) w m
 
 -- ---- the levels of a plan
-pub levels-plain : (v : ℕ) (sizes : List ℕ) → levelsBy false v sizes ≡ levelsFrom v sizes
-unfolding levelsBy levelsFrom
+pub levels-plain : (v : ℕ) (sizes : List ℕ) → levels_by false v sizes ≡ levels_from v sizes
+unfolding levels_by levels_from
 levels-plain v [] = refl
 levels-plain v (n ∷ ns) = ap (λ (x : List (List ℕ)). numbers v n ∷ x) (levels-plain (v + n) ns)
 
-pub levels-reversed : (v : ℕ) (sizes : List ℕ) → levelsBy true v sizes ≡ map reverse (levelsFrom v sizes)
-unfolding levelsBy levelsFrom
+pub levels-reversed : (v : ℕ) (sizes : List ℕ) → levels_by true v sizes ≡ map reverse (levels_from v sizes)
+unfolding levels_by levels_from
 levels-reversed v [] = refl
 levels-reversed v (n ∷ ns) = ap (λ (x : List (List ℕ)). reverse (numbers v n) ∷ x) (levels-reversed (v + n) ns)
 
@@ -189,8 +189,8 @@ all-below : (n : ℕ) (vs : List ℕ) → ((i : ℕ) → i < length vs → get_o
 all-below n [] h = none
 all-below n (v ∷ vs) h = one (h 0 (omega arith)) (all-below n vs (λ i k. h (suc i) (omega arith)))
 
-pairs-level : (n : ℕ) (vs rest rights : List ℕ) → n ≤ 1024 → AllBelow n vs → pairsBy n (vs ++ rest) (followers vs ++ rights) ≡ pairsOn vs ++ pairsBy n rest rights
-unfolding pairsBy followers pairsOn
+pairs-level : (n : ℕ) (vs rest rights : List ℕ) → n ≤ 1024 → AllBelow n vs → pairs_by n (vs ++ rest) (followers vs ++ rights) ≡ pairs_on vs ++ pairs_by n rest rights
+unfolding pairs_by followers pairs_on
 pairs-level n [] rest rights h none = refl
 pairs-level n (v ∷ []) rest rights h (one b a) = let m : n ≤ 2048 = omega arith in rw (le-ltb 2048 n m)
 pairs-level n (v ∷ w ∷ ws) rest rights h (one b (one d a)) =
@@ -198,11 +198,11 @@ pairs-level n (v ∷ w ∷ ws) rest rights h (one b (one d a)) =
     rw (lt-ltb w n d) (ap (λ (x : List Siblings). record { left = v; right = w } ∷ x) more)
 
 pub pairs-joined : (reversed : Bool) (n v : ℕ) (sizes : List ℕ) → n ≤ 1024 → v + sum sizes ≤ n
-    → pairsBy n (joined (levelsBy reversed v sizes)) (joined (map followers (levelsBy reversed v sizes))) ≡ siblingsOf (levelsBy reversed v sizes)
-unfolding levelsBy joined siblingsOf sum pairsBy
+    → pairs_by n (joined (levels_by reversed v sizes)) (joined (map followers (levels_by reversed v sizes))) ≡ siblings_of (levels_by reversed v sizes)
+unfolding levels_by joined siblings_of sum pairs_by
 pairs-joined reversed n v [] h k = refl
 pairs-joined reversed n v (s ∷ ss) h k =
-    let lev = levelBy reversed v s in
+    let lev = level_by reversed v s in
     let all = all-below n lev (λ i m. level-below reversed v s n (omega arith) i (omega (arith, level-long reversed v s))) in
-    pairs-level n lev (joined (levelsBy reversed (v + s) ss)) (joined (map followers (levelsBy reversed (v + s) ss))) h all
-    ∙ ap (λ (x : List Siblings). pairsOn lev ++ x) (pairs-joined reversed n (v + s) ss h (omega arith))
+    pairs-level n lev (joined (levels_by reversed (v + s) ss)) (joined (map followers (levels_by reversed (v + s) ss))) h all
+    ∙ ap (λ (x : List Siblings). pairs_on lev ++ x) (pairs-joined reversed n (v + s) ss h (omega arith))

@@ -8,8 +8,8 @@ use Prim.Native.Nat.{ℕ, ◌<◌}
 use native.Mathlib.Omega.{arith}
 use lib.ListN.{get_or}
 use Rattle.ints.proofs.Laws.{cases}
-use Rattle.plan.specs.Plan.{PlanData, vertexCount, levelOf}
-use Rattle.plan.specs.Segments.{segmentsOf, aboveIn, belowIn, innerSegments}
+use Rattle.plan.specs.Plan.{PlanData, vertex_count, level_of}
+use Rattle.plan.specs.Segments.{segments_of, above_in, below_in, inner_segments}
 use Rattle.plan.specs.Strands.{first_or}
 use Rattle.plan.proofs.Sound.{Sound, mem-above, mem_below, above-mem, below-mem}
 use Rattle.plan.proofs.LevelLaws.{level-rises}
@@ -20,74 +20,74 @@ use Rattle.prelim_classes.proofs.Ends.{below-ends, above-ends}
 
 -- the vertex below v, where there is one, by the segments and by a list
 pub data Under (p : PlanData) (next : List ℕ) (v : ℕ) : Type 0 where
-  last : belowIn (innerSegments p) v ≡ [] → get_or next v 0 ≡ 2048 → Under p next v
-  under : (w : ℕ) (ws : List ℕ) → belowIn (innerSegments p) v ≡ w ∷ ws → get_or next v 0 ≡ w → Link p v w → Under p next v
+  last : below_in (inner_segments p) v ≡ [] → get_or next v 0 ≡ 2048 → Under p next v
+  under : (w : ℕ) (ws : List ℕ) → below_in (inner_segments p) v ≡ w ∷ ws → get_or next v 0 ≡ w → Link p v w → Under p next v
 
 -- the vertex above v
 pub data Over (p : PlanData) (prev : List ℕ) (v : ℕ) : Type 0 where
-  first : aboveIn (innerSegments p) v ≡ [] → get_or prev v 0 ≡ 2048 → Over p prev v
-  over : (u : ℕ) (us : List ℕ) → aboveIn (innerSegments p) v ≡ u ∷ us → get_or prev v 0 ≡ u → Link p u v → Over p prev v
+  first : above_in (inner_segments p) v ≡ [] → get_or prev v 0 ≡ 2048 → Over p prev v
+  over : (u : ℕ) (us : List ℕ) → above_in (inner_segments p) v ≡ u ∷ us → get_or prev v 0 ≡ u → Link p u v → Over p prev v
 
 module _ (p : PlanData) (S : Sound p) where
   pub link-rises : (u v : ℕ) → Link p u v → u < v
-  unfolding levelOf
+  unfolding level_of
   link-rises u v l = cases v u (λ h. absurd (omega (arith, l.down, level-rises p.sizes v u h))) (λ h. h)
 
   module _ (next top : List ℕ) (L : StrandLists p.vias p.uppers p.lowers next top) where
-    next-is : (v : ℕ) → v < vertexCount p → get_or next v 0 ≡ first_or 2048 (belowIn (innerSegments p) v)
-    unfolding innerSegments segmentsOf
+    next-is : (v : ℕ) → v < vertex_count p → get_or next v 0 ≡ first_or 2048 (below_in (inner_segments p) v)
+    unfolding inner_segments segments_of
     next-is v h = L.down.each v h ∙ ap (first_or 2048) (sym (below-ends p v p.uppers p.lowers))
 
-    prev-is : (v : ℕ) → v < vertexCount p → get_or L.prev v 0 ≡ first_or 2048 (aboveIn (innerSegments p) v)
-    unfolding innerSegments segmentsOf
+    prev-is : (v : ℕ) → v < vertex_count p → get_or L.prev v 0 ≡ first_or 2048 (above_in (inner_segments p) v)
+    unfolding inner_segments segments_of
     prev-is v h = L.up.each v h ∙ ap (first_or 2048) (sym (above-ends p v p.uppers p.lowers))
 
-    module _ (v : ℕ) (h : v < vertexCount p) where
+    module _ (v : ℕ) (h : v < vertex_count p) where
       pub under_of : Under p next v
-      under_of = go (belowIn (innerSegments p) v) refl
+      under_of = go (below_in (inner_segments p) v) refl
         where
-          go : (ws : List ℕ) → belowIn (innerSegments p) v ≡ ws → Under p next v
+          go : (ws : List ℕ) → below_in (inner_segments p) v ≡ ws → Under p next v
           go [] e = last e (next-is v h ∙ ap (first_or 2048) e)
-          go (w ∷ ws) e = under w ws e (next-is v h ∙ ap (first_or 2048) e) (link p S v w (mem_below (innerSegments p) v w (rw e (inl refl))))
+          go (w ∷ ws) e = under w ws e (next-is v h ∙ ap (first_or 2048) e) (link p S v w (mem_below (inner_segments p) v w (rw e (inl refl))))
 
       pub over-of : Over p L.prev v
-      over-of = go (aboveIn (innerSegments p) v) refl
+      over-of = go (above_in (inner_segments p) v) refl
         where
-          go : (us : List ℕ) → aboveIn (innerSegments p) v ≡ us → Over p L.prev v
+          go : (us : List ℕ) → above_in (inner_segments p) v ≡ us → Over p L.prev v
           go [] e = first e (prev-is v h ∙ ap (first_or 2048) e)
-          go (u ∷ us) e = over u us e (prev-is v h ∙ ap (first_or 2048) e) (link p S u v (mem-above (innerSegments p) u v (rw e (inl refl))))
+          go (u ∷ us) e = over u us e (prev-is v h ∙ ap (first_or 2048) e) (link p S u v (mem-above (inner_segments p) u v (rw e (inl refl))))
 
     -- the lists hold every link
     link-next : (u v : ℕ) → Link p u v → get_or next u 0 ≡ v
     link-next u v l = go (under_of u l.upper_in)
       where
         go : Under p next u → get_or next u 0 ≡ v
-        go (last e q) = absurd (rw (l.joined.above-is, e) at (below-mem (innerSegments p) l.joined.segment l.joined.listed))
+        go (last e q) = absurd (rw (l.joined.above_is, e) at (below-mem (inner_segments p) l.joined.segment l.joined.listed))
         go (under w ws e q m) = q ∙ link-down p S u w v m l
 
     link-prev : (u v : ℕ) → Link p u v → get_or L.prev v 0 ≡ u
     link-prev u v l = go (over-of v l.lower_in)
       where
         go : Over p L.prev v → get_or L.prev v 0 ≡ u
-        go (first e q) = absurd (rw (l.joined.below-is, e) at (above-mem (innerSegments p) l.joined.segment l.joined.listed))
+        go (first e q) = absurd (rw (l.joined.below_is, e) at (above-mem (inner_segments p) l.joined.segment l.joined.listed))
         go (over w ws e q m) = q ∙ link_up p S w u v m l
 
     -- a link that leads to a vertex is an inner segment
-    next-link : (v : ℕ) → v < vertexCount p → get_or next v 0 < vertexCount p → Link p v (get_or next v 0)
+    next-link : (v : ℕ) → v < vertex_count p → get_or next v 0 < vertex_count p → Link p v (get_or next v 0)
     next-link v h k = go (under_of v h)
       where
         go : Under p next v → Link p v (get_or next v 0)
         go (last e q) = absurd (omega (arith, S.limits.vertices))
         go (under w ws e q m) = rw q m
 
-    prev-link : (v : ℕ) → v < vertexCount p → get_or L.prev v 0 < vertexCount p → Link p (get_or L.prev v 0) v
+    prev-link : (v : ℕ) → v < vertex_count p → get_or L.prev v 0 < vertex_count p → Link p (get_or L.prev v 0) v
     prev-link v h k = go (over-of v h)
       where
         go : Over p L.prev v → Link p (get_or L.prev v 0) v
         go (first e q) = absurd (omega (arith, S.limits.vertices))
         go (over u us e q m) = rw q m
 
-    next-rises : (v : ℕ) → v < vertexCount p → v < get_or next v 0
+    next-rises : (v : ℕ) → v < vertex_count p → v < get_or next v 0
     next-rises v h = go (under_of v h)
       where
         go : Under p next v → v < get_or next v 0

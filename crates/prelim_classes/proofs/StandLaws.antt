@@ -7,9 +7,9 @@ use native.Mathlib.Omega.{arith}
 use lib.ListN.{length, get_or, replicate, length-replicate, get_or-map}
 use lib.IntN.{ℤ, pos}
 use Rattle.plan.specs.Plan.{PlanData}
-use Rattle.prelim_classes.specs.inner.Links.{orNone, pairsBy}
+use Rattle.prelim_classes.specs.inner.Links.{or_none, pairs_by}
 use Rattle.prelim_classes.specs.inner.Strands.{StrandsBy}
-use Rattle.preliminary.specs.Place.{askedBy}
+use Rattle.preliminary.specs.Place.{asked_by}
 use Rattle.prelim_classes.specs.inner.Walks.{unbegun, Placeable, Asks, AllPlaced, SiblingsOf, Classed, Stand}
 
 false-at : (n v : ℕ) → get_or (replicate n false) v false ≡ false
@@ -50,11 +50,11 @@ module _ (gap : ℕ) (halves next top order right classes : List ℕ) (r : Class
       record {
         least = λ v. rw (here v) refl;
         most = λ v. rw (here v) (a.low v);
-        each = λ p strand g h t. e ∙ ap (map pos) (a.each p strand (pairsBy (length next) order right) classes (asks p strand g h t));
+        each = λ p strand g h t. e ∙ ap (map pos) (a.each p strand (pairs_by (length next) order right) classes (asks p strand g h t));
       }
     where
-      asked_is : (v : ℕ) → v < length next → askedBy (pairsBy (length next) order right) classes v ≡ orNone (length next) (get_or sibling' v 0)
+      asked_is : (v : ℕ) → v < length next → asked_by (pairs_by (length next) order right) classes v ≡ or_none (length next) (get_or sibling' v 0)
       asked_is v h = rw q (rw r.numbers at (s.each v (omega (arith, r.numbers))))
 
-      asks : (p : PlanData) (strand : ℕ → List ℕ) → p.gap ≡ gap → p.halves ≡ halves → StrandsBy strand next top → Asks p strand (pairsBy (length next) order right) classes gap halves next top sibling'
-      asks p strand g h t = record { gapIs = g; halvesAre = h; strands = t; asked = asked_is }
+      asks : (p : PlanData) (strand : ℕ → List ℕ) → p.gap ≡ gap → p.halves ≡ halves → StrandsBy strand next top → Asks p strand (pairs_by (length next) order right) classes gap halves next top sibling'
+      asks p strand g h t = record { gap_is = g; halves_are = h; strands = t; asked = asked_is }

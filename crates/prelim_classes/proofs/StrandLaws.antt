@@ -16,9 +16,9 @@ along-zero : (link : List ℕ) (a : ℕ) → along link zero a ≡ []
 unfolding along
 along-zero link a = refl
 
-first-in : (next : List ℕ) (f b : ℕ) → b < length next → length next ≤ f + b → among b (along next f b) ≡ true
-first-in next zero b k e = absurd (omega arith)
-first-in next (suc f) b k e = ap (among b) (along-on next f b k) ∙ among-here b (along next f (get_or next b 0))
+first_in : (next : List ℕ) (f b : ℕ) → b < length next → length next ≤ f + b → among b (along next f b) ≡ true
+first_in next zero b k e = absurd (omega arith)
+first_in next (suc f) b k e = ap (among b) (along-on next f b k) ∙ among-here b (along next f (get_or next b 0))
 
 -- links down and up that are each other's inverse; a number that is no index is none
 pub record Mutual (next prev : List ℕ) : Type 0 where
@@ -62,7 +62,7 @@ module _ (next prev top : List ℕ) (m : Mutual next prev) (t : Tops prev top) w
       by-same a u
       (λ s. let b : get_or next a 0 < length next = rw (sym s) at k in
       ap (λ (x : ℕ). among (get_or next x 0) (along next (suc f) a)) (sym s) ∙ ap (among (get_or next a 0)) on
-      ∙ among_later (get_or next a 0) a (along next f (get_or next a 0)) (first-in next f (get_or next a 0) b (omega arith)))
+      ∙ among_later (get_or next a 0) a (along next f (get_or next a 0)) (first_in next f (get_or next a 0) b (omega arith)))
       (λ s. ap (among (get_or next u 0)) on ∙ among_later (get_or next u 0) a (along next f (get_or next a 0))
       (follows f (get_or next a 0) u (omega arith) (sym (among-more u a (along next f (get_or next a 0)) s) ∙ ap (among u) (sym on) ∙ h) k)))
 

@@ -2,24 +2,24 @@
 ghost use Rattle.std.specs.Prelude.{◌≡◌, cond, map, ◌+◌, ◌-◌, ◌≤◌, ◌<◌, length, get_or, take, drop, ltb};
 ghost use Rattle.std.proofs.lemmas.List.Edits.{sets};
 ghost use Rattle.ints.specs.Lists.{sum};
-ghost use Rattle.plan.specs.Limits.{maxVertices};
-ghost use Rattle.prelim_classes.specs.inner.Arranged.{joined, followers, levelBy, levelsBy, vertexBy};
+ghost use Rattle.plan.specs.Limits.{max_vertices};
+ghost use Rattle.prelim_classes.specs.inner.Arranged.{joined, followers, level_by, levels_by, vertex_by};
 
 use crate::links::NONE;
 use ints::wide;
 
 // The j-th vertex of a level of n vertices from v on.
 fn vertex_at(reversed: bool, v: usize, n: usize, j: usize) -> usize
-    requires { (j < n) × (v + n ≤ maxVertices) }
-    ensures { result ≡ vertexBy reversed v n j }
+    requires { (j < n) × (v + n ≤ max_vertices) }
+    ensures { result ≡ vertex_by reversed v n j }
 {
     if reversed { v + n - 1 - j } else { v + j }
 }
 
 // Writes a level of n vertices from place v on.
 fn write_order(reversed: bool, v: usize, n: usize, order: &mut [u16])
-    requires { (v + n ≤ length order.old) × (length order.old ≤ maxVertices) }
-    ensures { order.new ≡ sets order.old v (levelBy reversed v n) }
+    requires { (v + n ≤ length order.old) × (length order.old ≤ max_vertices) }
+    ensures { order.new ≡ sets order.old v (level_by reversed v n) }
 {
     let mut j: usize = 0;
     while j < n {
@@ -50,8 +50,8 @@ fn write_right(from: usize, to: usize, order: &[u16], right: &mut [u16])
 
 // Writes the vertices of all levels and their right siblings.
 pub fn arrange(reversed: bool, sizes: &[u16], order: &mut [u16], right: &mut [u16])
-    requires { (sum sizes.now ≡ length order.old) × (length order.old ≤ maxVertices) × (length right.old ≡ length order.old) }
-    ensures { (order.new ≡ joined (levelsBy reversed 0 sizes.now)) × (right.new ≡ joined (map followers (levelsBy reversed 0 sizes.now))) }
+    requires { (sum sizes.now ≡ length order.old) × (length order.old ≤ max_vertices) × (length right.old ≡ length order.old) }
+    ensures { (order.new ≡ joined (levels_by reversed 0 sizes.now)) × (right.new ≡ joined (map followers (levels_by reversed 0 sizes.now))) }
 {
     let mut from: usize = 0;
     let mut l: usize = 0;

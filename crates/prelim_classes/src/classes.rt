@@ -2,11 +2,11 @@
 // number to its whole strand; a vertex with one makes that number current." A class of 0 is none yet.
 ghost use Rattle.std.specs.Prelude.{◌≡◌, List, ℕ, ◌+◌, ◌-◌, ◌≤◌, ◌<◌, length, get_or, take, drop};
 ghost use Rattle.ints.specs.Lists.{sum};
-ghost use Rattle.plan.specs.Limits.{maxLevels};
+ghost use Rattle.plan.specs.Limits.{max_levels};
 ghost use Rattle.prelim_classes.specs.inner.Links.{Rising, chain};
 ghost use Rattle.preliminary.specs.Classes as spec;
 ghost use Rattle.prelim_classes.specs.inner.Strands.{StrandsBy};
-ghost use Rattle.prelim_classes.specs.inner.Walks.{Classable, cut, classesAfter, currentAfter};
+ghost use Rattle.prelim_classes.specs.inner.Walks.{Classable, cut, classes_after, current_after};
 
 use crate::walk::give;
 use ints::wide;
@@ -14,8 +14,8 @@ use ints::wide;
 // Classes vertex v, `current` being the current number, and gives the number current after it.
 fn class_vertex(v: usize, current: u32, next: &[u16], top: &[u16], classes: &mut [u32]) -> u32
     requires { Rising next.now × (length top.now ≡ length next.now) × (length classes.old ≡ length next.now) × (v < length next.now) }
-    ensures value { result ≡ currentAfter classes.old v current }
-    ensures classes_after { classes.new ≡ classesAfter (chain next.now (get_or top.now v 0)) classes.old v current }
+    ensures value { result ≡ current_after classes.old v current }
+    ensures classes_after { classes.new ≡ classes_after (chain next.now (get_or top.now v 0)) classes.old v current }
 {
     if classes[v] == 0 {
         give(current, wide(top[v]), next, classes);
@@ -37,7 +37,7 @@ fn class_level(
     requires classable { Classable next.now top.now order.now classes.old }
     requires from_le_to { (from ≤ to) × (to ≤ length order.now) }
     ensures { (strand : ℕ → List ℕ) → StrandsBy strand next.now top.now
-        → classes.new ≡ spec.classesOn strand l (take (to - from) (drop from order.now)) classes.old }
+        → classes.new ≡ spec.classes_on strand l (take (to - from) (drop from order.now)) classes.old }
 {
     let mut current = l;
     let mut i = from;
@@ -50,9 +50,9 @@ fn class_level(
 // Classes every strand, level by level.
 pub fn class(sizes: &[u16], order: &[u16], next: &[u16], top: &[u16], classes: &mut [u32])
     requires classable { Classable next.now top.now order.now classes.old }
-    requires sizes_value { (sum sizes.now ≡ length order.now) × (length sizes.now ≤ maxLevels) }
+    requires sizes_value { (sum sizes.now ≡ length order.now) × (length sizes.now ≤ max_levels) }
     ensures { (strand : ℕ → List ℕ) → StrandsBy strand next.now top.now
-        → classes.new ≡ spec.classesFrom strand 1 (cut sizes.now order.now) classes.old }
+        → classes.new ≡ spec.classes_from strand 1 (cut sizes.now order.now) classes.old }
 {
     let mut from: usize = 0;
     let mut l: usize = 0;

@@ -1,6 +1,6 @@
 // Strands by their inner segments: the vertex below each, and the topmost.
 ghost use Rattle.std.specs.Prelude.{◌≡◌, false, cond, ◌&&◌, ◌+◌, ◌≤◌, ◌<◌, length, get_or, set, replicate};
-ghost use Rattle.plan.specs.Limits.{maxVertices};
+ghost use Rattle.plan.specs.Limits.{max_vertices};
 ghost use Rattle.plan.specs.inner.Graph.{Within};
 ghost use Rattle.prelim_classes.specs.inner.Strands.{InnerLinks, Tops, StrandLists};
 
@@ -9,7 +9,7 @@ use ints::wide;
 
 // Links a to b, if both are vias.
 fn link_inner(a: usize, b: usize, vias: &[bool], link: &mut [u16])
-    requires { (a < length vias.now) × (b < length vias.now) × (length vias.now ≤ maxVertices) × (length link.old ≡ length vias.now) }
+    requires { (a < length vias.now) × (b < length vias.now) × (length vias.now ≤ max_vertices) × (length link.old ≡ length vias.now) }
     ensures { link.new ≡ cond (get_or vias.now a false && get_or vias.now b false) (set link.old a b) link.old }
 {
     if !vias[a] {
@@ -35,7 +35,7 @@ pub fn link_vias(vias: &[bool], from: &[u32], to: &[u32], link: &mut [u16])
 
 // The topmost vertex of v's strand. Of the vertices before v `top` has the topmost, of v itself the vertex above it.
 fn top_of(v: usize, top: &[u16]) -> u16
-    requires { (v < length top.now) × (length top.now ≤ maxVertices) }
+    requires { (v < length top.now) × (length top.now ≤ max_vertices) }
     ensures value { get_or top.now v 0 < v → result ≡ get_or top.now (get_or top.now v 0) 0 }
     ensures value_2 { v ≤ get_or top.now v 0 → result ≡ v }
 {
@@ -45,7 +45,7 @@ fn top_of(v: usize, top: &[u16]) -> u16
 
 // Writes the topmost vertex of every strand where the vertex above it stood.
 pub fn tops(top: &mut [u16])
-    requires { length top.old ≤ maxVertices }
+    requires { length top.old ≤ max_vertices }
     ensures { Tops top.old top.new }
 {
     let mut v: usize = 0;

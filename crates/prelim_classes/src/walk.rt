@@ -2,7 +2,7 @@
 ghost use Rattle.std.specs.Prelude.{◌≡◌, length};
 ghost use Rattle.prelim_classes.specs.inner.Links.{Rising, chain};
 ghost use Rattle.preliminary.specs.Classes as classes;
-ghost use Rattle.preliminary.specs.Place.{markAll};
+ghost use Rattle.preliminary.specs.Place.{mark_all};
 
 use ints::wide;
 
@@ -21,7 +21,7 @@ pub fn give(c: u32, top: usize, next: &[u16], out: &mut [u32])
 // Marks each vertex of the strand.
 pub fn mark(top: usize, next: &[u16], begun: &mut [bool])
     requires { Rising next.now × (length begun.old ≡ length next.now) }
-    ensures { begun.new ≡ markAll (chain next.now top) begun.old }
+    ensures { begun.new ≡ mark_all (chain next.now top) begun.old }
 {
     let mut v = top;
     while v < next.len() {

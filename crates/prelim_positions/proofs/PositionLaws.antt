@@ -10,11 +10,11 @@ use lib.Seq.{take-suc, length-take-le, take_all, get_or-append-add, get_or-drop}
 use lib.IntN.{ℤ, pos, neg_ℤ, ◌-ℤ◌}
 use Rattle.ints.specs.Lists.{over}
 use Rattle.ints.proofs.Lists.{over-more, over-all}
-use Rattle.plan.specs.Plan.{PlanData, levelsFrom, levelsOf}
+use Rattle.plan.specs.Plan.{PlanData, levels_from, levels_of}
 use Rattle.plan.specs.inner.Held.{HoldsPlan, SomePlan}
 use Rattle.plan.specs.inner.Graph.{Within}
 use Rattle.plan.proofs.HeldLaws.{held-bounds}
-use Rattle.preliminary.specs.Positions.{positionsOn, leftPositions, rightPositions, sums, preliminary}
+use Rattle.preliminary.specs.Positions.{positions_on, left_positions, right_positions, sums, preliminary}
 use Rattle.prelim_classes.specs.inner.Strands.{StrandLists, StrungPlan, SomeStrung}
 use Rattle.prelim_classes.proofs.LevelLaws.{levels-plain, levels-reversed}
 use Rattle.prelim_positions.specs.inner.Sides.{SideIs}
@@ -63,19 +63,19 @@ subtract-end xs ys i e h =
 pub both-sides : (gap : ℕ) (sizes : List ℕ) (vias : List Bool) (halves uppers lowers next top : List ℕ) → StrandLists vias uppers lowers next top
     → (xs ys : List ℤ) → SideIs false gap sizes halves next top uppers lowers xs → SideIs true gap sizes halves next top uppers lowers ys
     → (p : PlanData) → HoldsPlan p gap sizes vias halves uppers lowers → sums xs (map neg_ℤ ys) ≡ preliminary p
-unfolding preliminary leftPositions rightPositions levelsOf
+unfolding preliminary left_positions right_positions levels_of
 both-sides gap sizes vias halves uppers lowers next top w xs ys a b p q =
     let k : StrungPlan p gap sizes halves next top uppers lowers = record { vias = vias; held = q; strands = w } in
-    let l : xs ≡ leftPositions p = a.each p k ∙ ap (positionsOn p) (levels-plain 0 sizes ∙ ap (λ (s : List ℕ). levelsFrom 0 s) (sym q.sizesAre)) in
-    let r : map neg_ℤ ys ≡ rightPositions p = ap (map neg_ℤ) (b.each p k ∙ ap (positionsOn p) (levels-reversed 0 sizes ∙ ap (λ (s : List ℕ). map reverse (levelsFrom 0 s)) (sym q.sizesAre))) in
-    ap (λ (z : List ℤ). sums z (map neg_ℤ ys)) l ∙ ap (sums (leftPositions p)) r
+    let l : xs ≡ left_positions p = a.each p k ∙ ap (positions_on p) (levels-plain 0 sizes ∙ ap (λ (s : List ℕ). levels_from 0 s) (sym q.sizes_are)) in
+    let r : map neg_ℤ ys ≡ right_positions p = ap (map neg_ℤ) (b.each p k ∙ ap (positions_on p) (levels-reversed 0 sizes ∙ ap (λ (s : List ℕ). map reverse (levels_from 0 s)) (sym q.sizes_are))) in
+    ap (λ (z : List ℤ). sums z (map neg_ℤ ys)) l ∙ ap (sums (left_positions p)) r
 
 -- what holds of a plan's lists
 module _ (gap : ℕ) (sizes : List ℕ) (vias : List Bool) (halves uppers lowers : List ℕ) (s : SomePlan gap sizes vias halves uppers lowers) where
   pub plan-within : Within vias uppers lowers
   plan-within =
       let b = held-bounds s.plan gap sizes vias halves uppers lowers s.lists in
-      record { vertices = b.few; segments = b.segments; ends = b.ends; upper = b.upperEnds; lower = b.lowerEnds }
+      record { vertices = b.few; segments = b.segments; ends = b.ends; upper = b.upper_ends; lower = b.lower_ends }
 
   pub plan-few : length vias ≤ 1024
   plan-few = plan-within.vertices

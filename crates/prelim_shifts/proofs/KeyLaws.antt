@@ -12,17 +12,17 @@ use Rattle.ints.proofs.Laws.{if-ind}
 use Rattle.plan.proofs.CountLaws.{by-same}
 use Rattle.prelim_classes.specs.inner.Links.{chain, among, positions, Bucketed}
 use Rattle.prelim_classes.proofs.ChainLaws.{among-more, among_none, never, Linking, linking-start, linking-next, linking-end}
-use Rattle.prelim_shifts.specs.inner.Shifts.{gapKey, offsetKey, keysBy, Linked}
+use Rattle.prelim_shifts.specs.inner.Shifts.{gap_key, offset_key, keys_by, Linked}
 
 -- ---- keys as a list
-pub keys-long : (key : ℕ → ℕ → ℕ) (vs ws : List ℕ) → length ws ≡ length vs → length (keysBy key vs ws) ≡ length vs
-unfolding keysBy
-keys-long key [] ws e = refl
-keys-long key (v ∷ vs) [] e = absurd (omega arith)
-keys-long key (v ∷ vs) (w ∷ ws) e = ap suc (keys-long key vs ws (omega arith))
+pub keys_long : (key : ℕ → ℕ → ℕ) (vs ws : List ℕ) → length ws ≡ length vs → length (keys_by key vs ws) ≡ length vs
+unfolding keys_by
+keys_long key [] ws e = refl
+keys_long key (v ∷ vs) [] e = absurd (omega arith)
+keys_long key (v ∷ vs) (w ∷ ws) e = ap suc (keys_long key vs ws (omega arith))
 
-pub keys-at : (key : ℕ → ℕ → ℕ) (vs ws : List ℕ) (i : ℕ) → length ws ≡ length vs → i < length vs → get_or (keysBy key vs ws) i 0 ≡ key (get_or vs i 0) (get_or ws i 0)
-unfolding keysBy
+pub keys-at : (key : ℕ → ℕ → ℕ) (vs ws : List ℕ) (i : ℕ) → length ws ≡ length vs → i < length vs → get_or (keys_by key vs ws) i 0 ≡ key (get_or vs i 0) (get_or ws i 0)
+unfolding keys_by
 keys-at key [] ws i e h = absurd (omega arith)
 keys-at key (v ∷ vs) [] i e h = absurd (omega arith)
 keys-at key (v ∷ vs) (w ∷ ws) zero e h = refl
@@ -30,19 +30,19 @@ keys-at key (v ∷ vs) (w ∷ ws) (suc i) e h = keys-at key vs ws i (omega arith
 
 -- a loop that links the places of each key, from the last up
 module _ (key : ℕ → ℕ → ℕ) (vs ws head link : List ℕ) (e : length ws ≡ length vs) (l : length link ≡ length vs) where
-  pub keyed-start : length vs ≤ 2048 → ((c : ℕ) → c < length head → get_or head c 0 ≡ 2048) → Linking (keysBy key vs ws) head link (length vs)
+  pub keyed-start : length vs ≤ 2048 → ((c : ℕ) → c < length head → get_or head c 0 ≡ 2048) → Linking (keys_by key vs ws) head link (length vs)
   keyed-start h n =
-      let k = keys-long key vs ws e in
-      subst (λ (m : ℕ). Linking (keysBy key vs ws) head link m) k (linking-start (keysBy key vs ws) head link (l ∙ sym k) (omega arith) n)
+      let k = keys_long key vs ws e in
+      subst (λ (m : ℕ). Linking (keys_by key vs ws) head link m) k (linking-start (keys_by key vs ws) head link (l ∙ sym k) (omega arith) n)
 
-  pub keyed-next : (i : ℕ) → 0 < i → i ≤ length vs → Linking (keysBy key vs ws) head link i → (k : ℕ) → k ≡ key (get_or vs (i - 1) 0) (get_or ws (i - 1) 0) → k < length head
-      → (head' link' : List ℕ) → head' ≡ set head k (i - 1) → link' ≡ set link (i - 1) (get_or head k 0) → Linking (keysBy key vs ws) head' link' (i - 1)
+  pub keyed-next : (i : ℕ) → 0 < i → i ≤ length vs → Linking (keys_by key vs ws) head link i → (k : ℕ) → k ≡ key (get_or vs (i - 1) 0) (get_or ws (i - 1) 0) → k < length head
+      → (head' link' : List ℕ) → head' ≡ set head k (i - 1) → link' ≡ set link (i - 1) (get_or head k 0) → Linking (keys_by key vs ws) head' link' (i - 1)
   keyed-next i z h w k q b head' link' f g =
-      let n = keys-long key vs ws e in
-      linking-next (keysBy key vs ws) head link i z w k (omega arith) (l ∙ sym n) (q ∙ sym (keys-at key vs ws (i - 1) e (omega arith))) b head' link' f g
+      let n = keys_long key vs ws e in
+      linking-next (keys_by key vs ws) head link i z w k (omega arith) (l ∙ sym n) (q ∙ sym (keys-at key vs ws (i - 1) e (omega arith))) b head' link' f g
 
-  pub keyed-end : Linking (keysBy key vs ws) head link 0 → Bucketed (keysBy key vs ws) head link
-  keyed-end w = linking-end (keysBy key vs ws) head link w (l ∙ sym (keys-long key vs ws e))
+  pub keyed-end : Linking (keys_by key vs ws) head link 0 → Bucketed (keys_by key vs ws) head link
+  keyed-end w = linking-end (keys_by key vs ws) head link w (l ∙ sym (keys_long key vs ws e))
 
 -- where c is at a place, the key is c
 pub record AtKey (c i k : ℕ) (ks : List ℕ) : Type 0 where
@@ -63,29 +63,29 @@ positions-at c i (x ∷ ks) k h = by-same x c
     later a = let z : k - i ≡ suc (k - (i + 1)) = omega (arith, a.from) in record { from = omega (arith, a.from); below = omega (arith, a.below); same = rw z a.same }
 
 -- ---- keys are classes
-pub gap-key-small : (m : ℕ) (classes : List ℕ) → ((v : ℕ) → get_or classes v 0 ≤ m) → (v w : ℕ) → gapKey classes v w ≤ m
+pub gap-key-small : (m : ℕ) (classes : List ℕ) → ((v : ℕ) → get_or classes v 0 ≤ m) → (v w : ℕ) → gap_key classes v w ≤ m
 gap-key-small m classes h v w = if-ind (ltb w (length classes)) (cond (eqb (get_or classes w 0) (get_or classes v 0)) 0 (get_or classes v 0)) 0 (λ x. x ≤ m)
     (λ t. if-ind (eqb (get_or classes w 0) (get_or classes v 0)) 0 (get_or classes v 0) (λ x. x ≤ m) (λ q. omega arith) (λ q. h v)) (λ t. omega arith)
 
-pub offset-key-small : (m : ℕ) (classes : List ℕ) → ((v : ℕ) → get_or classes v 0 ≤ m) → (a b : ℕ) → offsetKey classes a b ≤ m
+pub offset-key-small : (m : ℕ) (classes : List ℕ) → ((v : ℕ) → get_or classes v 0 ≤ m) → (a b : ℕ) → offset_key classes a b ≤ m
 offset-key-small m classes h a b = if-ind (ltb (get_or classes b 0) (get_or classes a 0)) (get_or classes a 0) (cond (ltb (get_or classes a 0) (get_or classes b 0)) (get_or classes b 0) 0) (λ x. x ≤ m)
     (λ t. h a) (λ t. if-ind (ltb (get_or classes a 0) (get_or classes b 0)) (get_or classes b 0) 0 (λ x. x ≤ m) (λ q. h b) (λ q. omega arith))
 
 pub heads-none : (head : List ℕ) → head ≡ replicate 65 2048 → (c : ℕ) → c < length head → get_or head c 0 ≡ 2048
 heads-none head e c h = ap (λ (l : List ℕ). get_or l c 0) e ∙ get_or-replicate {A = ℕ} 65 c 2048 0 (omega (arith, ap length e, length-replicate {A = ℕ} 65 2048))
 
-pub linked-by : (order right uppers lowers classes pairHead pairLink segmentHead segmentLink memberHead memberLink pairs segments members : List ℕ)
-    → Bucketed (keysBy (gapKey classes) order right) pairHead pairLink → Bucketed (keysBy (offsetKey classes) uppers lowers) segmentHead segmentLink → Bucketed classes memberHead memberLink
-    → length pairHead ≡ 65 → length segmentHead ≡ 65 → length memberHead ≡ 65 → pairs ≡ pairLink → segments ≡ segmentLink → members ≡ memberLink → (levels : ℕ) → levels ≤ 64
-    → Linked order right uppers lowers classes (take (levels + 1) pairHead) pairs segmentHead segments memberHead members
-linked-by order right uppers lowers classes pairHead pairLink segmentHead segmentLink memberHead memberLink pairs segments members a b c d e f g h i levels m =
-    let n = length-take-le (levels + 1) pairHead (omega arith) in
+pub linked-by : (order right uppers lowers classes pair_head pair_link segment_head segment_link member_head member_link pairs segments members : List ℕ)
+    → Bucketed (keys_by (gap_key classes) order right) pair_head pair_link → Bucketed (keys_by (offset_key classes) uppers lowers) segment_head segment_link → Bucketed classes member_head member_link
+    → length pair_head ≡ 65 → length segment_head ≡ 65 → length member_head ≡ 65 → pairs ≡ pair_link → segments ≡ segment_link → members ≡ member_link → (levels : ℕ) → levels ≤ 64
+    → Linked order right uppers lowers classes (take (levels + 1) pair_head) pairs segment_head segments member_head members
+linked-by order right uppers lowers classes pair_head pair_link segment_head segment_link member_head member_link pairs segments members a b c d e f g h i levels m =
+    let n = length-take-le (levels + 1) pair_head (omega arith) in
     record {
-      pairs = rw g (record { long = a.long; rising = a.rising; each = λ v k. ap (chain pairLink) (get_or-take (levels + 1) pairHead v 0 (omega arith)) ∙ a.each v (omega arith) });
+      pairs = rw g (record { long = a.long; rising = a.rising; each = λ v k. ap (chain pair_link) (get_or-take (levels + 1) pair_head v 0 (omega arith)) ∙ a.each v (omega arith) });
       heads = omega arith;
-      pairHeads = omega arith;
+      pair_heads = omega arith;
       segments = rw h b;
-      segmentHeads = e;
+      segment_heads = e;
       members = rw i c;
-      memberHeads = f;
+      member_heads = f;
     }

@@ -10,12 +10,12 @@ use lib.Dec.{ltb, eqb}
 use lib.ListN.{length, get_or, get_or-eq_default}
 use lib.IntN.{ℤ, pos, ◌+ℤ◌, ◌-ℤ◌}
 use lib.Signed.{lt_z, le_z}
-use Rattle.ints.specs.Ints.{P, N, size, minZ}
+use Rattle.ints.specs.Ints.{P, N, size, min_z}
 use Rattle.ints.proofs.Laws.{cases, if-ind, sum, dif, apart}
 use Rattle.plan.specs.Plan.{PlanData, Siblings, distance}
-use Rattle.plan.specs.Segments.{Segment, segmentsOf}
+use Rattle.plan.specs.Segments.{Segment, segments_of}
 use Rattle.plan.proofs.CountLaws.{by-same}
-use Rattle.preliminary.specs.Shift.{gapsIn, offsetsIn, insert, sort, middle, leastOf, leastOr, shift_of, moved}
+use Rattle.preliminary.specs.Shift.{gaps_in, offsets_in, insert, sort, middle, least_of, least_or, shift_of, moved}
 use Rattle.prelim_shifts.specs.inner.Shifts.{Spread}
 
 pub record InRange (m : ℕ) (x : ℤ) : Type 0 where
@@ -30,12 +30,12 @@ module _ (m : ℕ) where
   zero_in : InRange m (pos 0)
   zero_in = record { up = omega arith; down = omega arith }
 
-  least-of-in : (x : ℤ) (xs : List ℤ) → InRange m x → AllIn m xs → InRange m (leastOf x xs)
-  unfolding leastOf
+  least-of-in : (x : ℤ) (xs : List ℤ) → InRange m x → AllIn m xs → InRange m (least_of x xs)
+  unfolding least_of
   least-of-in x [] r none = r
-  least-of-in x (y ∷ ys) r (one s a) = least-of-in (minZ x y) ys (if-ind (lt_z y x) y x (InRange m) (λ t. s) (λ t. r)) a
+  least-of-in x (y ∷ ys) r (one s a) = least-of-in (min_z x y) ys (if-ind (lt_z y x) y x (InRange m) (λ t. s) (λ t. r)) a
 
-  least-in : (other : ℤ) (xs : List ℤ) → InRange m other → AllIn m xs → InRange m (leastOr other xs)
+  least-in : (other : ℤ) (xs : List ℤ) → InRange m other → AllIn m xs → InRange m (least_or other xs)
   least-in other [] r none = r
   least-in other (x ∷ xs) r (one s a) = least-of-in x xs s a
 
@@ -76,18 +76,18 @@ module _ (c m : ℕ) (classes : List ℕ) (xs : List ℤ) (s : Spread c m classe
       let b = get_or xs v (pos 0) in
       record { up = omega (arith, dif a b, dif (a -ℤ b) (pos d), s.each u, s.least v (omega arith)); down = omega (arith, dif a b, dif (a -ℤ b) (pos d), s.each u, s.most v (omega arith)) }
 
-  gaps-in : (p : PlanData) (ss : List Siblings) → ((u v : ℕ) → distance p u v ≤ 500) → AllIn m (gapsIn p classes xs c ss)
-  unfolding gapsIn
+  gaps-in : (p : PlanData) (ss : List Siblings) → ((u v : ℕ) → distance p u v ≤ 500) → AllIn m (gaps_in p classes xs c ss)
+  unfolding gaps_in
   gaps-in p [] d = none
   gaps-in p (t ∷ ss) d =
       let more = gaps-in p ss d in
       let test = eqb (get_or classes t.left 0) c && not (eqb (get_or classes t.right 0) c) in
-      if-ind test (((get_or xs t.right (pos 0) -ℤ get_or xs t.left (pos 0)) -ℤ pos (distance p t.left t.right)) ∷ gapsIn p classes xs c ss) (gapsIn p classes xs c ss) (AllIn m)
+      if-ind test (((get_or xs t.right (pos 0) -ℤ get_or xs t.left (pos 0)) -ℤ pos (distance p t.left t.right)) ∷ gaps_in p classes xs c ss) (gaps_in p classes xs c ss) (AllIn m)
       (λ h. one (slack-in (distance p t.left t.right) t.right t.left (d t.left t.right) (eqb-true (get_or classes t.left 0) c (both_true (eqb (get_or classes t.left 0) c) (not (eqb (get_or classes t.right 0) c)) h))) more)
       (λ h. more)
 
-  offsets-in : (ss : List Segment) → AllIn m (offsetsIn classes xs c ss)
-  unfolding offsetsIn
+  offsets-in : (ss : List Segment) → AllIn m (offsets_in classes xs c ss)
+  unfolding offsets_in
   offsets-in [] = none
   offsets-in (t ∷ ss) =
       let more = offsets-in ss in
@@ -95,15 +95,15 @@ module _ (c m : ℕ) (classes : List ℕ) (xs : List ℤ) (s : Spread c m classe
       let b = t.lower in
       let first = eqb (get_or classes a 0) c && ltb (get_or classes b 0) c in
       let second = eqb (get_or classes b 0) c && ltb (get_or classes a 0) c in
-      if-ind first ((get_or xs b (pos 0) -ℤ get_or xs a (pos 0)) ∷ offsetsIn classes xs c ss) (cond second ((get_or xs a (pos 0) -ℤ get_or xs b (pos 0)) ∷ offsetsIn classes xs c ss) (offsetsIn classes xs c ss)) (AllIn m)
+      if-ind first ((get_or xs b (pos 0) -ℤ get_or xs a (pos 0)) ∷ offsets_in classes xs c ss) (cond second ((get_or xs a (pos 0) -ℤ get_or xs b (pos 0)) ∷ offsets_in classes xs c ss) (offsets_in classes xs c ss)) (AllIn m)
       (λ h. one (difference-in b a (eqb-true (get_or classes a 0) c (both_true (eqb (get_or classes a 0) c) (ltb (get_or classes b 0) c) h))) more)
-      (λ h. if-ind second ((get_or xs a (pos 0) -ℤ get_or xs b (pos 0)) ∷ offsetsIn classes xs c ss) (offsetsIn classes xs c ss) (AllIn m)
+      (λ h. if-ind second ((get_or xs a (pos 0) -ℤ get_or xs b (pos 0)) ∷ offsets_in classes xs c ss) (offsets_in classes xs c ss) (AllIn m)
       (λ k. one (difference-in a b (eqb-true (get_or classes b 0) c (both_true (eqb (get_or classes b 0) c) (ltb (get_or classes a 0) c) k))) more)
       (λ k. more))
 
   pub shift_in : (p : PlanData) (ss : List Siblings) → ((u v : ℕ) → distance p u v ≤ 500) → InRange m (shift_of p ss classes c xs)
   unfolding shift_of
-  shift_in p ss d = least-in m (middle (offsetsIn classes xs c (segmentsOf p))) (gapsIn p classes xs c ss) (middle-in m (offsetsIn classes xs c (segmentsOf p)) (offsets-in (segmentsOf p))) (gaps-in p ss d)
+  shift_in p ss d = least-in m (middle (offsets_in classes xs c (segments_of p))) (gaps_in p classes xs c ss) (middle-in m (offsets_in classes xs c (segments_of p)) (offsets-in (segments_of p))) (gaps-in p ss d)
 
 -- ---- after a shift
 moved_at : (c : ℕ) (d : ℤ) (classes : List ℕ) (xs : List ℤ) (v : ℕ) → length xs ≡ length classes → v < length xs → get_or (moved c d classes xs) v (pos 0) ≡ cond (eqb (get_or classes v 0) c) (get_or xs v (pos 0) +ℤ d) (get_or xs v (pos 0))

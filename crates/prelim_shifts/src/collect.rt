@@ -3,7 +3,7 @@
 ghost use Rattle.std.specs.Prelude.{◌≡◌, ◌≤◌, ◌<◌, length};
 ghost use Rattle.ints.specs.Ints.{SizedTo};
 ghost use Rattle.ints.specs.Lists.{over};
-ghost use Rattle.plan.specs.Limits.{maxGap};
+ghost use Rattle.plan.specs.Limits.{max_gap};
 ghost use Rattle.plan.specs.inner.Graph.{Below};
 ghost use Rattle.prelim_classes.specs.inner.Links.{Rising, chain};
 ghost use Rattle.prelim_shifts.specs.inner.Shifts as lists;
@@ -13,7 +13,7 @@ use prelim_classes::links::index;
 
 // (sibling − member − distance), of a member v and its right sibling w.
 fn slack(gap: u32, v: usize, w: usize, halves: &[u16], xs: &[i64]) -> i64
-    requires { (gap ≤ maxGap) × (length halves.now ≡ length xs.now) × (v < length xs.now) × (w < length xs.now) × SizedTo 134217728 xs.now }
+    requires { (gap ≤ max_gap) × (length halves.now ≡ length xs.now) × (v < length xs.now) × (w < length xs.now) × SizedTo 134217728 xs.now }
     ensures { result ≡ lists.slack gap halves.now xs.now v w }
 {
     let apart = wide(halves[v]) + gap as usize + wide(halves[w]);
@@ -32,7 +32,7 @@ pub fn slacks(
     out: &mut [i64],
 ) -> usize
     requires rising { Rising link.now × (length order.now ≡ length link.now) × (length right.now ≡ length link.now) × (length link.now ≤ length out.old) }
-    requires gap_le_max_gap { (gap ≤ maxGap) × (length halves.now ≡ length xs.now) × SizedTo 134217728 xs.now × Below (length xs.now) order.now
+    requires gap_le_max_gap { (gap ≤ max_gap) × (length halves.now ≡ length xs.now) × SizedTo 134217728 xs.now × Below (length xs.now) order.now
         × lists.BelowAt (length xs.now) right.now (chain link.now first) }
     ensures { (result ≡ length (chain link.now first))
         × (out.new ≡ over (lists.slacks gap halves.now xs.now order.now right.now (chain link.now first)) out.old) }

@@ -1,9 +1,9 @@
 // For which class's shift each sibling pair and each segment counts: the places of each class as a chain.
 ghost use Rattle.std.specs.Prelude.{◌≡◌, ◌<◌, ◌≤◌, length, replicate};
-ghost use Rattle.plan.specs.Limits.{maxLevels, maxVertices, maxSegments};
+ghost use Rattle.plan.specs.Limits.{max_levels, max_vertices, max_segments};
 ghost use Rattle.plan.specs.inner.Graph.{Below};
 ghost use Rattle.prelim_classes.specs.inner.Links.{Bucketed};
-ghost use Rattle.prelim_shifts.specs.inner.Shifts.{gapKey, offsetKey, keysBy, AtMost};
+ghost use Rattle.prelim_shifts.specs.inner.Shifts.{gap_key, offset_key, keys_by, AtMost};
 
 use ints::wide;
 use prelim_classes::links::{index, put_first};
@@ -11,7 +11,7 @@ use prelim_classes::links::{index, put_first};
 // The class for whose shift v counts by its right sibling w, 0 if for none.
 fn gap_key(v: usize, w: usize, classes: &[u32]) -> u32
     requires { v < length classes.now }
-    ensures { result ≡ gapKey classes.now v w }
+    ensures { result ≡ gap_key classes.now v w }
 {
     if w >= classes.len() {
         return 0;
@@ -24,9 +24,9 @@ fn gap_key(v: usize, w: usize, classes: &[u32]) -> u32
 
 // The places of the pairs that count for each class, as chains.
 pub fn link_pairs(order: &[u16], right: &[u16], classes: &[u32], head: &mut [u16], link: &mut [u16])
-    requires order_len { (length order.now ≡ length classes.now) × (length right.now ≡ length classes.now) × (length classes.now ≤ maxVertices) }
-    requires below { Below (length classes.now) order.now × AtMost maxLevels classes.now × (length link.old ≡ length classes.now) × (head.old ≡ replicate 65 2048) }
-    ensures { Bucketed (keysBy (gapKey classes.now) order.now right.now) head.new link.new }
+    requires order_len { (length order.now ≡ length classes.now) × (length right.now ≡ length classes.now) × (length classes.now ≤ max_vertices) }
+    requires below { Below (length classes.now) order.now × AtMost max_levels classes.now × (length link.old ≡ length classes.now) × (head.old ≡ replicate 65 2048) }
+    ensures { Bucketed (keys_by (gap_key classes.now) order.now right.now) head.new link.new }
 {
     let mut i = order.len();
     while i > 0 {
@@ -39,7 +39,7 @@ pub fn link_pairs(order: &[u16], right: &[u16], classes: &[u32], head: &mut [u16
 // The class for whose shift the segment from a to b counts, 0 if for none.
 fn offset_key(a: usize, b: usize, classes: &[u32]) -> u32
     requires { (a < length classes.now) × (b < length classes.now) }
-    ensures { result ≡ offsetKey classes.now a b }
+    ensures { result ≡ offset_key classes.now a b }
 {
     if classes[b] < classes[a] {
         return classes[a];
@@ -58,9 +58,9 @@ pub fn link_segments(
     head: &mut [u16],
     link: &mut [u16],
 )
-    requires uppers_len { (length uppers.now ≡ length lowers.now) × (length uppers.now ≤ maxSegments) × Below (length classes.now) uppers.now × Below (length classes.now) lowers.now }
-    requires at_most { AtMost maxLevels classes.now × (length link.old ≡ length uppers.now) × (head.old ≡ replicate 65 2048) }
-    ensures { Bucketed (keysBy (offsetKey classes.now) uppers.now lowers.now) head.new link.new }
+    requires uppers_len { (length uppers.now ≡ length lowers.now) × (length uppers.now ≤ max_segments) × Below (length classes.now) uppers.now × Below (length classes.now) lowers.now }
+    requires at_most { AtMost max_levels classes.now × (length link.old ≡ length uppers.now) × (head.old ≡ replicate 65 2048) }
+    ensures { Bucketed (keys_by (offset_key classes.now) uppers.now lowers.now) head.new link.new }
 {
     let mut i = uppers.len();
     while i > 0 {

@@ -9,7 +9,7 @@ use ints::{apart, plus};
 // The least of a list that has one.
 pub fn least(xs: &[i64]) -> i64
     requires { 0 < length xs.now }
-    ensures { (other : ℤ) → result ≡ shift.leastOr other xs.now }
+    ensures { (other : ℤ) → result ≡ shift.least_or other xs.now }
 {
     let mut best: usize = 0;
     let mut i: usize = 1;

@@ -1,10 +1,10 @@
 // Shifting classes: "Then classes, lowest number first, shift as a whole".
 ghost use Rattle.std.specs.Prelude.{◌≡◌, ◌-◌, ◌≤◌, ◌<◌, length};
 ghost use Rattle.ints.specs.Ints.{size, SizedTo};
-ghost use Rattle.plan.specs.Limits.{maxLevels, maxSegments};
+ghost use Rattle.plan.specs.Limits.{max_levels, max_segments};
 ghost use Rattle.prelim_classes.specs.inner.Links.{Rising, chain};
 ghost use Rattle.preliminary.specs.Shift as spec;
-ghost use Rattle.prelim_shifts.specs.inner.Counts.{movedAt};
+ghost use Rattle.prelim_shifts.specs.inner.Counts.{moved_at};
 ghost use Rattle.prelim_shifts.specs.inner.Shifts as lists;
 
 use crate::collect::{offsets, slacks};
@@ -20,7 +20,7 @@ const HEADS: usize = 65;
 // Moves the vertices along a chain d to the right.
 fn move_all(d: i64, first: usize, link: &[u16], xs: &mut [i64])
     requires { Rising link.now × (length xs.old ≡ length link.now) × SizedTo 134217728 xs.old × (size d ≤ 268435456) }
-    ensures { xs.new ≡ movedAt d (chain link.now first) xs.old }
+    ensures { xs.new ≡ moved_at d (chain link.now first) xs.old }
 {
     let mut v = first;
     while v < link.len() {
@@ -50,9 +50,9 @@ fn shift_of(
 ) -> i64
     requires shiftable { lists.Shiftable gap halves.now order.now right.now uppers.now lowers.now classes.now }
     requires rising { Rising pair_link.now × (length pair_link.now ≡ length order.now) × Rising segment_link.now
-        × (length segment_link.now ≡ length uppers.now) × (length buffer.old ≡ maxSegments) }
+        × (length segment_link.now ≡ length uppers.now) × (length buffer.old ≡ max_segments) }
     requires xs_len { (length xs.now ≡ length classes.now) × SizedTo 134217728 xs.now × lists.BelowAt (length xs.now) right.now (chain pair_link.now pair) }
-    ensures { result ≡ spec.leastOr
+    ensures { result ≡ spec.least_or
         (spec.middle (lists.offsets c classes.now xs.now uppers.now lowers.now (chain segment_link.now segment)))
         (lists.slacks gap halves.now xs.now order.now right.now (chain pair_link.now pair)) }
 {
@@ -134,7 +134,7 @@ pub fn shift(
     xs: &mut [i64],
 )
     requires shiftable { lists.Shiftable gap halves.now order.now right.now uppers.now lowers.now classes.now }
-    requires levels_le_max_levels { (levels ≤ maxLevels) × (length xs.old ≡ length classes.now) × lists.Spread 1 512000 classes.now xs.old }
+    requires levels_le_max_levels { (levels ≤ max_levels) × (length xs.old ≡ length classes.now) × lists.Spread 1 512000 classes.now xs.old }
     ensures { lists.Shifted levels gap halves.now order.now right.now
         uppers.now lowers.now classes.now xs.old xs.new }
 {

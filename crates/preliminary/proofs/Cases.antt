@@ -6,17 +6,17 @@ use lib.IntN.{pos, negsuc}
 use Rattle.plan.specs.Plan.{PlanData, data_of}
 use Rattle.plan.specs.Acceptable.{acceptable}
 use Rattle.preliminary.specs.Positions.{preliminary}
-use Rattle.preliminary.proofs.Open.{preliminaryOpen}
+use Rattle.preliminary.proofs.Open.{preliminary_open}
 use Rattle.plan.proofs.Case1.{case1}
 
 -- Case 1: positions are in half steps, not halved.
 -- it passes the checks, so the theorems speak of it
 pub case1-acceptable : acceptable case1 ≡ true
-unfolding preliminaryOpen
+unfolding preliminary_open
 case1-acceptable = refl
 
 pub case1-positions : preliminary case1 ≡ negsuc 7 ∷ pos 8 ∷ negsuc 4 ∷ pos 5 ∷ pos 0 ∷ []
-unfolding preliminaryOpen
+unfolding preliminary_open
 case1-positions = refl
 
 -- The ⌈s/2⌉-th smallest in a shift, whatever the ratings: by them the first neighbour would be the middle one.
@@ -30,7 +30,7 @@ shifted =
     (100 ∷ 1 ∷ 1 ∷ [])
 
 pub shifted-positions : preliminary shifted ≡ negsuc 402 ∷ negsuc 0 ∷ pos 403 ∷ negsuc 0 ∷ []
-unfolding preliminaryOpen
+unfolding preliminary_open
 shifted-positions = refl
 
 -- In a shift only segments to a lower class count. Class 2 is the strand 2, 4, 5 and box 6: segments to its own class (2 to 4, 4 to 5)
@@ -45,9 +45,9 @@ lower_only =
     (1 ∷ 1 ∷ 1 ∷ 1 ∷ 1 ∷ [])
 
 pub lower-only-acceptable : acceptable lower_only ≡ true
-unfolding preliminaryOpen
+unfolding preliminary_open
 lower-only-acceptable = refl
 
 pub lower-only-positions : preliminary lower_only ≡ negsuc 2 ∷ pos 3 ∷ pos 3 ∷ negsuc 0 ∷ pos 3 ∷ pos 3 ∷ pos 7 ∷ pos 3 ∷ []
-unfolding preliminaryOpen
+unfolding preliminary_open
 lower-only-positions = refl

@@ -11,14 +11,14 @@ use lib.ListN.{length, get_or}
 use lib.IntN.{ℤ, pos, ◌+ℤ◌, ◌-ℤ◌}
 use lib.Signed.{lt_z, le_z}
 use borrow.Author.Tests.{eqb-true}
-use Rattle.ints.specs.Ints.{P, N, minZ}
+use Rattle.ints.specs.Ints.{P, N, min_z}
 use Rattle.ints.proofs.Laws.{sum, dif, if-ind}
-use Rattle.plan.specs.Plan.{PlanData, vertexCount, distance, Siblings, numbers}
-use Rattle.plan.specs.Segments.{Segment, segmentsOf}
+use Rattle.plan.specs.Plan.{PlanData, vertex_count, distance, Siblings, numbers}
+use Rattle.plan.specs.Segments.{Segment, segments_of}
 use Rattle.ints.specs.inner.Members.{Mem}
 use Rattle.plan.proofs.Sound.{Sound, distance_high}
 use Rattle.ints.proofs.Tests.{and_left}
-use Rattle.preliminary.specs.Shift.{class_at, placeAt, gapsIn, offsetsIn, insert, sort, middle, leastOf, leastOr, shift_of, moved, shiftEach}
+use Rattle.preliminary.specs.Shift.{class_at, place_at, gaps_in, offsets_in, insert, sort, middle, least_of, least_or, shift_of, moved, shift_each}
 use Rattle.preliminary.proofs.Give.{alike}
 use Rattle.preliminary.proofs.Shifted.{moved-long, moved_in, moved_out}
 
@@ -51,78 +51,78 @@ module _ (Q : ℤ → Type 0) where
   unfolding middle
   each-middle xs z f = each_read (sort xs) ((length xs + 1) / 2 - 1) z (each-sort xs f)
 
-  each-least : (x : ℤ) (ys : List ℤ) → Q x → Each ys → Q (leastOf x ys)
-  unfolding leastOf
+  each-least : (x : ℤ) (ys : List ℤ) → Q x → Each ys → Q (least_of x ys)
+  unfolding least_of
   each-least x [] q f = q
-  each-least x (y ∷ ys) q f = each-least (minZ x y) ys (if-ind (lt_z y x) y x Q (λ t. f y (inl refl)) (λ t. q)) (λ z m. f z (inr m))
+  each-least x (y ∷ ys) q f = each-least (min_z x y) ys (if-ind (lt_z y x) y x Q (λ t. f y (inl refl)) (λ t. q)) (λ z m. f z (inr m))
 
-  each_or : (other : ℤ) (ys : List ℤ) → Q other → Each ys → Q (leastOr other ys)
+  each_or : (other : ℤ) (ys : List ℤ) → Q other → Each ys → Q (least_or other ys)
   each_or other [] q f = q
   each_or other (x ∷ ys) q f = each-least x ys (f x (inl refl)) (λ z m. f z (inr m))
 
 -- ---- before class c is shifted every position is within ±m, and those of classes from c on are where they were placed
 pub record Bounded (p : PlanData) (cs : List ℕ) (c m : ℕ) (xs : List ℤ) : Type 0 where
-  pub long : length xs ≡ vertexCount p
-  pub right : (v : ℕ) → v < vertexCount p → P (placeAt xs v) ≤ m
-  pub left : (v : ℕ) → v < vertexCount p → N (placeAt xs v) ≤ m
-  pub unmoved : (v : ℕ) → v < vertexCount p → c ≤ class_at cs v → (P (placeAt xs v) ≤ 512000) × (N (placeAt xs v) ≡ 0)
+  pub long : length xs ≡ vertex_count p
+  pub right : (v : ℕ) → v < vertex_count p → P (place_at xs v) ≤ m
+  pub left : (v : ℕ) → v < vertex_count p → N (place_at xs v) ≤ m
+  pub unmoved : (v : ℕ) → v < vertex_count p → c ≤ class_at cs v → (P (place_at xs v) ≤ 512000) × (N (place_at xs v) ≡ 0)
 
 -- a shift of at most m to the right and m + 512,500 to the left
 record Step (m : ℕ) (d : ℤ) : Type 0 where
   pub right : P d ≤ m
   pub left : N d ≤ m + 512500
 
-module _ (p : PlanData) (S : Sound p) (ss : List Siblings) (cs : List ℕ) (long : length cs ≡ vertexCount p)
-    (inside : (s : Siblings) → Mem s ss → (s.left < vertexCount p) × (s.right < vertexCount p)) where
+module _ (p : PlanData) (S : Sound p) (ss : List Siblings) (cs : List ℕ) (long : length cs ≡ vertex_count p)
+    (inside : (s : Siblings) → Mem s ss → (s.left < vertex_count p) × (s.right < vertex_count p)) where
   module _ (c m : ℕ) (xs : List ℤ) (B : Bounded p cs c m xs) where
-    offset_step : (v w : ℕ) → v < vertexCount p → w < vertexCount p → class_at cs v ≡ c → Step m (placeAt xs w -ℤ placeAt xs v)
-    offset_step v w h k e = let u = B.unmoved v h (omega arith) in let d = dif (placeAt xs w) (placeAt xs v) in
+    offset_step : (v w : ℕ) → v < vertex_count p → w < vertex_count p → class_at cs v ≡ c → Step m (place_at xs w -ℤ place_at xs v)
+    offset_step v w h k e = let u = B.unmoved v h (omega arith) in let d = dif (place_at xs w) (place_at xs v) in
         record { right = omega (arith, B.right w k); left = omega (arith, B.left w k) }
 
-    gap_step : (v w : ℕ) → v < vertexCount p → w < vertexCount p → class_at cs v ≡ c → Step m ((placeAt xs w -ℤ placeAt xs v) -ℤ pos (distance p v w))
-    gap_step v w h k e = let u = B.unmoved v h (omega arith) in let d = dif (placeAt xs w) (placeAt xs v) in
-        let d' = dif (placeAt xs w -ℤ placeAt xs v) (pos (distance p v w)) in let t = distance_high p S.limits v w in
+    gap_step : (v w : ℕ) → v < vertex_count p → w < vertex_count p → class_at cs v ≡ c → Step m ((place_at xs w -ℤ place_at xs v) -ℤ pos (distance p v w))
+    gap_step v w h k e = let u = B.unmoved v h (omega arith) in let d = dif (place_at xs w) (place_at xs v) in
+        let d' = dif (place_at xs w -ℤ place_at xs v) (pos (distance p v w)) in let t = distance_high p S.limits v w in
         record { right = omega (arith, B.right w k); left = omega (arith, B.left w k) }
 
-    gaps-step : (ts : List Siblings) → ((s : Siblings) → Mem s ts → Mem s ss) → Each (Step m) (gapsIn p cs xs c ts)
-    unfolding gapsIn
+    gaps-step : (ts : List Siblings) → ((s : Siblings) → Mem s ts → Mem s ss) → Each (Step m) (gaps_in p cs xs c ts)
+    unfolding gaps_in
     gaps-step [] f = λ y n. absurd n
     gaps-step (t ∷ ts) f =
         let more = gaps-step ts (λ s n. f s (inr n)) in
         if-ind (eqb (class_at cs t.left) c && not (eqb (class_at cs t.right) c))
-        (((placeAt xs t.right -ℤ placeAt xs t.left) -ℤ pos (distance p t.left t.right)) ∷ gapsIn p cs xs c ts) (gapsIn p cs xs c ts) (Each (Step m))
-        (λ k. each-cons (Step m) ((placeAt xs t.right -ℤ placeAt xs t.left) -ℤ pos (distance p t.left t.right)) (gapsIn p cs xs c ts)
+        (((place_at xs t.right -ℤ place_at xs t.left) -ℤ pos (distance p t.left t.right)) ∷ gaps_in p cs xs c ts) (gaps_in p cs xs c ts) (Each (Step m))
+        (λ k. each-cons (Step m) ((place_at xs t.right -ℤ place_at xs t.left) -ℤ pos (distance p t.left t.right)) (gaps_in p cs xs c ts)
         (gap_step t.left t.right (inside t (f t (inl refl))).0 (inside t (f t (inl refl))).1
         (eqb-true (class_at cs t.left) c (and_left (eqb (class_at cs t.left) c) (not (eqb (class_at cs t.right) c)) k))) more)
         (λ k. more)
 
-    offsets-step : (gs : List Segment) → ((s : Segment) → Mem s gs → (s.upper < vertexCount p) × (s.lower < vertexCount p)) → Each (Step m) (offsetsIn cs xs c gs)
-    unfolding offsetsIn
+    offsets-step : (gs : List Segment) → ((s : Segment) → Mem s gs → (s.upper < vertex_count p) × (s.lower < vertex_count p)) → Each (Step m) (offsets_in cs xs c gs)
+    unfolding offsets_in
     offsets-step [] f = λ y n. absurd n
     offsets-step (g ∷ gs) f =
         let a = g.upper in let b = g.lower in
         let i = f g (inl refl) in
         let more = offsets-step gs (λ s n. f s (inr n)) in
-        let down = placeAt xs b -ℤ placeAt xs a in let up = placeAt xs a -ℤ placeAt xs b in
-        if-ind (eqb (class_at cs a) c && ltb (class_at cs b) c) (down ∷ offsetsIn cs xs c gs)
-        (cond (eqb (class_at cs b) c && ltb (class_at cs a) c) (up ∷ offsetsIn cs xs c gs) (offsetsIn cs xs c gs)) (Each (Step m))
-        (λ k. each-cons (Step m) down (offsetsIn cs xs c gs) (offset_step a b i.0 i.1 (eqb-true (class_at cs a) c (and_left (eqb (class_at cs a) c) (ltb (class_at cs b) c) k))) more)
-        (λ j. if-ind (eqb (class_at cs b) c && ltb (class_at cs a) c) (up ∷ offsetsIn cs xs c gs) (offsetsIn cs xs c gs) (Each (Step m))
-        (λ k. each-cons (Step m) up (offsetsIn cs xs c gs) (offset_step b a i.1 i.0 (eqb-true (class_at cs b) c (and_left (eqb (class_at cs b) c) (ltb (class_at cs a) c) k))) more)
+        let down = place_at xs b -ℤ place_at xs a in let up = place_at xs a -ℤ place_at xs b in
+        if-ind (eqb (class_at cs a) c && ltb (class_at cs b) c) (down ∷ offsets_in cs xs c gs)
+        (cond (eqb (class_at cs b) c && ltb (class_at cs a) c) (up ∷ offsets_in cs xs c gs) (offsets_in cs xs c gs)) (Each (Step m))
+        (λ k. each-cons (Step m) down (offsets_in cs xs c gs) (offset_step a b i.0 i.1 (eqb-true (class_at cs a) c (and_left (eqb (class_at cs a) c) (ltb (class_at cs b) c) k))) more)
+        (λ j. if-ind (eqb (class_at cs b) c && ltb (class_at cs a) c) (up ∷ offsets_in cs xs c gs) (offsets_in cs xs c gs) (Each (Step m))
+        (λ k. each-cons (Step m) up (offsets_in cs xs c gs) (offset_step b a i.1 i.0 (eqb-true (class_at cs b) c (and_left (eqb (class_at cs b) c) (ltb (class_at cs a) c) k))) more)
         (λ k. more))
 
     shift-step : Step m (shift_of p ss cs c xs)
     unfolding shift_of
-    shift-step = each_or (Step m) (middle (offsetsIn cs xs c (segmentsOf p))) (gapsIn p cs xs c ss)
-        (each-middle (Step m) (offsetsIn cs xs c (segmentsOf p)) (record { right = omega arith; left = omega arith })
-        (offsets-step (segmentsOf p) (λ s n. ((S.down s n).upper_in, (S.down s n).lower_in))))
+    shift-step = each_or (Step m) (middle (offsets_in cs xs c (segments_of p))) (gaps_in p cs xs c ss)
+        (each-middle (Step m) (offsets_in cs xs c (segments_of p)) (record { right = omega arith; left = omega arith })
+        (offsets-step (segments_of p) (λ s n. ((S.down s n).upper_in, (S.down s n).lower_in))))
         (gaps-step ss (λ s n. n))
 
     bounded-step : Bounded p cs (suc c) (m + 512500) (moved c (shift_of p ss cs c xs) cs xs)
     bounded-step = record {
       long = moved-long c d cs xs e ∙ B.long;
-      right = λ v h. alike (class_at cs v) c (λ q. rw (goes v h q) (omega (arith, B.unmoved v h (omega arith), sum (placeAt xs v) d, shift-step))) (λ q. rw (stays v h q) (omega (arith, B.right v h)));
-      left = λ v h. alike (class_at cs v) c (λ q. rw (goes v h q) (omega (arith, B.unmoved v h (omega arith), sum (placeAt xs v) d, shift-step))) (λ q. rw (stays v h q) (omega (arith, B.left v h)));
+      right = λ v h. alike (class_at cs v) c (λ q. rw (goes v h q) (omega (arith, B.unmoved v h (omega arith), sum (place_at xs v) d, shift-step))) (λ q. rw (stays v h q) (omega (arith, B.right v h)));
+      left = λ v h. alike (class_at cs v) c (λ q. rw (goes v h q) (omega (arith, B.unmoved v h (omega arith), sum (place_at xs v) d, shift-step))) (λ q. rw (stays v h q) (omega (arith, B.left v h)));
       unmoved = λ v h k. rw (stays v h (λ q. omega arith)) (B.unmoved v h (omega arith));
     }
       where
@@ -132,14 +132,14 @@ module _ (p : PlanData) (S : Sound p) (ss : List Siblings) (cs : List ℕ) (long
         e : length cs ≡ length xs
         e = long ∙ sym B.long
 
-        goes : (v : ℕ) → v < vertexCount p → class_at cs v ≡ c → placeAt (moved c d cs xs) v ≡ placeAt xs v +ℤ d
+        goes : (v : ℕ) → v < vertex_count p → class_at cs v ≡ c → place_at (moved c d cs xs) v ≡ place_at xs v +ℤ d
         goes v h q = moved_in c d cs xs v e (omega (arith, B.long)) q
 
-        stays : (v : ℕ) → v < vertexCount p → (class_at cs v ≡ c → ⊥) → placeAt (moved c d cs xs) v ≡ placeAt xs v
+        stays : (v : ℕ) → v < vertex_count p → (class_at cs v ≡ c → ⊥) → place_at (moved c d cs xs) v ≡ place_at xs v
         stays v h q = moved_out c d cs xs v e (omega (arith, B.long)) q
 
-  pub bounded-all : (c k m : ℕ) (xs : List ℤ) → Bounded p cs c m xs → Bounded p cs (c + k) (m + k * 512500) (shiftEach p ss cs (numbers c k) xs)
-  unfolding numbers shiftEach
+  pub bounded-all : (c k m : ℕ) (xs : List ℤ) → Bounded p cs c m xs → Bounded p cs (c + k) (m + k * 512500) (shift_each p ss cs (numbers c k) xs)
+  unfolding numbers shift_each
   bounded-all c zero m xs B = let e : c + 0 ≡ c = omega arith in let e' : m + 0 * 512500 ≡ m = omega arith in rw (e, e') B
   bounded-all c (suc k) m xs B =
       let e : c + suc k ≡ c + 1 + k = omega arith in let e' : c + 1 ≡ suc c = omega arith in let e'' : m + suc k * 512500 ≡ m + 512500 + k * 512500 = omega arith in

@@ -1,10 +1,10 @@
 -- The one computed check: every case holds.
 use mathlib.Core.Path.{refl}
 use Rattle.report.specs.Cases.{Cases, boxes}
-use Rattle.report.proofs.Open.{reportOpen}
+use Rattle.report.proofs.Open.{report_open}
 
 pub cases : Cases
-unfolding reportOpen boxes
+unfolding report_open boxes
 cases = record {
   case1 = refl;
   case2 = refl;

@@ -1,9 +1,9 @@
--- Named on an `unfolding` line, `reportOpen` opens every definition from the bytes of a text to those of its report.
-use Rattle.text.proofs.Cases.{textOpen}
-use Rattle.passes.proofs.Open.{passesOpen}
-use Rattle.report.specs.Lines.{drawingLine, atLine, atLineOf, boxWords, placeLine, reportLines}
-use Rattle.report.specs.Printed.{refusedLine, printedOf, printed}
+-- Named on an `unfolding` line, `report_open` opens every definition from the bytes of a text to those of its report.
+use Rattle.text.proofs.Cases.{text_open}
+use Rattle.passes.proofs.Open.{passes_open}
+use Rattle.report.specs.Lines.{drawing_line, at_line, at_line_of, box_words, place_line, report_lines}
+use Rattle.report.specs.Printed.{refused_line, printed_of, printed}
 
-unfoldable pub reportOpen : Unit {0}
-unfolding textOpen passesOpen drawingLine atLine atLineOf boxWords placeLine reportLines refusedLine printedOf printed
-reportOpen = tt
+unfoldable pub report_open : Unit {0}
+unfolding text_open passes_open drawing_line at_line at_line_of box_words place_line report_lines refused_line printed_of printed
+report_open = tt

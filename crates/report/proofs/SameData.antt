@@ -7,7 +7,7 @@ use borrow.Author.Tests.{eqb-true, eq-eqb}
 use lib.Dec.{eqb}
 use Rattle.plan.specs.Plan.{PlanData}
 use Rattle.ints.proofs.Tests.{conj-at, test, ◌and◌}
-use Rattle.report.specs.Refusal13.{same_numbers, sameKinds, sameData}
+use Rattle.report.specs.Refusal13.{same_numbers, same_kinds, same_data}
 use Rattle.text.proofs.Words.{never}
 
 pub numbers-equal : (ms ns : List ℕ) → same_numbers ms ns ≡ true → ms ≡ ns
@@ -24,8 +24,8 @@ unfolding same_numbers
 numbers-same [] = refl
 numbers-same (n ∷ ns) = rw (eq-eqb n n refl, numbers-same ns)
 
-kinds-equal : (ms ns : List Bool) → sameKinds ms ns ≡ true → ms ≡ ns
-unfolding sameKinds
+kinds-equal : (ms ns : List Bool) → same_kinds ms ns ≡ true → ms ≡ ns
+unfolding same_kinds
 kinds-equal [] [] e = refl
 kinds-equal [] (n ∷ ns) e = never e
 kinds-equal (m ∷ ms) [] e = never e
@@ -34,23 +34,23 @@ kinds-equal (true ∷ ms) (false ∷ ns) e = never e
 kinds-equal (false ∷ ms) (true ∷ ns) e = never e
 kinds-equal (false ∷ ms) (false ∷ ns) e = rw (kinds-equal ms ns e)
 
-kinds-same : (ns : List Bool) → sameKinds ns ns ≡ true
-unfolding sameKinds
+kinds-same : (ns : List Bool) → same_kinds ns ns ≡ true
+unfolding same_kinds
 kinds-same [] = refl
 kinds-same (true ∷ ns) = kinds-same ns
 kinds-same (false ∷ ns) = kinds-same ns
 
--- the tests of `sameData` after the first
-abbrev furtherSame : PlanData → PlanData → List Bool
-furtherSame p q =
+-- the tests of `same_data` after the first
+abbrev further_same : PlanData → PlanData → List Bool
+further_same p q =
     eqb p.gap q.gap ∷ eqb p.spacing q.spacing
-    ∷ same_numbers p.sizes q.sizes ∷ sameKinds p.vias q.vias ∷ same_numbers p.halves q.halves
+    ∷ same_numbers p.sizes q.sizes ∷ same_kinds p.vias q.vias ∷ same_numbers p.halves q.halves
     ∷ same_numbers p.uppers q.uppers ∷ same_numbers p.lowers q.lowers ∷ same_numbers p.ratings q.ratings ∷ []
 
-pub data-equal : (p q : PlanData) → sameData p q ≡ true → p ≡ q
-unfolding sameData
+pub data-equal : (p q : PlanData) → same_data p q ≡ true → p ≡ q
+unfolding same_data
 data-equal p q e =
-    let test = conj-at (eqb p.levels q.levels) (furtherSame p q) e in
+    let test = conj-at (eqb p.levels q.levels) (further_same p q) e in
     λ i. record {
       levels = eqb-true p.levels q.levels (test 0) i;
       gap = eqb-true p.gap q.gap (test 1) i;
@@ -63,8 +63,8 @@ data-equal p q e =
       ratings = numbers-equal p.ratings q.ratings (test 8) i;
     }
 
-pub data-same : (p : PlanData) → sameData p p ≡ true
-unfolding sameData
+pub data-same : (p : PlanData) → same_data p p ≡ true
+unfolding same_data
 data-same p =
     eq-eqb p.levels p.levels refl and eq-eqb p.gap p.gap refl and eq-eqb p.spacing p.spacing refl
     and numbers-same p.sizes and kinds-same p.vias and numbers-same p.halves

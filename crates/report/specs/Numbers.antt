@@ -7,20 +7,20 @@ use Rattle.passes.specs.State.{position_of}
 use Rattle.passes.specs.Drawing.{BoxAt, Placing, Drawing}
 
 -- "at-lines in their order": the n-th position is that of the vertex remembered as n.
-abbrev pub positionsBy : List ℕ → List ℤ → List ℤ
-positionsBy m xs = map (position_of xs) (inverse m)
+abbrev pub positions_by : List ℕ → List ℤ → List ℤ
+positions_by m xs = map (position_of xs) (inverse m)
 
 -- A box, named by its number.
-abbrev pub boxBy : List ℕ → BoxAt → BoxAt
-boxBy m b = record { vertex = get_or m b.vertex 0; position = b.position }
+abbrev pub box_by : List ℕ → BoxAt → BoxAt
+box_by m b = record { vertex = get_or m b.vertex 0; position = b.position }
 
 -- "placings left to right": in the order that they had.
-abbrev pub placingBy : List ℕ → Placing → Placing
-placingBy m q = record { pass = q.pass; level = q.level; boxes = map (boxBy m) q.boxes }
+abbrev pub placing_by : List ℕ → Placing → Placing
+placing_by m q = record { pass = q.pass; level = q.level; boxes = map (box_by m) q.boxes }
 
-abbrev pub inNumbers : List ℕ → Drawing → Drawing
-inNumbers m d = record {
-  preliminary = positionsBy m d.preliminary;
-  final = positionsBy m d.final;
-  placings = map (placingBy m) d.placings;
+abbrev pub in_numbers : List ℕ → Drawing → Drawing
+in_numbers m d = record {
+  preliminary = positions_by m d.preliminary;
+  final = positions_by m d.final;
+  placings = map (placing_by m) d.placings;
 }

@@ -1,6 +1,6 @@
 // A drawing in arrays, and the counts of what is in arrays.
 ghost use Rattle.std.specs.Prelude.{◌≡◌};
-ghost use Rattle.report.specs.Arrays.{arraysOf, noDrawing};
+ghost use Rattle.report.specs.Arrays.{arrays_of, no_drawing};
 
 use plan::data::Plan;
 
@@ -23,7 +23,7 @@ impl Drawing {
 
     // 0 throughout.
     pub fn empty() -> Self
-        ensures { result ≡ arraysOf noDrawing }
+        ensures { result ≡ arrays_of no_drawing }
     {
         Self {
             preliminary: [0; Plan::MAX_VERTICES],

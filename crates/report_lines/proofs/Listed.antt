@@ -12,19 +12,19 @@ use lib.Seq.{drop-cons, drop-drop, take-add, take-take}
 use lib.IntN.{ℤ}
 use Rattle.ints.specs.Lists.{sum}
 use Rattle.ints.proofs.Tests.{conj-at}
-use Rattle.passes.specs.Drawing.{BoxAt, Placing, Drawing, boxesWith}
-use Rattle.passes.specs.Stored.{placingsFrom}
-use Rattle.ints.specs.Reach.{allWithin}
+use Rattle.passes.specs.Drawing.{BoxAt, Placing, Drawing, boxes_with}
+use Rattle.passes.specs.Stored.{placings_from}
+use Rattle.ints.specs.Reach.{all_within}
 use Rattle.ints.proofs.Reach.{within-take, within-right}
-use Rattle.passes.specs.Words.{boxesListed, maxListed, drawingWithin}
+use Rattle.passes.specs.Words.{boxes_listed, max_listed, drawing_within}
 use Rattle.report_lines.specs.inner.Forms.{placing}
-use Rattle.report_lines.specs.inner.Stored.{placingOf, drawingFrom, Stored}
+use Rattle.report_lines.specs.inner.Stored.{placing_of, drawing_from, Stored}
 
-abbrev pub noPlacing : Placing
-noPlacing = record { pass = 0; level = 0; boxes = [] }
+abbrev pub no_placing : Placing
+no_placing = record { pass = 0; level = 0; boxes = [] }
 
-pub placings-count : (qs ls cs vs : List ℕ) (ys : List ℤ) → length ls ≡ length qs → length cs ≡ length qs → length (placingsFrom qs ls cs vs ys) ≡ length qs
-unfolding placingsFrom
+pub placings-count : (qs ls cs vs : List ℕ) (ys : List ℤ) → length ls ≡ length qs → length cs ≡ length qs → length (placings_from qs ls cs vs ys) ≡ length qs
+unfolding placings_from
 placings-count [] ls cs vs ys e f = refl
 placings-count (q ∷ qs) [] cs vs ys e f = absurd (omega arith)
 placings-count (q ∷ qs) (l ∷ ls) [] vs ys e f = absurd (omega arith)
@@ -32,8 +32,8 @@ placings-count (q ∷ qs) (l ∷ ls) (c ∷ cs) vs ys e f = ap suc (placings-cou
 
 -- the k-th: its boxes start where those before it end
 pub placing-at : (qs ls cs vs : List ℕ) (ys : List ℤ) (k : ℕ) → length ls ≡ length qs → length cs ≡ length qs → k < length qs
-    → get_or (placingsFrom qs ls cs vs ys) k noPlacing ≡ placingOf qs ls cs vs ys k (sum (take k cs))
-unfolding placingsFrom sum
+    → get_or (placings_from qs ls cs vs ys) k no_placing ≡ placing_of qs ls cs vs ys k (sum (take k cs))
+unfolding placings_from sum
 placing-at [] ls cs vs ys k e f h = absurd (omega arith)
 placing-at (q ∷ qs) [] cs vs ys k e f h = absurd (omega arith)
 placing-at (q ∷ qs) (l ∷ ls) [] vs ys k e f h = absurd (omega arith)
@@ -43,39 +43,39 @@ placing-at (q ∷ qs) (l ∷ ls) (c ∷ cs) vs ys (suc k) e f h =
 
 -- the k-th of those left, and the others
 pub placings-next : (qs ls cs vs : List ℕ) (ys : List ℤ) (k : ℕ) → length ls ≡ length qs → length cs ≡ length qs → k < length qs
-    → placingsFrom (drop k qs) (drop k ls) (drop k cs) vs ys
-    ≡ placing (get_or qs k 0) (get_or ls k 0) (take (get_or cs k 0) vs) (take (get_or cs k 0) ys) ∷ placingsFrom (drop (k + 1) qs) (drop (k + 1) ls) (drop (k + 1) cs) (drop (get_or cs k 0) vs) (drop (get_or cs k 0) ys)
-unfolding placingsFrom
+    → placings_from (drop k qs) (drop k ls) (drop k cs) vs ys
+    ≡ placing (get_or qs k 0) (get_or ls k 0) (take (get_or cs k 0) vs) (take (get_or cs k 0) ys) ∷ placings_from (drop (k + 1) qs) (drop (k + 1) ls) (drop (k + 1) cs) (drop (get_or cs k 0) vs) (drop (get_or cs k 0) ys)
+unfolding placings_from
 placings-next qs ls cs vs ys k e f h =
     let i : k < length ls = omega arith in
     let j : k < length cs = omega arith in
     rw (add-one k, drop-cons qs k 0 h, drop-cons ls k 0 i, drop-cons cs k 0 j)
 
 -- ---- the boxes of all placings
-with_append : (vs ws : List ℕ) (ys zs : List ℤ) → length ys ≡ length vs → boxesWith (vs ++ ws) (ys ++ zs) ≡ boxesWith vs ys ++ boxesWith ws zs
-unfolding boxesWith
+with_append : (vs ws : List ℕ) (ys zs : List ℤ) → length ys ≡ length vs → boxes_with (vs ++ ws) (ys ++ zs) ≡ boxes_with vs ys ++ boxes_with ws zs
+unfolding boxes_with
 with_append [] ws [] zs e = refl
 with_append [] ws (y ∷ ys) zs e = absurd (omega arith)
 with_append (v ∷ vs) ws [] zs e = absurd (omega arith)
 with_append (v ∷ vs) ws (y ∷ ys) zs e = rw (with_append vs ws ys zs (omega arith))
 
-pub positions-with : (vs : List ℕ) (ys : List ℤ) → length ys ≡ length vs → map (λ (b : BoxAt). b.position) (boxesWith vs ys) ≡ ys
-unfolding boxesWith
+pub positions-with : (vs : List ℕ) (ys : List ℤ) → length ys ≡ length vs → map (λ (b : BoxAt). b.position) (boxes_with vs ys) ≡ ys
+unfolding boxes_with
 positions-with [] [] e = refl
 positions-with [] (y ∷ ys) e = absurd (omega arith)
 positions-with (v ∷ vs) [] e = absurd (omega arith)
 positions-with (v ∷ vs) (y ∷ ys) e = ap (λ (l : List ℤ). y ∷ l) (positions-with vs ys (omega arith))
 
-pub vertices-with : (vs : List ℕ) (ys : List ℤ) → length ys ≡ length vs → map (λ (b : BoxAt). b.vertex) (boxesWith vs ys) ≡ vs
-unfolding boxesWith
+pub vertices-with : (vs : List ℕ) (ys : List ℤ) → length ys ≡ length vs → map (λ (b : BoxAt). b.vertex) (boxes_with vs ys) ≡ vs
+unfolding boxes_with
 vertices-with [] ys e = refl
 vertices-with (v ∷ vs) [] e = absurd (omega arith)
 vertices-with (v ∷ vs) (y ∷ ys) e = ap (λ (l : List ℕ). v ∷ l) (vertices-with vs ys (omega arith))
 
 -- what lies past them in their arrays is no box
 pub boxes-listed : (qs ls cs vs : List ℕ) (ys : List ℤ) → length ls ≡ length qs → length cs ≡ length qs → sum cs ≤ length vs → sum cs ≤ length ys
-    → boxesListed (placingsFrom qs ls cs vs ys) ≡ boxesWith (take (sum cs) vs) (take (sum cs) ys)
-unfolding placingsFrom boxesListed sum boxesWith
+    → boxes_listed (placings_from qs ls cs vs ys) ≡ boxes_with (take (sum cs) vs) (take (sum cs) ys)
+unfolding placings_from boxes_listed sum boxes_with
 boxes-listed [] ls [] vs ys e f g h = refl
 boxes-listed [] ls (c ∷ cs) vs ys e f g h = absurd (omega arith)
 boxes-listed (q ∷ qs) [] cs vs ys e f g h = absurd (omega arith)
@@ -91,40 +91,40 @@ module _ (qs ls cs vs : List ℕ) (ys : List ℤ) (e : length ls ≡ length qs) 
   as_many : length (take (sum cs) ys) ≡ length (take (sum cs) vs)
   as_many = simp length-take (omega arith)
 
-  positions-listed : map (λ (b : BoxAt). b.position) (boxesListed (placingsFrom qs ls cs vs ys)) ≡ take (sum cs) ys
+  positions-listed : map (λ (b : BoxAt). b.position) (boxes_listed (placings_from qs ls cs vs ys)) ≡ take (sum cs) ys
   positions-listed = ap (map (λ (b : BoxAt). b.position)) (boxes-listed qs ls cs vs ys e f g h) ∙ positions-with (take (sum cs) vs) (take (sum cs) ys) as_many
 
-  pub vertices-listed : map (λ (b : BoxAt). b.vertex) (boxesListed (placingsFrom qs ls cs vs ys)) ≡ take (sum cs) vs
+  pub vertices-listed : map (λ (b : BoxAt). b.vertex) (boxes_listed (placings_from qs ls cs vs ys)) ≡ take (sum cs) vs
   vertices-listed = ap (map (λ (b : BoxAt). b.vertex)) (boxes-listed qs ls cs vs ys e f g h) ∙ vertices-with (take (sum cs) vs) (take (sum cs) ys) as_many
 
 -- a part of what is within reach
-pub part-within : (n s c : ℕ) (ys : List ℤ) → s + c ≤ n → allWithin (take n ys) ≡ true → allWithin (take c (drop s ys)) ≡ true
+pub part-within : (n s c : ℕ) (ys : List ℤ) → s + c ≤ n → all_within (take n ys) ≡ true → all_within (take c (drop s ys)) ≡ true
 part-within n s c ys h e = within-right (take s ys) (take c (drop s ys)) (rw (take-take (s + c) n ys h, take-add s c ys) at (within-take (s + c) (take n ys) e))
 
-module _ (d : Drawing) (e : drawingWithin d ≡ true) where
-  within-parts : (i : ℕ) → get_or (allWithin d.preliminary ∷ allWithin d.final ∷ allWithin (map (λ (b : BoxAt). b.position) (boxesListed d.placings))
-      ∷ leb (length d.placings) maxListed ∷ leb (length (boxesListed d.placings)) maxListed ∷ []) i true ≡ true
-  unfolding drawingWithin
-  within-parts = conj-at (allWithin d.preliminary) (allWithin d.final ∷ allWithin (map (λ (b : BoxAt). b.position) (boxesListed d.placings))
-      ∷ leb (length d.placings) maxListed ∷ leb (length (boxesListed d.placings)) maxListed ∷ []) e
+module _ (d : Drawing) (e : drawing_within d ≡ true) where
+  within-parts : (i : ℕ) → get_or (all_within d.preliminary ∷ all_within d.final ∷ all_within (map (λ (b : BoxAt). b.position) (boxes_listed d.placings))
+      ∷ leb (length d.placings) max_listed ∷ leb (length (boxes_listed d.placings)) max_listed ∷ []) i true ≡ true
+  unfolding drawing_within
+  within-parts = conj-at (all_within d.preliminary) (all_within d.final ∷ all_within (map (λ (b : BoxAt). b.position) (boxes_listed d.placings))
+      ∷ leb (length d.placings) max_listed ∷ leb (length (boxes_listed d.placings)) max_listed ∷ []) e
 
-  pub preliminary-within : allWithin d.preliminary ≡ true
+  pub preliminary-within : all_within d.preliminary ≡ true
   preliminary-within = within-parts 0
 
-  pub final-within : allWithin d.final ≡ true
+  pub final-within : all_within d.final ≡ true
   final-within = within-parts 1
 
-  pub boxes-within : allWithin (map (λ (b : BoxAt). b.position) (boxesListed d.placings)) ≡ true
+  pub boxes-within : all_within (map (λ (b : BoxAt). b.position) (boxes_listed d.placings)) ≡ true
   boxes-within = within-parts 2
 
-  pub few-placings : length d.placings ≤ maxListed
-  few-placings = leb-true (length d.placings) maxListed (within-parts 3)
+  pub few-placings : length d.placings ≤ max_listed
+  few-placings = leb-true (length d.placings) max_listed (within-parts 3)
 
-  pub few-boxes : length (boxesListed d.placings) ≤ maxListed
-  few-boxes = leb-true (length (boxesListed d.placings)) maxListed (within-parts 4)
+  pub few-boxes : length (boxes_listed d.placings) ≤ max_listed
+  few-boxes = leb-true (length (boxes_listed d.placings)) max_listed (within-parts 4)
 
 pub listed-within : {preliminary finals : List ℤ} {passes levels counts vertices : List ℕ} {positions : List ℤ} → Stored preliminary finals passes levels counts vertices positions
-    → allWithin (take (sum counts) positions) ≡ true
+    → all_within (take (sum counts) positions) ≡ true
 listed-within {preliminary} {finals} {passes} {levels} {counts} {vertices} {positions} s =
-    rw (positions-listed passes levels counts vertices positions s.ofLevels s.ofCounts s.ofVertices s.ofPositions)
-    at (boxes-within (drawingFrom preliminary finals passes levels counts vertices positions) s.within)
+    rw (positions-listed passes levels counts vertices positions s.of_levels s.of_counts s.of_vertices s.of_positions)
+    at (boxes-within (drawing_from preliminary finals passes levels counts vertices positions) s.within)

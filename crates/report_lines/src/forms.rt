@@ -3,10 +3,10 @@ ghost use Rattle.std.specs.Prelude.{◌≡◌, true, [], ◌∷◌, ◌++◌, �
 ghost use Rattle.ints.specs.Ints.{size};
 ghost use Rattle.text.specs.Decimal.{signed};
 ghost use Rattle.text_write.specs.inner.Written.{Room, Wrote};
-ghost use Rattle.passes.specs.Drawing.{boxesWith};
-ghost use Rattle.ints.specs.Reach.{reach, allWithin};
-ghost use Rattle.report.specs.Lines.{drawingLine, atLine, boxWords, placeLine};
-ghost use Rattle.report_lines.specs.inner.Forms.{boxAt, placing, placeHead};
+ghost use Rattle.passes.specs.Drawing.{boxes_with};
+ghost use Rattle.ints.specs.Reach.{reach, all_within};
+ghost use Rattle.report.specs.Lines.{drawing_line, at_line, box_words, place_line};
+ghost use Rattle.report_lines.specs.inner.Forms.{box_at, placing, place_head};
 
 use text_write::number::{put_decimal, put_signed, put_then, put_word};
 
@@ -21,8 +21,8 @@ fn put_position(out: &mut [u8], at: usize, z: i64, word: &[u8]) -> usize
 
 // "(drawing V P)"
 pub fn put_drawing(out: &mut [u8], at: usize, vertices: usize, placings: usize) -> usize
-    requires { Room (drawingLine vertices placings) out.old at }
-    ensures { Wrote (drawingLine vertices placings) out.old at result out.new }
+    requires { Room (drawing_line vertices placings) out.old at }
+    ensures { Wrote (drawing_line vertices placings) out.old at result out.new }
 {
     let v = put_word(out, at, b"(drawing ");
     let p = put_then(out, v, vertices as u64, b" ");
@@ -31,8 +31,8 @@ pub fn put_drawing(out: &mut [u8], at: usize, vertices: usize, placings: usize) 
 
 // "(at n p x y)"
 pub fn put_at(out: &mut [u8], at: usize, n: u64, p: i64, x: i64, y: u64) -> usize
-    requires { (size p ≤ reach) × (size x ≤ reach) × Room (atLine n p x y) out.old at }
-    ensures { Wrote (atLine n p x y) out.old at result out.new }
+    requires { (size p ≤ reach) × (size x ≤ reach) × Room (at_line n p x y) out.old at }
+    ensures { Wrote (at_line n p x y) out.old at result out.new }
 {
     let number = put_word(out, at, b"(at ");
     let before = put_then(out, number, n, b" ");
@@ -43,8 +43,8 @@ pub fn put_at(out: &mut [u8], at: usize, n: u64, p: i64, x: i64, y: u64) -> usiz
 
 // " (n x)"
 fn put_box(out: &mut [u8], at: usize, vertex: u16, position: i64) -> usize
-    requires { (size position ≤ reach) × Room (boxWords (boxAt vertex position ∷ [])) out.old at }
-    ensures { Wrote (boxWords (boxAt vertex position ∷ [])) out.old at result out.new }
+    requires { (size position ≤ reach) × Room (box_words (box_at vertex position ∷ [])) out.old at }
+    ensures { Wrote (box_words (box_at vertex position ∷ [])) out.old at result out.new }
 {
     let n = put_word(out, at, b" (");
     let x = put_then(out, n, vertex as u64, b" ");
@@ -53,8 +53,8 @@ fn put_box(out: &mut [u8], at: usize, vertex: u16, position: i64) -> usize
 
 // Boxes, each with its position.
 fn put_boxes(out: &mut [u8], from: usize, vertices: &[u16], positions: &[i64]) -> usize
-    requires { (length positions.now ≡ length vertices.now) × (allWithin positions.now ≡ true) × Room (boxWords (boxesWith vertices.now positions.now)) out.old from }
-    ensures { Wrote (boxWords (boxesWith vertices.now positions.now)) out.old from result out.new }
+    requires { (length positions.now ≡ length vertices.now) × (all_within positions.now ≡ true) × Room (box_words (boxes_with vertices.now positions.now)) out.old from }
+    ensures { Wrote (box_words (boxes_with vertices.now positions.now)) out.old from result out.new }
 {
     let mut at = from;
     let mut i: usize = 0;
@@ -67,8 +67,8 @@ fn put_boxes(out: &mut [u8], from: usize, vertices: &[u16], positions: &[i64]) -
 
 // "(place q l"
 fn put_head(out: &mut [u8], at: usize, pass: u16, level: u16) -> usize
-    requires { Room (placeHead pass level) out.old at }
-    ensures { Wrote (placeHead pass level) out.old at result out.new }
+    requires { Room (place_head pass level) out.old at }
+    ensures { Wrote (place_head pass level) out.old at result out.new }
 {
     let q = put_word(out, at, b"(place ");
     let l = put_then(out, q, pass as u64, b" ");
@@ -84,8 +84,8 @@ pub fn put_placing(
     vertices: &[u16],
     positions: &[i64],
 ) -> usize
-    requires { (length positions.now ≡ length vertices.now) × (allWithin positions.now ≡ true) × Room (placeLine (placing pass level vertices.now positions.now)) out.old at }
-    ensures { Wrote (placeLine (placing pass level vertices.now positions.now)) out.old at result out.new }
+    requires { (length positions.now ≡ length vertices.now) × (all_within positions.now ≡ true) × Room (place_line (placing pass level vertices.now positions.now)) out.old at }
+    ensures { Wrote (place_line (placing pass level vertices.now positions.now)) out.old at result out.new }
 {
     let head = put_head(out, at, pass, level);
     let boxes = put_boxes(out, head, vertices, positions);

@@ -1,8 +1,8 @@
 // One line of a report, by its number.
-ghost use Rattle.plan_checks.specs.inner.Heights.{heightAt};
+ghost use Rattle.plan_checks.specs.inner.Heights.{height_at};
 ghost use Rattle.text_write.specs.inner.Written.{Wrote, Fronts};
-ghost use Rattle.report.specs.Lines.{placeLine};
-ghost use Rattle.report_lines.specs.inner.Stored.{heightIn, placingOf, vertexLine, VertexRoom, AtLineRoom, PlacingRoom, reportLineOf, LineRoom};
+ghost use Rattle.report.specs.Lines.{place_line};
+ghost use Rattle.report_lines.specs.inner.Stored.{height_in, placing_of, vertex_line, VertexRoom, AtLineRoom, PlacingRoom, report_line_of, LineRoom};
 
 use crate::forms::{put_at, put_drawing, put_placing};
 use ints::{total, wide};
@@ -20,7 +20,7 @@ pub fn put_vertex(
     v: usize,
 ) -> usize
     requires { VertexRoom heights.now preliminary.now finals.now v out.old at }
-    ensures { Wrote (vertexLine preliminary.now finals.now v (heightIn heights.now v)) out.old at result out.new }
+    ensures { Wrote (vertex_line preliminary.now finals.now v (height_in heights.now v)) out.old at result out.new }
 {
     put_at(out, at, v as u64, preliminary[v], finals[v], heights[v])
 }
@@ -36,7 +36,7 @@ fn put_at_line(
     v: usize,
 ) -> usize
     requires { AtLineRoom spacing sizes.now preliminary.now finals.now v out.old at }
-    ensures { Wrote (vertexLine preliminary.now finals.now v (heightAt spacing sizes.now v)) out.old at result out.new }
+    ensures { Wrote (vertex_line preliminary.now finals.now v (height_at spacing sizes.now v)) out.old at result out.new }
 {
     let mut height = [0u64; Plan::MAX_VERTICES];
     let n = preliminary.len();
@@ -57,7 +57,7 @@ pub fn put_listed(
     start: usize,
 ) -> usize
     requires { PlacingRoom passes.now levels.now counts.now vertices.now positions.now k start out.old at }
-    ensures { Wrote (placeLine (placingOf passes.now levels.now counts.now vertices.now positions.now k start))
+    ensures { Wrote (place_line (placing_of passes.now levels.now counts.now vertices.now positions.now k start))
         out.old at result out.new }
 {
     let end = start + wide(counts[k]);
@@ -86,7 +86,7 @@ pub fn put_report_line(
     out: &mut [u8],
 ) -> usize
     requires { LineRoom spacing sizes.now preliminary.now finals.now passes.now levels.now counts.now vertices.now positions.now n out.old }
-    ensures { Fronts (reportLineOf spacing sizes.now preliminary.now finals.now
+    ensures { Fronts (report_line_of spacing sizes.now preliminary.now finals.now
         passes.now levels.now counts.now vertices.now positions.now n)
         out.old result out.new }
 {

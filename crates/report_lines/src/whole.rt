@@ -1,10 +1,10 @@
 // All lines of a report, one after another, in time that grows with their number: the heights are worked out once, and the placings'
 // boxes are met in their order.
 ghost use Rattle.std.specs.Prelude.{◌+◌, ◌<◌};
-ghost use Rattle.plan_checks.specs.inner.Heights.{heightAt};
+ghost use Rattle.plan_checks.specs.inner.Heights.{height_at};
 ghost use Rattle.text_write.specs.inner.Written.{Wrote, Fronts};
-ghost use Rattle.passes.specs.Stored.{placingsFrom};
-ghost use Rattle.report_lines.specs.inner.Stored.{heightIn, allVertexLines, VerticesRoom, AtLinesRoom, placeLines, PlacingsRoom, reportOf, ReportRoom};
+ghost use Rattle.passes.specs.Stored.{placings_from};
+ghost use Rattle.report_lines.specs.inner.Stored.{height_in, all_vertex_lines, VerticesRoom, AtLinesRoom, place_lines, PlacingsRoom, report_of, ReportRoom};
 
 use crate::forms::put_drawing;
 use crate::numbered::{put_listed, put_vertex};
@@ -22,7 +22,7 @@ fn put_vertices(
     finals: &[i64],
 ) -> usize
     requires { VerticesRoom heights.now preliminary.now finals.now out.old from }
-    ensures { Wrote (allVertexLines preliminary.now finals.now (heightIn heights.now)) out.old from result out.new }
+    ensures { Wrote (all_vertex_lines preliminary.now finals.now (height_in heights.now)) out.old from result out.new }
 {
     let mut at = from;
     let mut n: usize = 0;
@@ -43,7 +43,7 @@ fn put_at_lines(
     finals: &[i64],
 ) -> usize
     requires { AtLinesRoom spacing sizes.now preliminary.now finals.now out.old at }
-    ensures { Wrote (allVertexLines preliminary.now finals.now (heightAt spacing sizes.now)) out.old at result out.new }
+    ensures { Wrote (all_vertex_lines preliminary.now finals.now (height_at spacing sizes.now)) out.old at result out.new }
 {
     let mut height = [0u64; Plan::MAX_VERTICES];
     let n = preliminary.len();
@@ -62,7 +62,7 @@ fn put_placings(
     positions: &[i64],
 ) -> usize
     requires { PlacingsRoom passes.now levels.now counts.now vertices.now positions.now out.old from }
-    ensures { Wrote (placeLines (placingsFrom passes.now levels.now counts.now vertices.now positions.now))
+    ensures { Wrote (place_lines (placings_from passes.now levels.now counts.now vertices.now positions.now))
         out.old from result out.new }
 {
     let mut at = from;
@@ -92,7 +92,7 @@ pub fn put_report(
     out: &mut [u8],
 ) -> usize
     requires { ReportRoom spacing sizes.now preliminary.now finals.now passes.now levels.now counts.now vertices.now positions.now out.old }
-    ensures { Fronts (reportOf spacing sizes.now preliminary.now finals.now
+    ensures { Fronts (report_of spacing sizes.now preliminary.now finals.now
         passes.now levels.now counts.now vertices.now positions.now)
         out.old result out.new }
 {

@@ -9,17 +9,17 @@ use lib.Seq.{length-take-le, take_at, take-take}
 use lib.IntN.{ℤ}
 use Rattle.ints.specs.Lists.{sum}
 use Rattle.ints.proofs.Lists.{map-take, map-drop, drop-part}
-use Rattle.passes.specs.Drawing.{boxesWith}
-use Rattle.passes.specs.Stored.{placingsFrom}
-use Rattle.report.specs.Numbers.{positionsBy, boxBy, placingBy, inNumbers}
+use Rattle.passes.specs.Drawing.{boxes_with}
+use Rattle.passes.specs.Stored.{placings_from}
+use Rattle.report.specs.Numbers.{positions_by, box_by, placing_by, in_numbers}
 use Rattle.report.proofs.Numbers.{positions-long, numbers-within}
-use Rattle.report_lines.specs.inner.Stored.{drawingFrom}
+use Rattle.report_lines.specs.inner.Stored.{drawing_from}
 use Rattle.report_numbers.specs.inner.Words.{Numberable, Numbered}
 
 -- ---- placings
 module _ (m : List ℕ) where
-  boxes-with : (vs : List ℕ) (ys : List ℤ) → boxesWith (map (λ v. get_or m v 0) vs) ys ≡ map (boxBy m) (boxesWith vs ys)
-  unfolding boxesWith
+  boxes-with : (vs : List ℕ) (ys : List ℤ) → boxes_with (map (λ v. get_or m v 0) vs) ys ≡ map (box_by m) (boxes_with vs ys)
+  unfolding boxes_with
   boxes-with [] ys = refl
   boxes-with (v ∷ vs) [] = refl
   boxes-with (v ∷ vs) (y ∷ ys) = rw (boxes-with vs ys)
@@ -33,8 +33,8 @@ module _ (m : List ℕ) where
     rest = sym (drop-part c n ws) ∙ ap (drop c) e ∙ sym (map-drop (λ v. get_or m v 0) c (take (c + n) vs)) ∙ ap (map (λ v. get_or m v 0)) (drop-part c n vs)
 
   placings-by : (qs ls cs vs ws : List ℕ) (ys : List ℤ) → take (sum cs) ws ≡ map (λ v. get_or m v 0) (take (sum cs) vs)
-      → placingsFrom qs ls cs ws ys ≡ map (placingBy m) (placingsFrom qs ls cs vs ys)
-  unfolding placingsFrom sum
+      → placings_from qs ls cs ws ys ≡ map (placing_by m) (placings_from qs ls cs vs ys)
+  unfolding placings_from sum
   placings-by [] ls cs vs ws ys e = refl
   placings-by (q ∷ qs) [] cs vs ws ys e = refl
   placings-by (q ∷ qs) (l ∷ ls) [] vs ws ys e = refl
@@ -43,31 +43,31 @@ module _ (m : List ℕ) where
 
 -- ---- what is left in the lists
 module _ (m counts : List ℕ) (preliminary finals : List ℤ) (vertices : List ℕ) (starts ends : List ℤ) (names : List ℕ)
-    (a : starts ≡ positionsBy m preliminary) (b : ends ≡ positionsBy m finals)
+    (a : starts ≡ positions_by m preliminary) (b : ends ≡ positions_by m finals)
     (e : take (sum counts) names ≡ map (λ v. get_or m v 0) (take (sum counts) vertices)) (h : sum counts ≤ length names) where
   drawing-by : (passes levels : List ℕ) (positions : List ℤ)
-      → drawingFrom starts ends passes levels counts names positions ≡ inNumbers m (drawingFrom preliminary finals passes levels counts vertices positions)
+      → drawing_from starts ends passes levels counts names positions ≡ in_numbers m (drawing_from preliminary finals passes levels counts vertices positions)
   drawing-by passes levels positions = rw (a, b, placings-by m passes levels counts vertices names positions e)
 
   numbered : Numbered m counts preliminary finals vertices starts ends names
   numbered = record {
     drawing = λ passes levels positions s. drawing-by passes levels positions;
     stored = λ passes levels positions s. record {
-      ofFinals = ap length b ∙ positions-long m finals ∙ sym (ap length a ∙ positions-long m preliminary);
-      ofLevels = s.ofLevels;
-      ofCounts = s.ofCounts;
+      of_finals = ap length b ∙ positions-long m finals ∙ sym (ap length a ∙ positions-long m preliminary);
+      of_levels = s.of_levels;
+      of_counts = s.of_counts;
       few = s.few;
-      ofVertices = h;
-      ofPositions = s.ofPositions;
-      within = rw (drawing-by passes levels positions) (numbers-within m (drawingFrom preliminary finals passes levels counts vertices positions) s.within);
+      of_vertices = h;
+      of_positions = s.of_positions;
+      within = rw (drawing-by passes levels positions) (numbers-within m (drawing_from preliminary finals passes levels counts vertices positions) s.within);
     };
   }
 
 -- names at the front of a list
 pub numbered-front : (m counts : List ℕ) (preliminary finals : List ℤ) (vertices : List ℕ) (starts₀ ends₀ : List ℤ) (names₀ : List ℕ)
     → Numberable m counts preliminary finals vertices starts₀ ends₀ names₀ → (starts ends : List ℤ) (named rest : List ℕ) (n : ℕ)
-    → starts ≡ positionsBy m preliminary → ends ≡ positionsBy m finals → n ≡ sum counts → named ≡ map (λ v. get_or m v 0) (take n vertices)
+    → starts ≡ positions_by m preliminary → ends ≡ positions_by m finals → n ≡ sum counts → named ≡ map (λ v. get_or m v 0) (take n vertices)
     → Numbered m counts preliminary finals vertices starts ends (named ++ rest)
 numbered-front m counts preliminary finals vertices starts₀ ends₀ names₀ g starts ends named rest n a b t e =
-    let long : length named ≡ sum counts = ap length e ∙ length-map (take n vertices) (λ v. get_or m v 0) ∙ length-take-le n vertices (omega (arith, g.ofVertices)) ∙ t in
+    let long : length named ≡ sum counts = ap length e ∙ length-map (take n vertices) (λ v. get_or m v 0) ∙ length-take-le n vertices (omega (arith, g.of_vertices)) ∙ t in
     numbered m counts preliminary finals vertices starts ends (named ++ rest) a b (take_at named rest (sum counts) long ∙ rw (← t) e) (omega (arith, length-append named rest))

@@ -7,11 +7,11 @@ use lib.ListN.{length, get_or, set, length-set}
 use lib.Seq.{ext_get_or, get_or-set_same, get_or-set_other}
 use lib.IntN.{ℤ, pos}
 use Rattle.ints.proofs.Laws.{cases}
-use Rattle.ints.proofs.Lists.{map-getD}
+use Rattle.ints.proofs.Lists.{map-get_d}
 use Rattle.plan_renumber.specs.Renumber.{place_in, inverse}
 use Rattle.plan_renumber.proofs.Places.{inverse-long, inverse-at, new-below, old-new, new-old}
 use Rattle.passes.specs.State.{position_of}
-use Rattle.report.specs.Numbers.{positionsBy}
+use Rattle.report.specs.Numbers.{positions_by}
 use Rattle.report.proofs.Numbers.{positions-long}
 use Rattle.report_numbers.specs.inner.Words.{Takes}
 
@@ -40,10 +40,10 @@ module _ {m : List ℕ} {xs out₀ out : List ℤ} {v : ℕ} (g : Takes m xs out
   pub take_on : {n : ℕ} {x : ℤ} → v < length m → n ≡ get_or m v 0 → x ≡ position_of xs v → Taken m xs out₀ (set out n x) (v + 1)
   take_on h e f = rw (e, f) (on h)
 
-  pub take-end : length m ≤ v → out ≡ positionsBy m xs
+  pub take-end : length m ≤ v → out ≡ positions_by m xs
   take-end h =
       let o = g.once in
-      ext_get_or (pos 0) out (positionsBy m xs) (w.long ∙ g.long ∙ sym (positions-long m xs))
+      ext_get_or (pos 0) out (positions_by m xs) (w.long ∙ g.long ∙ sym (positions-long m xs))
       (λ n k. let j : n < length m = omega (arith, w.long, g.long) in
       ap (position_of out) (sym (old-new (length m) m o n j)) ∙ w.each (place_in m n) (omega (arith, new-below (length m) m o n j))
-      ∙ sym (map-getD (position_of xs) (inverse m) n 0 (pos 0) (omega (arith, inverse-long (length m) m o)) ∙ ap (position_of xs) (inverse-at (length m) m o n j)))
+      ∙ sym (map-get_d (position_of xs) (inverse m) n 0 (pos 0) (omega (arith, inverse-long (length m) m o)) ∙ ap (position_of xs) (inverse-at (length m) m o n j)))

@@ -1,6 +1,6 @@
 // A drawing's arrays in remembered numbers.
 ghost use Rattle.std.specs.Prelude.{◌≡◌};
-ghost use Rattle.report.specs.Numbers.{positionsBy};
+ghost use Rattle.report.specs.Numbers.{positions_by};
 ghost use Rattle.report_numbers.specs.inner.Words.{Takes, Numberable, Numbered};
 
 use ints::{total, wide};
@@ -9,7 +9,7 @@ use plan_renumber::gather;
 // Positions by number. `m` has the number of each vertex.
 fn positions_by(m: &[u16], xs: &[i64], out: &mut [i64])
     requires { Takes m.now xs.now out.old }
-    ensures { out.new ≡ positionsBy m.now xs.now }
+    ensures { out.new ≡ positions_by m.now xs.now }
 {
     let mut v: usize = 0;
     while v < m.len() {

@@ -1,6 +1,6 @@
 // One line of the report of a drawing in remembered numbers.
 ghost use Rattle.text_write.specs.inner.Written.{Fronts};
-ghost use Rattle.report_numbers.specs.inner.Rooms.{lineBy, LineRoomBy};
+ghost use Rattle.report_numbers.specs.inner.Rooms.{line_by, LineRoomBy};
 
 use crate::arrays::in_numbers;
 use plan::data::Plan;
@@ -23,7 +23,7 @@ pub fn put_line_by(
     out: &mut [u8],
 ) -> usize
     requires { LineRoomBy m.now spacing sizes.now preliminary.now finals.now passes.now levels.now counts.now vertices.now positions.now n out.old }
-    ensures { Fronts (lineBy m.now spacing sizes.now preliminary.now finals.now
+    ensures { Fronts (line_by m.now spacing sizes.now preliminary.now finals.now
         passes.now levels.now counts.now vertices.now positions.now n)
         out.old result out.new }
 {

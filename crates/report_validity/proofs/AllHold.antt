@@ -8,7 +8,7 @@ use native.Mathlib.Numerals.{add-one}
 use lib.ListN.{length, get_or, drop, drop_of_length-le}
 use lib.Seq.{drop-cons}
 use Rattle.plan.specs.Checks.{every}
-use Rattle.plan.specs.Acceptable.{halfHolds, halvesHold}
+use Rattle.plan.specs.Acceptable.{half_holds, halves_hold}
 
 module _ (t : ℕ → Bool) (xs : List ℕ) (i : ℕ) where
   pub all-on : i < length xs → t (get_or xs i 0) ≡ true → every t (drop i xs) ≡ every t (drop (i + 1) xs)
@@ -24,24 +24,24 @@ module _ (t : ℕ → Bool) (xs : List ℕ) (i : ℕ) where
   all_end h = rw (drop_of_length-le xs h)
 
 module _ (vias : List Bool) (halves : List ℕ) (i : ℕ) (e : length vias ≡ length halves) where
-  pub halves-on : i < length vias → halfHolds (get_or vias i false) (get_or halves i 0) ≡ true → halvesHold (drop i vias) (drop i halves) ≡ halvesHold (drop (i + 1) vias) (drop (i + 1) halves)
-  unfolding halvesHold
+  pub halves-on : i < length vias → half_holds (get_or vias i false) (get_or halves i 0) ≡ true → halves_hold (drop i vias) (drop i halves) ≡ halves_hold (drop (i + 1) vias) (drop (i + 1) halves)
+  unfolding halves_hold
   halves-on h t = let k : i < length halves = omega arith in rw (add-one, drop-cons vias i false h, drop-cons halves i 0 k, t)
 
-  pub halves-stop : i < length vias → halfHolds (get_or vias i false) (get_or halves i 0) ≡ false → halvesHold (drop i vias) (drop i halves) ≡ false
-  unfolding halvesHold
+  pub halves-stop : i < length vias → half_holds (get_or vias i false) (get_or halves i 0) ≡ false → halves_hold (drop i vias) (drop i halves) ≡ false
+  unfolding halves_hold
   halves-stop h t = let k : i < length halves = omega arith in rw (drop-cons vias i false h, drop-cons halves i 0 k, t)
 
-  pub halves-end : length vias ≤ i → halvesHold (drop i vias) (drop i halves) ≡ true
-  unfolding halvesHold
+  pub halves-end : length vias ≤ i → halves_hold (drop i vias) (drop i halves) ≡ true
+  unfolding halves_hold
   halves-end h = let k : length halves ≤ i = omega arith in rw (drop_of_length-le vias h, drop_of_length-le halves k)
 
-pub halves-apart : (vias : List Bool) (halves : List ℕ) → (length vias ≡ length halves → ⊥) → halvesHold vias halves ≡ false
-unfolding halvesHold
+pub halves-apart : (vias : List Bool) (halves : List ℕ) → (length vias ≡ length halves → ⊥) → halves_hold vias halves ≡ false
+unfolding halves_hold
 halves-apart [] [] e = absurd (e refl)
 halves-apart [] (h ∷ hs) e = refl
 halves-apart (v ∷ vs) [] e = refl
-halves-apart (v ∷ vs) (h ∷ hs) e = rw (halves-apart vs hs (λ k. e (omega arith))) (none (halfHolds v h))
+halves-apart (v ∷ vs) (h ∷ hs) e = rw (halves-apart vs hs (λ k. e (omega arith))) (none (half_holds v h))
   where
     none : (b : Bool) → mathlib.Core.Bool.cond b false false ≡ false
     none true = refl

@@ -11,24 +11,24 @@ use Rattle.ints.proofs.Laws.{if-ind}
 use Rattle.plan.specs.Limits.{within}
 use Rattle.plan.specs.Plan.{PlanData}
 use Rattle.plan.specs.Acceptable.{acceptable}
-use Rattle.report.specs.Refusal13.{same_numbers, isPass, isRunOfPlan, isDrawing}
+use Rattle.report.specs.Refusal13.{same_numbers, is_pass, is_run_of_plan, is_drawing}
 use Rattle.report.proofs.SameData.{numbers-same}
 use Rattle.ints.proofs.Tests.{◌and◌}
 use Rattle.passes.specs.Runs.{Run, run_at}
 use Rattle.passes.specs.State.{Step, State, start_at}
-use Rattle.passes.specs.Passes.{placed, after, isDue, visit}
-use Rattle.passes.specs.Drawing.{BoxAt, Placing, boxesWith, listedBefore, listed, drawingOf, Drawing}
+use Rattle.passes.specs.Passes.{placed, after, is_due, visit}
+use Rattle.passes.specs.Drawing.{BoxAt, Placing, boxes_with, listed_before, listed, drawing_of, Drawing}
 use Rattle.plan.proofs.All.{All, all_nil, all_cons, all_map, all_append, all-every}
 use Rattle.plan.proofs.Levels.{length-numbers}
 use Rattle.passes.specs.inner.Runs.{IsRun}
 use Rattle.passes.proofs.Placing.{placed-length}
-use Rattle.passes.specs.inner.Schedule.{Visit, visitAll, schedule, start}
+use Rattle.passes.specs.inner.Schedule.{Visit, visit_all, schedule, start}
 use Rattle.passes.proofs.Schedule.{IsVisit, first-visits, second-visits, third-visits}
 use Rattle.passes.proofs.Moments.{final, drawing, drawing-is}
 use Rattle.passes.proofs.Sound.{sound}
 use Rattle.passes.proofs.Listed.{run-mem}
 use Rattle.report_validity.specs.inner.Stored.{OfPlan, StoredLevels}
-use Rattle.report_validity.specs.inner.Tests.{isRunOn}
+use Rattle.report_validity.specs.inner.Tests.{is_run_on}
 use Rattle.report_validity.proofs.RunTests.{some_of}
 use Rattle.report_validity.proofs.Decoded.{with-vertices, run_is}
 use Rattle.passes.proofs.DrawingWithin.{drawn-within}
@@ -54,7 +54,7 @@ schedule-due p = all_append (all_append (due 1 refl (first-visits p)) (due 2 ref
 
 made-visit : {p : PlanData} (w : Visit) (s : State) → Due p w → All (Made p) s.trace → All (Made p) (visit p w.pass w.run s).trace
 unfolding visit after
-made-visit {p} w s d a = if-ind (isDue p w.pass s w.run) (after w.pass w.run (placed p w.pass s w.run) s) s (λ t. All (Made p) t.trace)
+made-visit {p} w s d a = if-ind (is_due p w.pass s w.run) (after w.pass w.run (placed p w.pass s w.run) s) s (λ t. All (Made p) t.trace)
     (λ t. all_append a (all_cons (record {
       pass = d.pass;
       run = w.run;
@@ -65,8 +65,8 @@ made-visit {p} w s d a = if-ind (isDue p w.pass s w.run) (after w.pass w.run (pl
     }) all_nil))
     (λ t. a)
 
-made_all : {p : PlanData} {ws : List Visit} (s : State) → All (Due p) ws → All (Made p) s.trace → All (Made p) (visitAll p ws s).trace
-unfolding visitAll
+made_all : {p : PlanData} {ws : List Visit} (s : State) → All (Due p) ws → All (Made p) s.trace → All (Made p) (visit_all p ws s).trace
+unfolding visit_all
 made_all s all_nil a = a
 made_all {p} s (all_cons {x = w} d ds) a = made_all (visit p w.pass w.run s) ds (made-visit w s d a)
 
@@ -76,16 +76,16 @@ final-made p = made_all (start p) (schedule-due p) all_nil
 
 -- ---- each listed placing
 record Listable (p : PlanData) (q : Placing) : Type 0 where
-  pub pass : isPass q ≡ true
-  pub run : isRunOfPlan p q ≡ true
+  pub pass : is_pass q ≡ true
+  pub run : is_run_of_plan p q ≡ true
 
-run_on : {p : PlanData} {r : Run} (l : ℕ) → IsRun p r → l ≡ r.level → 1 ≤ length r.boxes → isRunOn p l r.boxes ≡ true
-unfolding isRunOn
+run_on : {p : PlanData} {r : Run} (l : ℕ) → IsRun p r → l ≡ r.level → 1 ≤ length r.boxes → is_run_on p l r.boxes ≡ true
+unfolding is_run_on
 run_on {p} {r} l i e h = le-leb 1 (length r.boxes) h
     and some_of (λ (o : Run). eqb l o.level && same_numbers r.boxes o.boxes) (run-mem i) (eq-eqb l r.level e and numbers-same r.boxes)
 
 before-listable : {p : PlanData} (s : Step) (m : Made p s) (bs : List BoxAt) {more : List Placing} → map (λ (b : BoxAt). b.vertex) bs ≡ m.run.boxes → All (Listable p) more
-    → All (Listable p) (listedBefore s bs more)
+    → All (Listable p) (listed_before s bs more)
 before-listable s m [] e a = a
 before-listable {p} s m (b ∷ bs) e a =
     let n : 1 ≤ length m.run.boxes = omega (arith, ap length e, length-map bs (λ (b : BoxAt). b.vertex)) in
@@ -96,21 +96,21 @@ unfolding listed
 listed-listable p all_nil = all_nil
 listed-listable p (all_cons {x = s} m ms) =
     let r = m.run in
-    let e : map (λ (b : BoxAt). b.vertex) (boxesWith (run_at p s.level s.ordinal).boxes s.positions) ≡ r.boxes =
-    ap (λ (o : Run). map (λ (b : BoxAt). b.vertex) (boxesWith o.boxes s.positions)) m.told ∙ with-vertices r.boxes s.positions m.long in
-    before-listable s m (boxesWith (run_at p s.level s.ordinal).boxes s.positions) e (listed-listable p ms)
+    let e : map (λ (b : BoxAt). b.vertex) (boxes_with (run_at p s.level s.ordinal).boxes s.positions) ≡ r.boxes =
+    ap (λ (o : Run). map (λ (b : BoxAt). b.vertex) (boxes_with o.boxes s.positions)) m.told ∙ with-vertices r.boxes s.positions m.long in
+    before-listable s m (boxes_with (run_at p s.level s.ordinal).boxes s.positions) e (listed-listable p ms)
 
 -- ---- the whole drawing
-pub drawn-valid : (p : PlanData) → acceptable p ≡ true → isDrawing p (drawingOf p) ≡ true
-unfolding isDrawing drawing
+pub drawn-valid : (p : PlanData) → acceptable p ≡ true → is_drawing p (drawing_of p) ≡ true
+unfolding is_drawing drawing
 drawn-valid p ok =
     let a = listed-listable p (final-made p) in
-    let e : (drawingOf p).placings ≡ listed p (final p).trace = ap (λ (d : Drawing). d.placings) (drawing-is p) in
-    drawn-within p ok and rw e (all-every isPass (all_map (λ q l. l.pass) a)) and rw e (all-every (isRunOfPlan p) (all_map (λ q l. l.run) a))
+    let e : (drawing_of p).placings ≡ listed p (final p).trace = ap (λ (d : Drawing). d.placings) (drawing-is p) in
+    drawn-within p ok and rw e (all-every is_pass (all_map (λ q l. l.pass) a)) and rw e (all-every (is_run_of_plan p) (all_map (λ q l. l.run) a))
 
 -- ---- and of an acceptable plan the program can be asked
 pub of-plan : (p : PlanData) → acceptable p ≡ true → OfPlan p p.sizes p.vias
-of-plan p ok = record { ofLevels = sym (sound p ok).sizes; ofSizes = refl; ofVias = refl }
+of-plan p ok = record { of_levels = sym (sound p ok).sizes; of_sizes = refl; of_vias = refl }
 
 pub levels-of : (p : PlanData) → acceptable p ≡ true → StoredLevels p.sizes p.vias
 levels-of p ok = record { total = (sound p ok).total; few = (sound p ok).vertices }

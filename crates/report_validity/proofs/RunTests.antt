@@ -14,9 +14,9 @@ use Rattle.plan.specs.Plan.{PlanData, numbers}
 use Rattle.plan.specs.Checks.{any}
 use Rattle.report.specs.Refusal13.{same_numbers}
 use Rattle.report.proofs.SameData.{numbers-equal, numbers-same}
-use Rattle.passes.specs.Runs.{Run, runsOn, runsOf, no_run}
+use Rattle.passes.specs.Runs.{Run, runs_on, runs_of, no_run}
 use Rattle.plan.proofs.All.{no_true, all-mem}
-use Rattle.plan.specs.inner.Levels.{firstOn, sizeOn}
+use Rattle.plan.specs.inner.Levels.{first_on, size_on}
 use Rattle.plan.proofs.Levels.{length-numbers, get-numbers}
 use Rattle.passes.specs.inner.Runs.{IsRun}
 use Rattle.passes.proofs.RunsOn.{run-at, run-level}
@@ -24,7 +24,7 @@ use Rattle.passes.proofs.Covered.{found, box-range}
 use Rattle.passes.proofs.Due.{plan-runs}
 use Rattle.passes.proofs.Listed.{run-mem}
 use Rattle.report_validity.specs.inner.Stored.{OfPlan}
-use Rattle.report_validity.specs.inner.Tests.{isWhole, isRunOn}
+use Rattle.report_validity.specs.inner.Tests.{is_whole, is_run_on}
 use Rattle.report_validity.proofs.Whole.{Whole, run-whole, same_whole, whole-read, whole-make}
 
 -- ---- tests
@@ -74,22 +74,22 @@ shape_of {p} l vs {r} i e f h =
       whole = rw (e, a, n) (run-whole i);
     }
 
-shape : (p : PlanData) (l : ℕ) (vs : List ℕ) → isRunOn p l vs ≡ true → Shape p l vs
-unfolding isRunOn
+shape : (p : PlanData) (l : ℕ) (vs : List ℕ) → is_run_on p l vs ≡ true → Shape p l vs
+unfolding is_run_on
 shape p l vs e =
-    let m = some-member (λ (r : Run). eqb l r.level && same_numbers vs r.boxes) (runsOf p) (and_right (leb 1 (length vs)) _ e) in
+    let m = some-member (λ (r : Run). eqb l r.level && same_numbers vs r.boxes) (runs_of p) (and_right (leb 1 (length vs)) _ e) in
     let r = m.value in
     shape_of l vs (all-mem (plan-runs p) m.mem) (eqb-true l r.level (and_left _ _ m.holds)) (numbers-equal vs r.boxes (and_right (eqb l r.level) _ m.holds))
     (leb-true 1 (length vs) (and_left (leb 1 (length vs)) _ e))
 
 -- ---- to them
-of-shape : (p : PlanData) (l : ℕ) (vs : List ℕ) → Shape p l vs → isRunOn p l vs ≡ true
-unfolding isRunOn
+of-shape : (p : PlanData) (l : ℕ) (vs : List ℕ) → Shape p l vs → is_run_on p l vs ≡ true
+unfolding is_run_on
 of-shape p l vs s =
     let v = get_or vs 0 0 in
     let w = s.whole in
     let f = found p l v (record { from = w.from; to = omega (arith, w.to, s.any) }) (w.boxes v (omega arith) (omega (arith, s.any))) in
-    let r = get_or (runsOn p l) f.index no_run in
+    let r = get_or (runs_on p l) f.index no_run in
     let i = run-at p l f.index s.one s.many f.few in
     let e : r.level ≡ l = (run-level p l f.index f.few).0 in
     let b = box-range i v f.box in
@@ -100,36 +100,36 @@ of-shape p l vs s =
 
 -- ---- what the program asks
 module _ {p : PlanData} {sizes : List ℕ} {vias : List Bool} (o : OfPlan p sizes vias) (l : ℕ) (vs : List ℕ) where
-  pub no-boxes : length vs ≡ 0 → isRunOn p l vs ≡ false
-  no-boxes e = never_true (isRunOn p l vs) (λ h. omega (arith, (shape p l vs h).any))
+  pub no-boxes : length vs ≡ 0 → is_run_on p l vs ≡ false
+  no-boxes e = never_true (is_run_on p l vs) (λ h. omega (arith, (shape p l vs h).any))
 
-  pub no-level : l ≡ 0 → isRunOn p l vs ≡ false
-  no-level e = never_true (isRunOn p l vs) (λ h. omega (arith, (shape p l vs h).one))
+  pub no-level : l ≡ 0 → is_run_on p l vs ≡ false
+  no-level e = never_true (is_run_on p l vs) (λ h. omega (arith, (shape p l vs h).one))
 
-  pub past-levels : length sizes < l → isRunOn p l vs ≡ false
-  past-levels e = never_true (isRunOn p l vs) (λ h. omega (arith, (shape p l vs h).many, o.ofLevels))
+  pub past-levels : length sizes < l → is_run_on p l vs ≡ false
+  past-levels e = never_true (is_run_on p l vs) (λ h. omega (arith, (shape p l vs h).many, o.of_levels))
 
   module _ (start to first : ℕ) (e : start ≡ sum (take (l - 1) sizes)) (f : to ≡ start + get_or sizes (l - 1) 0) (g : first ≡ get_or vs 0 0) where
-    starts : firstOn p l ≡ start
-    unfolding firstOn
-    starts = ap (λ (ns : List ℕ). sum (take (l - 1) ns)) o.ofSizes ∙ sym e
+    starts : first_on p l ≡ start
+    unfolding first_on
+    starts = ap (λ (ns : List ℕ). sum (take (l - 1) ns)) o.of_sizes ∙ sym e
 
-    ends : firstOn p l + sizeOn p l ≡ to
-    unfolding sizeOn
-    ends = omega (arith, starts, ap (λ (ns : List ℕ). get_or ns (l - 1) 0) o.ofSizes)
+    ends : first_on p l + size_on p l ≡ to
+    unfolding size_on
+    ends = omega (arith, starts, ap (λ (ns : List ℕ). get_or ns (l - 1) 0) o.of_sizes)
 
-    test-is : isWhole p.vias (firstOn p l) (firstOn p l + sizeOn p l) (get_or vs 0 0) (length vs) ≡ isWhole vias start to first (length vs)
-    test-is = rw (ends, starts, o.ofVias, g)
+    test-is : is_whole p.vias (first_on p l) (first_on p l + size_on p l) (get_or vs 0 0) (length vs) ≡ is_whole vias start to first (length vs)
+    test-is = rw (ends, starts, o.of_vias, g)
 
-    pub not-whole : isWhole vias start to first (length vs) ≡ false → isRunOn p l vs ≡ false
-    not-whole n = never_true (isRunOn p l vs)
+    pub not-whole : is_whole vias start to first (length vs) ≡ false → is_run_on p l vs ≡ false
+    not-whole n = never_true (is_run_on p l vs)
         (λ h. let s = shape p l vs h in no_true (sym n ∙ sym test-is ∙ whole-make p l (get_or vs 0 0) (length vs) s.whole s.any))
 
-    pub whole_is : 1 ≤ l → l ≤ length sizes → 1 ≤ length vs → isWhole vias start to first (length vs) ≡ true → same_numbers vs (numbers first (length vs)) ≡ isRunOn p l vs
-    whole_is h k n w = let ns = numbers (get_or vs 0 0) (length vs) in rw g (both_ways (same_numbers vs ns) (isRunOn p l vs)
+    pub whole_is : 1 ≤ l → l ≤ length sizes → 1 ≤ length vs → is_whole vias start to first (length vs) ≡ true → same_numbers vs (numbers first (length vs)) ≡ is_run_on p l vs
+    whole_is h k n w = let ns = numbers (get_or vs 0 0) (length vs) in rw g (both_ways (same_numbers vs ns) (is_run_on p l vs)
         (λ t. of-shape p l vs (record {
           one = h;
-          many = omega (arith, o.ofLevels);
+          many = omega (arith, o.of_levels);
           any = n;
           numbered = numbers-equal vs ns t;
           whole = whole-read p l (get_or vs 0 0) (length vs) (test-is ∙ w);

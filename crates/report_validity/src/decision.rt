@@ -1,12 +1,12 @@
 // Refusal 13, of a plan: whether it is that of a text that passes checks 1 to 6. No text is written: a plan is that of a text
 // exactly if its data are within the limits and pass checks 3 to 6.
 ghost use Rattle.std.specs.Prelude.{◌≡◌, ◌&&◌};
-ghost use Rattle.ints.specs.Ratings.{allRatings};
-ghost use Rattle.plan.specs.Limits.{within, maxOnLevel};
+ghost use Rattle.ints.specs.Ratings.{all_ratings};
+ghost use Rattle.plan.specs.Limits.{within, max_on_level};
 ghost use Rattle.plan.specs.Checks.{every};
-ghost use Rattle.plan.specs.Acceptable.{halfHolds, halvesHold, limitsHold, acceptable};
+ghost use Rattle.plan.specs.Acceptable.{half_holds, halves_hold, limits_hold, acceptable};
 ghost use Rattle.plan.specs.Plan.{data_of};
-ghost use Rattle.report.specs.Refusal13.{isStoredPlan};
+ghost use Rattle.report.specs.Refusal13.{is_stored_plan};
 
 use ints::total;
 use plan::data::Plan;
@@ -15,14 +15,14 @@ use plan::numbers::wide;
 use plan_checks::checks::check_plan;
 
 fn size_holds(n: u16) -> bool
-    ensures { result ≡ within 1 maxOnLevel n }
+    ensures { result ≡ within 1 max_on_level n }
 {
     1 <= n && n <= Plan::MAX_ON_LEVEL as u16
 }
 
 // "at most 64 vertices on a level", and at least one.
 fn sizes_hold(sizes: &[u16]) -> bool
-    ensures { result ≡ every (within 1 maxOnLevel) sizes.now }
+    ensures { result ≡ every (within 1 max_on_level) sizes.now }
 {
     let mut i: usize = 0;
     while i < sizes.len() {
@@ -36,7 +36,7 @@ fn sizes_hold(sizes: &[u16]) -> bool
 
 // A box's half-width is "1 to 200", a via's is 0.
 fn half_holds(via: bool, half: u16) -> bool
-    ensures { result ≡ halfHolds via half }
+    ensures { result ≡ half_holds via half }
 {
     if via {
         half == 0
@@ -47,7 +47,7 @@ fn half_holds(via: bool, half: u16) -> bool
 
 // Each vertex has its half-width.
 fn halves_hold(vias: &[bool], halves: &[u16]) -> bool
-    ensures { result ≡ halvesHold vias.now halves.now }
+    ensures { result ≡ halves_hold vias.now halves.now }
 {
     if vias.len() != halves.len() {
         return false;
@@ -64,7 +64,7 @@ fn halves_hold(vias: &[bool], halves: &[u16]) -> bool
 
 // Each rating is from 1 to 100.
 fn ratings_hold(ratings: &[u32]) -> bool
-    ensures { result ≡ allRatings ratings.now }
+    ensures { result ≡ all_ratings ratings.now }
 {
     let mut i: usize = 0;
     while i < ratings.len() {
@@ -88,7 +88,7 @@ fn limits_hold(
     lowers: &[u32],
     ratings: &[u32],
 ) -> bool
-    ensures { result ≡ limitsHold (data_of levels gap spacing sizes.now vias.now halves.now
+    ensures { result ≡ limits_hold (data_of levels gap spacing sizes.now vias.now halves.now
         uppers.now lowers.now ratings.now) }
 {
     if !numbers_fit(levels, gap, spacing) {
@@ -143,7 +143,7 @@ pub fn is_acceptable(
 
 // 13, of a plan with the stage's numbers of vertices and segments, which may be any: whether it is that of a text.
 pub fn is_plan_of_text(plan: Plan, vertices: usize, segments: usize) -> bool
-    ensures { result ≡ isStoredPlan plan vertices segments }
+    ensures { result ≡ is_stored_plan plan vertices segments }
 {
     let k = wide(plan.levels);
     if Plan::MAX_LEVELS < k {

@@ -1,7 +1,7 @@
 // Whether a drawing that was handed in is one that line and mark do not refuse.
 ghost use Rattle.std.specs.Prelude.{◌≡◌};
 ghost use Rattle.plan.specs.Plan.{PlanData};
-ghost use Rattle.report_validity.specs.inner.Stored.{isStoredDrawing, OfPlan, StoredLevels, StoredList};
+ghost use Rattle.report_validity.specs.inner.Stored.{is_stored_drawing, OfPlan, StoredLevels, StoredList};
 
 use crate::placings::are_placings;
 use ints::total;
@@ -22,7 +22,7 @@ pub fn is_drawing(
     positions: &[i64],
 ) -> bool
     requires { StoredLevels sizes.now vias.now × StoredList passes.now levels.now counts.now vertices.now positions.now }
-    ensures { (p : PlanData) → OfPlan p sizes.now vias.now → result ≡ isStoredDrawing p
+    ensures { (p : PlanData) → OfPlan p sizes.now vias.now → result ≡ is_stored_drawing p
         preliminary.now finals.now passes.now levels.now counts.now vertices.now positions.now }
 {
     let n = total(counts);

@@ -4,7 +4,7 @@ ghost use Rattle.ints.specs.Lists.{sum};
 ghost use Rattle.plan.specs.Limits.{within};
 ghost use Rattle.plan.specs.Plan.{PlanData};
 ghost use Rattle.report_validity.specs.inner.Stored.{OfPlan, StoredLevels};
-ghost use Rattle.report_validity.specs.inner.Tests.{isRunOn, arePlacings};
+ghost use Rattle.report_validity.specs.inner.Tests.{is_run_on, are_placings};
 
 use crate::runs::is_run;
 use ints::wide;
@@ -18,7 +18,7 @@ fn is_pass(q: u16) -> bool
 
 fn is_placing(sizes: &[u16], vias: &[bool], pass: u16, level: u16, boxes: &[u16]) -> bool
     requires { StoredLevels sizes.now vias.now }
-    ensures { (p : PlanData) → OfPlan p sizes.now vias.now → result ≡ (within 1 3 pass && isRunOn p level boxes.now) }
+    ensures { (p : PlanData) → OfPlan p sizes.now vias.now → result ≡ (within 1 3 pass && is_run_on p level boxes.now) }
 {
     if !is_pass(pass) {
         return false;
@@ -37,7 +37,7 @@ pub fn are_placings(
 ) -> bool
     requires { StoredLevels sizes.now vias.now × (length levels.now ≡ length passes.now) × (length counts.now ≡ length passes.now) × (sum counts.now ≤ length vertices.now) }
     ensures { (p : PlanData) → OfPlan p sizes.now vias.now
-        → result ≡ arePlacings p passes.now levels.now counts.now vertices.now }
+        → result ≡ are_placings p passes.now levels.now counts.now vertices.now }
 {
     let mut at: usize = 0;
     let mut i: usize = 0;

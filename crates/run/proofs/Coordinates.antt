@@ -10,54 +10,54 @@ use lib.Dec.{leb}
 use lib.IntN.{ℤ, pos, ◌+ℤ◌, ◌-ℤ◌, nat_abs}
 use Rattle.ints.specs.Ints.{P, N, gap}
 use Rattle.ints.proofs.Laws.{sum, dif, eq-make, le-true, make-le-true}
-use Rattle.run.specs.Run.{Bound, free, at, Lead, leadPositions, totalRating, Box, nondecreasing, neighboursInOrder, span, firstReaching, lowerMiddle, upperMiddle, start_of}
-use Rattle.run.specs.Words.{apart, isPlacement, sideways, sidewaysLength}
+use Rattle.run.specs.Run.{Bound, free, at, Lead, lead_positions, total_rating, Box, nondecreasing, neighbours_in_order, span, first_reaching, lower_middle, upper_middle, start_of}
+use Rattle.run.specs.Words.{apart, is_placement, sideways, sideways_length}
 use Rattle.run.specs.inner.Limits.{Above, Below, HasPlace}
-use Rattle.run.proofs.Feasible.{below-down, Priced, AllConvex, all_nil, all_cons, totalCost, Feasible, nil, cons}
+use Rattle.run.proofs.Feasible.{below-down, Priced, AllConvex, all_nil, all_cons, total_cost, Feasible, nil, cons}
 use Rattle.ints.proofs.Tests.{and_left, and_right, ◌and◌}
 use Rattle.run.proofs.Sorted.{Sorted, sorted, sorted-less}
 use Rattle.run.proofs.Rated.{positions-less, total-less}
-use Rattle.run.specs.inner.Coordinates.{less, lessLead, lessBox, inRun, addOffsets, leftLimit, rightLimit}
+use Rattle.run.specs.inner.Coordinates.{less, less_lead, less_box, in_run, add_offsets, left_limit, right_limit}
 use Rattle.run.proofs.HalfDown.{half-less}
 use Rattle.run.proofs.Median.{start-convex}
 
 -- ---- boxes in run coordinates, and their costs
 
-pub length-inRun : (o : ℕ) (bs : List Box) → length (inRun o bs) ≡ length bs
-unfolding inRun
-length-inRun o [] = refl
-length-inRun o (b ∷ bs) = ap suc (length-inRun (o + b.dist) bs)
+pub length-in_run : (o : ℕ) (bs : List Box) → length (in_run o bs) ≡ length bs
+unfolding in_run
+length-in_run o [] = refl
+length-in_run o (b ∷ bs) = ap suc (length-in_run (o + b.dist) bs)
 
 abbrev pub price : Box → Priced
 price b = record { cost = sideways b.near; start = start_of b.old b.near }
 
 unfoldable pub priced : ℕ → List Box → List Priced
 priced o [] = []
-priced o (b ∷ bs) = price (lessBox o b) ∷ priced (o + b.dist) bs
+priced o (b ∷ bs) = price (less_box o b) ∷ priced (o + b.dist) bs
 
-pub priced-is : (o : ℕ) (bs : List Box) → priced o bs ≡ map price (inRun o bs)
-unfolding priced inRun
+pub priced-is : (o : ℕ) (bs : List Box) → priced o bs ≡ map price (in_run o bs)
+unfolding priced in_run
 priced-is o [] = refl
-priced-is o (b ∷ bs) = ap (λ ps. price (lessBox o b) ∷ ps) (priced-is (o + b.dist) bs)
+priced-is o (b ∷ bs) = ap (λ ps. price (less_box o b) ∷ ps) (priced-is (o + b.dist) bs)
 
 pub length-priced : (o : ℕ) (bs : List Box) → length (priced o bs) ≡ length bs
 unfolding priced
 length-priced o [] = refl
 length-priced o (b ∷ bs) = ap suc (length-priced (o + b.dist) bs)
 
-pub convex-priced : (o : ℕ) (bs : List Box) → neighboursInOrder bs ≡ true → AllConvex (priced o bs)
-unfolding neighboursInOrder priced
+pub convex-priced : (o : ℕ) (bs : List Box) → neighbours_in_order bs ≡ true → AllConvex (priced o bs)
+unfolding neighbours_in_order priced
 convex-priced o [] e = all_nil
 convex-priced o (b ∷ bs) e = all_cons
-    (start-convex (less o b.old) (map (lessLead o) b.near)
-    (subst (λ xs. Sorted free xs) (sym (positions-less o b.near)) (sorted-less o {lo' = free} (λ n k. tt) (sorted (leadPositions b.near) (and_left _ _ e)))))
-    (convex-priced (o + b.dist) bs (and_right (nondecreasing (leadPositions b.near)) _ e))
+    (start-convex (less o b.old) (map (less_lead o) b.near)
+    (subst (λ xs. Sorted free xs) (sym (positions-less o b.near)) (sorted-less o {lo' = free} (λ n k. tt) (sorted (lead_positions b.near) (and_left _ _ e)))))
+    (convex-priced (o + b.dist) bs (and_right (nondecreasing (lead_positions b.near)) _ e))
 
 -- ---- positions into run coordinates, and back
-unfoldable pub subOffsets : ℕ → List Box → List ℤ → List ℤ
-subOffsets o [] xs = []
-subOffsets o (b ∷ bs) [] = []
-subOffsets o (b ∷ bs) (x ∷ xs) = less o x ∷ subOffsets (o + b.dist) bs xs
+unfoldable pub sub_offsets : ℕ → List Box → List ℤ → List ℤ
+sub_offsets o [] xs = []
+sub_offsets o (b ∷ bs) [] = []
+sub_offsets o (b ∷ bs) (x ∷ xs) = less o x ∷ sub_offsets (o + b.dist) bs xs
 
 pub back : (x : ℤ) (o : ℕ) → less o x +ℤ pos o ≡ x
 back x o = eq-make _ _ (omega (arith, dif x (pos o), sum (less o x) (pos o)))
@@ -66,7 +66,7 @@ gap-less : (z n : ℤ) (o : ℕ) → gap (z +ℤ pos o) n ≡ gap z (less o n)
 unfolding gap
 gap-less z n o = let e : (z +ℤ pos o) -ℤ n ≡ z -ℤ less o n = eq-make _ _ (omega (arith, sum z (pos o), dif (z +ℤ pos o) n, dif n (pos o), dif z (less o n))) in ap nat_abs e
 
-sideways-less : (ns : List Lead) (z : ℤ) (o : ℕ) → sideways ns (z +ℤ pos o) ≡ sideways (map (lessLead o) ns) z
+sideways-less : (ns : List Lead) (z : ℤ) (o : ℕ) → sideways ns (z +ℤ pos o) ≡ sideways (map (less_lead o) ns) z
 unfolding sideways
 sideways-less [] z o = refl
 sideways-less (n ∷ ns) z o = omega (arith, ap (λ (g : ℕ). n.rating * g) (gap-less z n.at o), sideways-less ns z o)
@@ -75,24 +75,24 @@ cond-less : (c : Bool) (x y z : ℤ) (o : ℕ) → z ≡ less o y → cond c (le
 cond-less true x y z o e = refl
 cond-less false x y z o e = e
 
-reaching-less : (t a : ℕ) (old : ℤ) (ns : List Lead) (o : ℕ) → firstReaching t a (less o old) (map (lessLead o) ns) ≡ less o (firstReaching t a old ns)
-unfolding firstReaching
+reaching-less : (t a : ℕ) (old : ℤ) (ns : List Lead) (o : ℕ) → first_reaching t a (less o old) (map (less_lead o) ns) ≡ less o (first_reaching t a old ns)
+unfolding first_reaching
 reaching-less t a old [] o = refl
 reaching-less t a old (n ∷ ns) o = let b = a + n.rating in
-    cond-less (leb t (2 * b)) n.at (firstReaching t b old ns) (firstReaching t b (less o old) (map (lessLead o) ns)) o (reaching-less t b old ns o)
+    cond-less (leb t (2 * b)) n.at (first_reaching t b old ns) (first_reaching t b (less o old) (map (less_lead o) ns)) o (reaching-less t b old ns o)
 
-pub start-less : (old : ℤ) (ns : List Lead) (o : ℕ) → start_of (less o old) (map (lessLead o) ns) ≡ less o (start_of old ns)
+pub start-less : (old : ℤ) (ns : List Lead) (o : ℕ) → start_of (less o old) (map (less_lead o) ns) ≡ less o (start_of old ns)
 unfolding start_of
-start-less old ns o = rw (total-less o ns, reaching-less (totalRating ns) 0 old ns o, reaching-less (totalRating ns + 1) 0 old ns o) (half-less (lowerMiddle old ns) (upperMiddle old ns) o)
+start-less old ns o = rw (total-less o ns, reaching-less (total_rating ns) 0 old ns o, reaching-less (total_rating ns + 1) 0 old ns o) (half-less (lower_middle old ns) (upper_middle old ns) o)
 
-pub cost-add : (o : ℕ) (bs : List Box) (zs : List ℤ) → sidewaysLength bs (addOffsets o bs zs) ≡ totalCost (priced o bs) zs
-unfolding sidewaysLength addOffsets totalCost priced
+pub cost-add : (o : ℕ) (bs : List Box) (zs : List ℤ) → sideways_length bs (add_offsets o bs zs) ≡ total_cost (priced o bs) zs
+unfolding sideways_length add_offsets total_cost priced
 cost-add o [] zs = refl
 cost-add o (b ∷ bs) [] = refl
 cost-add o (b ∷ bs) (z ∷ zs) = omega (arith, sideways-less b.near z o, cost-add (o + b.dist) bs zs)
 
-pub cost-sub : (o : ℕ) (bs : List Box) (xs : List ℤ) → totalCost (priced o bs) (subOffsets o bs xs) ≡ sidewaysLength bs xs
-unfolding sidewaysLength subOffsets totalCost priced
+pub cost-sub : (o : ℕ) (bs : List Box) (xs : List ℤ) → total_cost (priced o bs) (sub_offsets o bs xs) ≡ sideways_length bs xs
+unfolding sideways_length sub_offsets total_cost priced
 cost-sub o [] xs = refl
 cost-sub o (b ∷ bs) [] = refl
 cost-sub o (b ∷ bs) (x ∷ xs) = omega (arith, sideways-less b.near (less o x) o, ap (sideways b.near) (back x o), cost-sub (o + b.dist) bs xs)
@@ -104,11 +104,11 @@ Matches free o (at l) d = ⊥
 Matches (at z) o free d = ⊥
 Matches (at z) o (at l) d = P z + o + N l ≡ P l + d + N z
 
-pub left-matches : (lb : Bound) (d : ℕ) → Matches (leftLimit lb d) 0 lb d
+pub left-matches : (lb : Bound) (d : ℕ) → Matches (left_limit lb d) 0 lb d
 left-matches free d = tt
 left-matches (at l) d = omega (arith, sum l (pos d))
 
-pub right-matches : (rb : Bound) (w : ℕ) → Matches (rightLimit rb w) w rb 0
+pub right-matches : (rb : Bound) (w : ℕ) → Matches (right_limit rb w) w rb 0
 right-matches free w = tt
 right-matches (at r) w = omega (arith, dif r (pos w))
 
@@ -151,8 +151,8 @@ has-place-to (at z) o (at l) d (at h) free w m k r = absurd k
 has-place-to (at z) o (at l) d (at h) (at y) w m k r = make-le-true (pos (d + w)) (y -ℤ l) (omega (arith, dif y l))
 
 -- ---- a placement is feasible
-below-from : (H rb : Bound) (o d : ℕ) (x : ℤ) (bs : List Box) (xs : List ℤ) → Matches H (o + (d + span bs)) rb 0 → isPlacement (at x) d bs rb xs ≡ true → Below H (less o x)
-unfolding isPlacement span
+below-from : (H rb : Bound) (o d : ℕ) (x : ℤ) (bs : List Box) (xs : List ℤ) → Matches H (o + (d + span bs)) rb 0 → is_placement (at x) d bs rb xs ≡ true → Below H (less o x)
+unfolding is_placement span
 below-from H rb o d x [] [] m e = has-place-from (at (less o x)) o (at x) 0 H rb (d + 0) (omega (arith, dif x (pos o))) m (ap (λ (w : ℕ). apart (at x) w rb) (omega arith) ∙ e)
 below-from H rb o d x [] (y ∷ ys) m e = absurd (subst (λ (t : Bool). cond t ⊥ (Unit {0})) e tt)
 below-from H rb o d x (b ∷ bs) [] m e = absurd (subst (λ (t : Bool). cond t ⊥ (Unit {0})) e tt)
@@ -161,8 +161,8 @@ below-from H rb o d x (b ∷ bs) (y ∷ ys) m e = below-down H (less o x) (less 
     (below-from H rb (o + d) b.dist y bs ys (matches_eq H rb 0 _ _ (omega arith) m) (and_right (apart (at x) d (at y)) _ e))
 
 pub to-feasible : (L H lb : Bound) (ld o : ℕ) (bs : List Box) (rb : Bound) (xs : List ℤ) → Matches L o lb ld → Matches H (o + span bs) rb 0
-    → isPlacement lb ld bs rb xs ≡ true → Feasible H L (priced o bs) (subOffsets o bs xs)
-unfolding isPlacement span priced subOffsets
+    → is_placement lb ld bs rb xs ≡ true → Feasible H L (priced o bs) (sub_offsets o bs xs)
+unfolding is_placement span priced sub_offsets
 to-feasible L H lb ld o [] rb [] m k e = nil
 to-feasible L H lb ld o [] rb (x ∷ xs) m k e = nil
 to-feasible L H lb ld o (b ∷ bs) rb [] m k e = absurd (subst (λ (t : Bool). cond t ⊥ (Unit {0})) e tt)
@@ -172,8 +172,8 @@ to-feasible L H lb ld o (b ∷ bs) rb (x ∷ xs) m k e = let f = and_right (apar
 
 -- ---- and the other way
 pub from-feasible : (L H lb : Bound) (ld o : ℕ) (bs : List Box) (rb : Bound) (zs : List ℤ) → HasPlace L H → Matches L o lb ld → Matches H (o + span bs) rb 0
-    → Feasible H L (priced o bs) zs → isPlacement lb ld bs rb (addOffsets o bs zs) ≡ true
-unfolding isPlacement span priced addOffsets
+    → Feasible H L (priced o bs) zs → is_placement lb ld bs rb (add_offsets o bs zs) ≡ true
+unfolding is_placement span priced add_offsets
 from-feasible L H lb ld o [] rb zs r m k nil = ap (λ (w : ℕ). apart lb w rb) (omega arith) ∙ has-place-to L o lb ld H rb 0 m k r
 from-feasible L H lb ld o (b ∷ bs) rb zs r m k (cons {x = z} {xs = zs'} a u f) = ◌and◌ (above-to L o lb ld z m a)
     (from-feasible (at z) H (at (z +ℤ pos o)) b.dist (o + b.dist) bs rb zs' u (omega (arith, sum z (pos o))) (matches_eq H rb 0 _ _ (omega arith) k) f)

@@ -9,9 +9,9 @@ use lib.ListN.{length, take, drop, length-take, length-drop}
 use lib.IntN.{ℤ, pos, ◌+ℤ◌, ◌-ℤ◌}
 use Rattle.ints.specs.Ints.{P}
 use Rattle.ints.proofs.Laws.{sum, dif, eq-read, apart, cases, make-lt-false}
-use Rattle.run.specs.Run.{Bound, Box, span, first_of, last_of, lastDist}
-use Rattle.run.specs.Join.{tooNear, pushLeft, pushRight, resistance, leftForbids, rightForbids, strictlyLess, join, missing}
-use Rattle.run.specs.Place.{placeBoxes, placeRun}
+use Rattle.run.specs.Run.{Bound, Box, span, first_of, last_of, last_dist}
+use Rattle.run.specs.Join.{too_near, push_left, push_right, resistance, left_forbids, right_forbids, strictly_less, join, missing}
+use Rattle.run.specs.Place.{place_boxes, place_run}
 use Rattle.run.proofs.Optimal.{length-left, length-right}
 
 -- ---- a half step
@@ -20,18 +20,18 @@ unfolding last_of
 last_more x [] h = absurd (omega arith)
 last_more x (y ∷ xs) h = refl
 
-last-left : (bs : List Box) (xs : List ℤ) → length xs ≡ length bs → 0 < length bs → last_of (pushLeft bs xs) ≡ last_of xs -ℤ pos 1
-unfolding pushLeft last_of
+last-left : (bs : List Box) (xs : List ℤ) → length xs ≡ length bs → 0 < length bs → last_of (push_left bs xs) ≡ last_of xs -ℤ pos 1
+unfolding push_left last_of
 last-left [] xs e h = absurd (omega arith)
 last-left (b ∷ bs) [] e h = absurd (omega arith)
 last-left (b ∷ []) (x ∷ []) e h = refl
 last-left (b ∷ []) (x ∷ y ∷ xs) e h = absurd (omega arith)
 last-left (b ∷ c ∷ bs) (x ∷ []) e h = absurd (omega arith)
 last-left (b ∷ c ∷ bs) (x ∷ y ∷ xs) e h =
-    last_more _ (pushLeft (c ∷ bs) (y ∷ xs)) (omega (arith, length-left (c ∷ bs) (y ∷ xs) (omega arith))) ∙ last-left (c ∷ bs) (y ∷ xs) (omega arith) (omega arith)
+    last_more _ (push_left (c ∷ bs) (y ∷ xs)) (omega (arith, length-left (c ∷ bs) (y ∷ xs) (omega arith))) ∙ last-left (c ∷ bs) (y ∷ xs) (omega arith) (omega arith)
 
-first-right : (bs : List Box) (xs : List ℤ) → length xs ≡ length bs → 0 < length bs → first_of (pushRight bs xs) ≡ first_of xs +ℤ pos 1
-unfolding pushRight first_of
+first-right : (bs : List Box) (xs : List ℤ) → length xs ≡ length bs → 0 < length bs → first_of (push_right bs xs) ≡ first_of xs +ℤ pos 1
+unfolding push_right first_of
 first-right [] xs e h = absurd (omega arith)
 first-right (b ∷ bs) [] e h = absurd (omega arith)
 first-right (b ∷ []) (x ∷ xs) e h = refl
@@ -48,13 +48,13 @@ fewer-right n d x y y' e h =
 
 module _ (lb : Bound) (ld : ℕ) (cs bs : List Box) (rd : ℕ) (rb : Bound) (hc : 0 < length cs) (hb : 0 < length bs) where
   -- whether the left half moves
-  goesLeft : List ℤ → List ℤ → Bool
-  goesLeft xs ys = strictlyLess (resistance (leftForbids lb ld (first_of (pushLeft cs xs))) cs xs (pushLeft cs xs))
-      (resistance (rightForbids rb (lastDist bs + rd) (last_of (pushRight bs ys))) bs ys (pushRight bs ys))
+  goes_left : List ℤ → List ℤ → Bool
+  goes_left xs ys = strictly_less (resistance (left_forbids lb ld (first_of (push_left cs xs))) cs xs (push_left cs xs))
+      (resistance (right_forbids rb (last_dist bs + rd) (last_of (push_right bs ys))) bs ys (push_right bs ys))
 
   one-step : (n : ℕ) (xs ys : List ℤ) → join (suc n) lb ld cs xs bs ys rd rb
-      ≡ cond (tooNear cs xs ys) (cond (goesLeft xs ys) (join n lb ld cs (pushLeft cs xs) bs ys rd rb) (join n lb ld cs xs bs (pushRight bs ys) rd rb)) (xs ++ ys)
-  unfolding join goesLeft
+      ≡ cond (too_near cs xs ys) (cond (goes_left xs ys) (join n lb ld cs (push_left cs xs) bs ys rd rb) (join n lb ld cs xs bs (push_right bs ys) rd rb)) (xs ++ ys)
+  unfolding join goes_left
   one-step n xs ys = refl
 
   no_step : (xs ys : List ℤ) → join 0 lb ld cs xs bs ys rd rb ≡ xs ++ ys
@@ -62,14 +62,14 @@ module _ (lb : Bound) (ld : ℕ) (cs bs : List Box) (rd : ℕ) (rb : Bound) (hc 
   no_step xs ys = refl
 
   one_more : (n : ℕ) (xs ys : List ℤ) → length xs ≡ length cs → length ys ≡ length bs → missing cs xs ys ≤ n → join (suc n) lb ld cs xs bs ys rd rb ≡ join n lb ld cs xs bs ys rd rb
-  one_more zero xs ys e f h = let x = last_of xs in let y = first_of ys in let d = pos (lastDist cs) in
+  one_more zero xs ys e f h = let x = last_of xs in let y = first_of ys in let d = pos (last_dist cs) in
       let far = make-lt-false (y -ℤ x) d (omega (arith, dif d (y -ℤ x))) in one-step 0 xs ys ∙ rw far (sym (no_step xs ys))
   one_more (suc n) xs ys e f h =
-      let l = one_more n (pushLeft cs xs) ys (length-left cs xs e) f (fewer-left n (pos (lastDist cs)) (last_of xs) (last_of (pushLeft cs xs)) (first_of ys) (last-left cs xs e hc) h) in
-      let r = one_more n xs (pushRight bs ys) e (length-right bs ys f) (fewer-right n (pos (lastDist cs)) (last_of xs) (first_of ys) (first_of (pushRight bs ys)) (first-right bs ys f hb) h) in
+      let l = one_more n (push_left cs xs) ys (length-left cs xs e) f (fewer-left n (pos (last_dist cs)) (last_of xs) (last_of (push_left cs xs)) (first_of ys) (last-left cs xs e hc) h) in
+      let r = one_more n xs (push_right bs ys) e (length-right bs ys f) (fewer-right n (pos (last_dist cs)) (last_of xs) (first_of ys) (first_of (push_right bs ys)) (first-right bs ys f hb) h) in
       one-step (suc n) xs ys
-      ∙ ap (λ (w : List ℤ). cond (tooNear cs xs ys) (cond (goesLeft xs ys) w (join (suc n) lb ld cs xs bs (pushRight bs ys) rd rb)) (xs ++ ys)) l
-      ∙ ap (λ (w : List ℤ). cond (tooNear cs xs ys) (cond (goesLeft xs ys) (join n lb ld cs (pushLeft cs xs) bs ys rd rb) w) (xs ++ ys)) r
+      ∙ ap (λ (w : List ℤ). cond (too_near cs xs ys) (cond (goes_left xs ys) w (join (suc n) lb ld cs xs bs (push_right bs ys) rd rb)) (xs ++ ys)) l
+      ∙ ap (λ (w : List ℤ). cond (too_near cs xs ys) (cond (goes_left xs ys) (join n lb ld cs (push_left cs xs) bs ys rd rb) w) (xs ++ ys)) r
       ∙ sym (one-step n xs ys)
 
   -- a join makes at most as many half steps as the halves lack
@@ -83,21 +83,21 @@ module _ (lb : Bound) (ld : ℕ) (cs bs : List Box) (rd : ℕ) (rb : Bound) (hc 
 joined : Bound → ℕ → List Box → List Box → ℕ → Bound → List ℤ → List ℤ → List ℤ
 joined lb ld l r rd rb xs ys = join (missing l xs ys) lb ld l xs r ys rd rb
 
-boxes-more : (n : ℕ) (lb : Bound) (ld : ℕ) (bs : List Box) (rd : ℕ) (rb : Bound) → length bs ≤ n → placeBoxes (suc n) lb ld bs rd rb ≡ placeBoxes n lb ld bs rd rb
-unfolding placeBoxes joined
+boxes-more : (n : ℕ) (lb : Bound) (ld : ℕ) (bs : List Box) (rd : ℕ) (rb : Bound) → length bs ≤ n → place_boxes (suc n) lb ld bs rd rb ≡ place_boxes n lb ld bs rd rb
+unfolding place_boxes joined
 boxes-more zero lb ld [] rd rb h = refl
 boxes-more zero lb ld (b ∷ bs) rd rb h = absurd (omega arith)
 boxes-more (suc n) lb ld [] rd rb h = refl
 boxes-more (suc n) lb ld (b ∷ []) rd rb h = refl
 boxes-more (suc n) lb ld (b ∷ c ∷ bs) rd rb h =
     let S = b ∷ c ∷ bs in let k = length S / 2 in let l = take k S in let r = drop k S in let et = length-take k S in let ed = length-drop k S in
-    ap (λ (xs : List ℤ). joined lb ld l r rd rb xs (placeBoxes (suc n) lb (ld + span l) r rd rb)) (boxes-more n lb ld l (span r + rd) rb (omega arith))
-    ∙ ap (joined lb ld l r rd rb (placeBoxes n lb ld l (span r + rd) rb)) (boxes-more n lb (ld + span l) r rd rb (omega arith))
+    ap (λ (xs : List ℤ). joined lb ld l r rd rb xs (place_boxes (suc n) lb (ld + span l) r rd rb)) (boxes-more n lb ld l (span r + rd) rb (omega arith))
+    ∙ ap (joined lb ld l r rd rb (place_boxes n lb ld l (span r + rd) rb)) (boxes-more n lb (ld + span l) r rd rb (omega arith))
 
 -- halves within halves are at most as many as the boxes
-pub place-enough : (n : ℕ) (lb : Bound) (ld : ℕ) (bs : List Box) (rb : Bound) → length bs ≤ n → placeBoxes n lb ld bs 0 rb ≡ placeRun lb ld bs rb
-unfolding placeRun
-place-enough zero lb ld bs rb h = let q : 0 ≡ length bs = omega arith in ap (λ m. placeBoxes m lb ld bs 0 rb) q
+pub place-enough : (n : ℕ) (lb : Bound) (ld : ℕ) (bs : List Box) (rb : Bound) → length bs ≤ n → place_boxes n lb ld bs 0 rb ≡ place_run lb ld bs rb
+unfolding place_run
+place-enough zero lb ld bs rb h = let q : 0 ≡ length bs = omega arith in ap (λ m. place_boxes m lb ld bs 0 rb) q
 place-enough (suc n) lb ld bs rb h = cases (suc n) (length bs)
-    (λ i. let q : suc n ≡ length bs = omega arith in ap (λ m. placeBoxes m lb ld bs 0 rb) q)
+    (λ i. let q : suc n ≡ length bs = omega arith in ap (λ m. place_boxes m lb ld bs 0 rb) q)
     (λ i. boxes-more n lb ld bs 0 rb (omega arith) ∙ place-enough n lb ld bs rb (omega arith))

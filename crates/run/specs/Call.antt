@@ -1,12 +1,12 @@
 -- The call place-run: what it takes, refusal 8, and what it gives.
 use Rattle.std.specs.Prelude.{◌≡◌, Bool, true, cond, ◌&&◌, List, [], ◌∷◌, ℕ, ◌+◌, ◌-◌, ◌*◌, leb, eqb, length, take, drop, get_or, ℤ}
 use Rattle.ints.specs.Lists.{sum}
-use Rattle.ints.specs.Reach.{reach, allWithin}
-use Rattle.ints.specs.Ratings.{allRatings}
-use Rattle.ints.specs.Refusals.{Test, check, noneRefuses}
-use Rattle.run.specs.Run.{Bound as Limit, free, at, leadsOf, Box, neighboursInOrder}
-use Rattle.run.specs.Place.{placeRun}
-use Rattle.run.specs.Words.{isPossible}
+use Rattle.ints.specs.Reach.{reach, all_within}
+use Rattle.ints.specs.Ratings.{all_ratings}
+use Rattle.ints.specs.Refusals.{Test, check, none_refuses}
+use Rattle.run.specs.Run.{Bound as Limit, free, at, leads_of, Box, neighbours_in_order}
+use Rattle.run.specs.Place.{place_run}
+use Rattle.run.specs.Words.{is_possible}
 use Rattle.run.specs.declared.types.Bound.{Bound}
 use Rattle.run.specs.declared.types.Bound.TheVariants.{Free, At}
 use Rattle.run.specs.declared.types.Answer.{Answer}
@@ -28,83 +28,83 @@ pub record Request : Type 0 where
   pub neighbours : List ℤ
   pub ratings : List ℕ
 
-abbrev pub limitOf : Bound → Limit
-limitOf Free = free
-limitOf (At x) = at x
+abbrev pub limit_of : Bound → Limit
+limit_of Free = free
+limit_of (At x) = at x
 
 -- How many members a side adds, and the positions it hands in: "the value handed in for an absent bound is ignored".
-abbrev pub memberOf : Bound → ℕ
-memberOf Free = 0
-memberOf (At x) = 1
+abbrev pub member_of : Bound → ℕ
+member_of Free = 0
+member_of (At x) = 1
 
-abbrev pub positionsOf : Bound → List ℤ
-positionsOf Free = []
-positionsOf (At x) = x ∷ []
+abbrev pub positions_of : Bound → List ℤ
+positions_of Free = []
+positions_of (At x) = x ∷ []
 
 -- The distance of the left bound to the first box (or to the right bound), and the distances after it.
-abbrev pub leftDistance : Bound → List ℕ → ℕ
-leftDistance Free ds = 0
-leftDistance (At x) ds = get_or ds 0 0
+abbrev pub left_distance : Bound → List ℕ → ℕ
+left_distance Free ds = 0
+left_distance (At x) ds = get_or ds 0 0
 
-abbrev pub otherDistances : Bound → List ℕ → List ℕ
-otherDistances Free ds = ds
-otherDistances (At x) ds = drop 1 ds
+abbrev pub other_distances : Bound → List ℕ → List ℕ
+other_distances Free ds = ds
+other_distances (At x) ds = drop 1 ds
 
 -- The boxes: each takes as many of the neighbours as its count says, each with its rating, and the next distance.
-unfoldable pub boxesFrom : List ℤ → List ℕ → List ℕ → List ℤ → List ℕ → List Box
-boxesFrom [] ds cs ns ws = []
-boxesFrom (o ∷ os) ds [] ns ws = []
-boxesFrom (o ∷ os) ds (c ∷ cs) ns ws =
-    let near = leadsOf (take c ns) (take c ws) in
-    record { old = o; near = near; dist = get_or ds 0 0 } ∷ boxesFrom os (drop 1 ds) cs (drop c ns) (drop c ws)
+unfoldable pub boxes_from : List ℤ → List ℕ → List ℕ → List ℤ → List ℕ → List Box
+boxes_from [] ds cs ns ws = []
+boxes_from (o ∷ os) ds [] ns ws = []
+boxes_from (o ∷ os) ds (c ∷ cs) ns ws =
+    let near = leads_of (take c ns) (take c ws) in
+    record { old = o; near = near; dist = get_or ds 0 0 } ∷ boxes_from os (drop 1 ds) cs (drop c ns) (drop c ws)
 
-abbrev pub boxesOf : Request → List Box
-boxesOf q = boxesFrom q.old (otherDistances q.left q.distances) q.counts q.neighbours q.ratings
+abbrev pub boxes_of : Request → List Box
+boxes_of q = boxes_from q.old (other_distances q.left q.distances) q.counts q.neighbours q.ratings
 
 -- "over 64 boxes, over 2,048 neighbours in all"
-abbrev pub maxBoxes : ℕ
-maxBoxes = 64
+abbrev pub max_boxes : ℕ
+max_boxes = 64
 
-abbrev pub maxNeighbours : ℕ
-maxNeighbours = 2048
+abbrev pub max_neighbours : ℕ
+max_neighbours = 2048
 
-abbrev pub isSmall : Request → Bool
-isSmall q = leb q.boxes maxBoxes && leb (sum q.counts) maxNeighbours
+abbrev pub is_small : Request → Bool
+is_small q = leb q.boxes max_boxes && leb (sum q.counts) max_neighbours
 
 -- "a lent slice whose length is not exactly what it must hold (answer, old positions and neighbour counts r each; neighbours
 -- the sum of those counts; distances one less than the members, bounds included, 0 if there are none)". Document 02, E5:
 -- ratings beside the neighbours, "exactly as many, and another length or one outside 1 to 100 is refused with 8".
-abbrev pub isFitting : Request → List ℤ → Bool
-isFitting q answer =
+abbrev pub is_fitting : Request → List ℤ → Bool
+is_fitting q answer =
     eqb (length answer) q.boxes && eqb (length q.old) q.boxes && eqb (length q.counts) q.boxes
     && eqb (length q.neighbours) (sum q.counts) && eqb (length q.ratings) (sum q.counts)
-    && eqb (length q.distances) (memberOf q.left + q.boxes + memberOf q.right - 1)
+    && eqb (length q.distances) (member_of q.left + q.boxes + member_of q.right - 1)
 
 -- "a position outside ±2^40, a distance outside 1 to 2^41", and a rating "outside 1 to 100"
-abbrev pub isDistance : ℕ → Bool
-isDistance d = leb 1 d && leb d (2 * reach)
+abbrev pub is_distance : ℕ → Bool
+is_distance d = leb 1 d && leb d (2 * reach)
 
-unfoldable pub allDistances : List ℕ → Bool
-allDistances [] = true
-allDistances (d ∷ ds) = isDistance d && allDistances ds
+unfoldable pub all_distances : List ℕ → Bool
+all_distances [] = true
+all_distances (d ∷ ds) = is_distance d && all_distances ds
 
-abbrev pub isInReach : Request → Bool
-isInReach q =
-    allWithin (positionsOf q.left) && allWithin (positionsOf q.right) && allWithin q.old && allWithin q.neighbours
-    && allRatings q.ratings && allDistances q.distances
+abbrev pub is_in_reach : Request → Bool
+is_in_reach q =
+    all_within (positions_of q.left) && all_within (positions_of q.right) && all_within q.old && all_within q.neighbours
+    && all_ratings q.ratings && all_distances q.distances
 
 -- "neighbours out of order, or bounds nearer than their distance"
-abbrev pub isSound : Request → Bool
-isSound q =
-    neighboursInOrder (boxesOf q)
-    && isPossible (limitOf q.left) (leftDistance q.left q.distances) (boxesOf q) (limitOf q.right)
+abbrev pub is_sound : Request → Bool
+is_sound q =
+    neighbours_in_order (boxes_of q)
+    && is_possible (limit_of q.left) (left_distance q.left q.distances) (boxes_of q) (limit_of q.right)
 
 -- 8, in the order of document 01's words.
-unfoldable pub runTests : Request → List ℤ → List Test
-runTests q answer = check 8 (isSmall q) ∷ check 8 (isFitting q answer) ∷ check 8 (isInReach q) ∷ check 8 (isSound q) ∷ []
+unfoldable pub run_tests : Request → List ℤ → List Test
+run_tests q answer = check 8 (is_small q) ∷ check 8 (is_fitting q answer) ∷ check 8 (is_in_reach q) ∷ check 8 (is_sound q) ∷ []
 
 unfoldable pub is_taken : Request → List ℤ → Bool
-is_taken q answer = noneRefuses (runTests q answer)
+is_taken q answer = none_refuses (run_tests q answer)
 
 -- Document 01's number, 0 where nothing is refused, and the answer buffer afterwards; refused, the buffer is as it was.
 pub record Out : Type 0 where
@@ -112,7 +112,7 @@ pub record Out : Type 0 where
   pub buffer : List ℤ
 
 unfoldable pub placed_of : Request → List ℤ
-placed_of q = placeRun (limitOf q.left) (leftDistance q.left q.distances) (boxesOf q) (limitOf q.right)
+placed_of q = place_run (limit_of q.left) (left_distance q.left q.distances) (boxes_of q) (limit_of q.right)
 
 abbrev pub out : ℕ → List ℤ → Out
 out n b = record { number = n; buffer = b }

@@ -11,7 +11,7 @@ use Rattle.run.specs.Run.{nondecreasing}
 use Rattle.ints.proofs.Lists.{drop-part}
 use Rattle.ints.proofs.Tests.{and_left, and_right, ◌and◌}
 use Rattle.ints.specs.Lists.{sum}
-use Rattle.run_columns.specs.inner.Columns.{partsInOrder, Columns}
+use Rattle.run_columns.specs.inner.Columns.{parts_in_order, Columns}
 
 -- ---- the first box, and the columns of the others
 pub record First (c : ℕ) (zs : List ℤ) (cs : List ℕ) (ns : List ℤ) : Type 0 where
@@ -20,7 +20,7 @@ pub record First (c : ℕ) (zs : List ℤ) (cs : List ℕ) (ns : List ℤ) : Typ
   pub others : Columns zs cs (drop c ns)
 
 pub first-box : {z : ℤ} {c : ℕ} {zs : List ℤ} {cs : List ℕ} {ns : List ℤ} → Columns (z ∷ zs) (c ∷ cs) ns → First c zs cs ns
-unfolding partsInOrder sum
+unfolding parts_in_order sum
 first-box {c = c} {cs = cs} {ns = ns} q = let e = q.neighbours in record {
   fits = omega arith;
   order = and_left _ _ q.order;
@@ -38,16 +38,16 @@ sum-cut zero cs = omega arith
 sum-cut (suc k) [] = refl
 sum-cut (suc k) (c ∷ cs) = omega (arith, sum-cut k cs)
 
-order-take : (k : ℕ) (cs : List ℕ) (ns : List ℤ) → partsInOrder cs ns ≡ true → partsInOrder (take k cs) (take (sum (take k cs)) ns) ≡ true
-unfolding partsInOrder sum
+order-take : (k : ℕ) (cs : List ℕ) (ns : List ℤ) → parts_in_order cs ns ≡ true → parts_in_order (take k cs) (take (sum (take k cs)) ns) ≡ true
+unfolding parts_in_order sum
 order-take zero cs ns e = refl
 order-take (suc k) [] ns e = refl
 order-take (suc k) (c ∷ cs) ns e = let s = sum (take k cs) in
     rw (take-take c (c + s) ns (omega arith), drop-part c s ns)
     (◌and◌ {a = nondecreasing (take c ns)} (and_left (nondecreasing (take c ns)) _ e) (order-take k cs (drop c ns) (and_right (nondecreasing (take c ns)) _ e)))
 
-order-drop : (k : ℕ) (cs : List ℕ) (ns : List ℤ) → partsInOrder cs ns ≡ true → partsInOrder (drop k cs) (drop (sum (take k cs)) ns) ≡ true
-unfolding partsInOrder sum
+order-drop : (k : ℕ) (cs : List ℕ) (ns : List ℤ) → parts_in_order cs ns ≡ true → parts_in_order (drop k cs) (drop (sum (take k cs)) ns) ≡ true
+unfolding parts_in_order sum
 order-drop zero cs ns e = e
 order-drop (suc k) [] ns e = refl
 order-drop (suc k) (c ∷ cs) ns e = rw (← drop-drop (sum (take k cs)) c ns) (order-drop k cs (drop c ns) (and_right (nondecreasing (take c ns)) _ e))

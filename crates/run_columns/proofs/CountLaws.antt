@@ -8,15 +8,15 @@ use native.Mathlib.Numerals.{add-one}
 use lib.ListN.{length, take, drop, get_or, length-take, length-drop, drop_of_length-le}
 use lib.Seq.{drop-cons, drop-drop}
 use lib.IntN.{ℤ, pos}
-use Rattle.ints.specs.Ratings.{maxRating, allRatings}
+use Rattle.ints.specs.Ratings.{max_rating, all_ratings}
 use Rattle.ints.proofs.Ratings.{ratings-take, ratings-drop}
-use Rattle.run.specs.Run.{Lead, leadsOf, totalRating}
-use Rattle.run.specs.inner.Coordinates.{ratedUpTo}
+use Rattle.run.specs.Run.{Lead, leads_of, total_rating}
+use Rattle.run.specs.inner.Coordinates.{rated_up_to}
 use Rattle.run.proofs.Rated.{rated-bound}
 use Rattle.run_columns.proofs.SumLaws.{total-most}
 use Rattle.run_columns.proofs.ColumnLaws.{First, first-box}
 use Rattle.run_columns.specs.inner.Columns.{Columns}
-use Rattle.run_columns.specs.inner.Counts.{counted, boxUpTo, boxBeyond, up_to, beyond, Beside, Around, BoxCounts, HalfCounts}
+use Rattle.run_columns.specs.inner.Counts.{counted, box_up_to, box_beyond, up_to, beyond, Beside, Around, BoxCounts, HalfCounts}
 
 -- ---- the places beside m
 pub beside-self : (m : ℤ) (b f : ℕ) → 0 < f → Beside m b f m
@@ -35,16 +35,16 @@ around-more p q = record { left = omega (arith, p.left, q.left); right = omega (
 pub record Counting (left : Bool) (zs : List ℤ) (cs : List ℕ) (ns : List ℤ) (ws : List ℕ) (m : ℤ) (back far u v b f a i : ℕ) : Type 0 where
   pub rest : Columns (drop i zs) (drop i cs) (drop a ns)
   pub within : a ≤ length ns
-  pub sizes : u + v ≤ maxRating * a
+  pub sizes : u + v ≤ max_rating * a
   pub around : Around back far b f
   pub ups : (x : ℤ) → Beside m b f x → u + up_to left (drop i zs) (drop i cs) (drop a ns) (drop a ws) x ≡ up_to left zs cs ns ws x
   pub beyonds : (x : ℤ) → Beside m b f x → v + beyond left (drop i zs) (drop i cs) (drop a ns) (drop a ws) x ≡ beyond left zs cs ns ws x
 
 -- what the next box adds
-pub box-sizes : (left : Bool) (z : ℤ) (ns : List Lead) (m : ℤ) → boxUpTo left z ns m + boxBeyond left z ns m ≤ totalRating ns
+pub box-sizes : (left : Bool) (z : ℤ) (ns : List Lead) (m : ℤ) → box_up_to left z ns m + box_beyond left z ns m ≤ total_rating ns
 box-sizes left z ns m = go (counted left z m)
   where
-    go : (t : Bool) → cond t (ratedUpTo m ns) 0 + cond t (totalRating ns - ratedUpTo m ns) 0 ≤ totalRating ns
+    go : (t : Bool) → cond t (rated_up_to m ns) 0 + cond t (total_rating ns - rated_up_to m ns) 0 ≤ total_rating ns
     go true = omega (arith, rated-bound m ns)
     go false = omega arith
 
@@ -60,16 +60,16 @@ module _ (left : Bool) (zs : List ℤ) (cs : List ℕ) (ns : List ℤ) (ws : Lis
       let r : Columns (get_or zs i (pos 0) ∷ drop (i + 1) zs) (get_or cs i 0 ∷ drop (i + 1) cs) (drop a ns) = rw (add-one, ← drop-cons zs i (pos 0) h, ← drop-cons cs i 0 k) q.rest in
       first-box r
 
-  next_up : (x : ℤ) → up_to left (drop i zs) (drop i cs) (drop a ns) (drop a ws) x ≡ boxUpTo left (get_or zs i (pos 0)) (leadsOf (take (get_or cs i 0) (drop a ns)) (take (get_or cs i 0) (drop a ws))) x + up_to left (drop (i + 1) zs) (drop (i + 1) cs) (drop (a + get_or cs i 0) ns) (drop (a + get_or cs i 0) ws) x
+  next_up : (x : ℤ) → up_to left (drop i zs) (drop i cs) (drop a ns) (drop a ws) x ≡ box_up_to left (get_or zs i (pos 0)) (leads_of (take (get_or cs i 0) (drop a ns)) (take (get_or cs i 0) (drop a ws))) x + up_to left (drop (i + 1) zs) (drop (i + 1) cs) (drop (a + get_or cs i 0) ns) (drop (a + get_or cs i 0) ws) x
   unfolding up_to
   next_up x = let k = counted-index in rw (add-one, drop-cons zs i (pos 0) h, drop-cons cs i 0 k, drop-drop (get_or cs i 0) a ns, drop-drop (get_or cs i 0) a ws)
 
-  next-beyond : (x : ℤ) → beyond left (drop i zs) (drop i cs) (drop a ns) (drop a ws) x ≡ boxBeyond left (get_or zs i (pos 0)) (leadsOf (take (get_or cs i 0) (drop a ns)) (take (get_or cs i 0) (drop a ws))) x + beyond left (drop (i + 1) zs) (drop (i + 1) cs) (drop (a + get_or cs i 0) ns) (drop (a + get_or cs i 0) ws) x
+  next-beyond : (x : ℤ) → beyond left (drop i zs) (drop i cs) (drop a ns) (drop a ws) x ≡ box_beyond left (get_or zs i (pos 0)) (leads_of (take (get_or cs i 0) (drop a ns)) (take (get_or cs i 0) (drop a ws))) x + beyond left (drop (i + 1) zs) (drop (i + 1) cs) (drop (a + get_or cs i 0) ns) (drop (a + get_or cs i 0) ws) x
   unfolding beyond
   next-beyond x = let k = counted-index in rw (add-one, drop-cons zs i (pos 0) h, drop-cons cs i 0 k, drop-drop (get_or cs i 0) a ns, drop-drop (get_or cs i 0) a ws)
 
-  module _ (s t b' f' : ℕ) (c : BoxCounts left (get_or zs i (pos 0)) (leadsOf (take (get_or cs i 0) (drop a ns)) (take (get_or cs i 0) (drop a ws))) m b f s t b' f') where
-    pub next-sizes : allRatings ws ≡ true → u + v + (s + t) ≤ maxRating * (a + get_or cs i 0)
+  module _ (s t b' f' : ℕ) (c : BoxCounts left (get_or zs i (pos 0)) (leads_of (take (get_or cs i 0) (drop a ns)) (take (get_or cs i 0) (drop a ws))) m b f s t b' f') where
+    pub next-sizes : all_ratings ws ≡ true → u + v + (s + t) ≤ max_rating * (a + get_or cs i 0)
     next-sizes e = let ps = take (get_or cs i 0) (drop a ns) in let rs = take (get_or cs i 0) (drop a ws) in let o = beside-self m b' f' c.around.some in
         omega (
           arith,
@@ -78,11 +78,11 @@ module _ (left : Bool) (zs : List ℤ) (cs : List ℕ) (ns : List ℤ) (ws : Lis
           c.beyonds m o,
           next-first.fits,
           length-take (get_or cs i 0) (drop a ns),
-          box-sizes left (get_or zs i (pos 0)) (leadsOf ps rs) m,
+          box-sizes left (get_or zs i (pos 0)) (leads_of ps rs) m,
           total-most ps rs (ratings-take (get_or cs i 0) (drop a ws) (ratings-drop a ws e)),
         )
 
-    pub counting-next : allRatings ws ≡ true → Counting left zs cs ns ws m back far (u + s) (v + t) b' f' (a + get_or cs i 0) (i + 1)
+    pub counting-next : all_ratings ws ≡ true → Counting left zs cs ns ws m back far (u + s) (v + t) b' f' (a + get_or cs i 0) (i + 1)
     counting-next e = let n = get_or cs i 0 in let f = next-first in record {
       rest = rw (← drop-drop n a ns) f.others;
       within = omega (arith, f.fits, length-drop a ns);

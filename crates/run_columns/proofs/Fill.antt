@@ -8,13 +8,13 @@ use lib.ListN.{length, take, drop, set, length-append, length-drop, drop_of_leng
 use lib.Seq.{take_all, take_at, drop_at, take-suc-set}
 
 -- a part from k to the end
-pub rest-is : {A : Type 0} (k : ℕ) (l : List A) → take (length l - k) (drop k l) ≡ drop k l
-rest-is k l = take_all (length l - k) (drop k l) (omega (arith, length-drop k l))
+pub rest_is : {A : Type 0} (k : ℕ) (l : List A) → take (length l - k) (drop k l) ≡ drop k l
+rest_is k l = take_all (length l - k) (drop k l) (omega (arith, length-drop k l))
 
 -- two parts of a list that are rewritten one after the other: xs in the place of the first k, then ys in the place of the others
 module _ {A : Type 0} (k : ℕ) (l xs ys : List A) (e : length xs ≡ k) where
   pub second-part : take (length (xs ++ drop k l) - k) (drop k (xs ++ drop k l)) ≡ drop k l
-  second-part = rest-is k (xs ++ drop k l) ∙ drop_at xs (drop k l) k e
+  second-part = rest_is k (xs ++ drop k l) ∙ drop_at xs (drop k l) k e
 
   pub both-parts : take k (xs ++ drop k l) ++ (ys ++ drop (length (xs ++ drop k l) - k) (drop k (xs ++ drop k l))) ≡ xs ++ ys
   both-parts = let h : length (drop k l) ≤ length (xs ++ drop k l) - k = omega (arith, length-append xs (drop k l)) in

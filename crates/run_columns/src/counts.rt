@@ -3,12 +3,12 @@
 // than there are neighbours.
 ghost use Rattle.std.specs.Prelude.{◌≡◌, true, map, ◌+◌, ◌-◌, ◌≤◌, ◌<◌, ◌^◌, min, length, get_or, pos};
 ghost use Rattle.ints.specs.Ints.{size};
-ghost use Rattle.run.specs.Run.{leadsOf, nondecreasing};
+ghost use Rattle.run.specs.Run.{leads_of, nondecreasing};
 ghost use Rattle.run.specs.inner.Coordinates.{less};
-ghost use Rattle.run_columns.specs.inner.Columns.{Columns, Small, maxSize};
+ghost use Rattle.run_columns.specs.inner.Columns.{Columns, Small, max_size};
 ghost use Rattle.run_columns.specs.inner.Counts.{counted, BackTo, FarTo, BoxCounts, HalfCounts};
-ghost use Rattle.run_columns.specs.inner.Offsets.{lessNear, OffsetsOf, Near, maxOffset};
-ghost use Rattle.run_columns.specs.inner.Sums.{ratingsBetween, SumsOf};
+ghost use Rattle.run_columns.specs.inner.Offsets.{less_near, OffsetsOf, Near, max_offset};
+ghost use Rattle.run_columns.specs.inner.Sums.{ratings_between, SumsOf};
 
 use crate::count::count_up_to;
 use ints::{apart, plus};
@@ -97,8 +97,8 @@ fn count_box(
     back: u64,
     far: u64,
 ) -> Counted
-    requires { (nondecreasing near.now ≡ true) × Near near.now × (offset ≤ maxOffset) × (size z ≤ maxSize) × (size m ≤ maxSize) × (0 < far) × SumsOf sums.now near.now }
-    ensures { BoxCounts left z (leadsOf (map (less offset) near.now) (ratingsBetween sums.now)) m back far result.upto result.beyond result.back result.far }
+    requires { (nondecreasing near.now ≡ true) × Near near.now × (offset ≤ max_offset) × (size z ≤ max_size) × (size m ≤ max_size) × (0 < far) × SumsOf sums.now near.now }
+    ensures { BoxCounts left z (leads_of (map (less offset) near.now) (ratings_between sums.now)) m back far result.upto result.beyond result.back result.far }
 {
     let b = back_to(z, m, back);
     let f = far_to(z, m, far);
@@ -132,9 +132,9 @@ pub fn count_half(
     back: u64,
     far: u64,
 ) -> Counted
-    requires { Columns z.now counts.now near.now × OffsetsOf offsets.now z.now × Small z.now × Near near.now × (size m ≤ maxSize) × (0 < far) × SumsOf sums.now near.now }
-    ensures { HalfCounts left z.now counts.now (lessNear offsets.now counts.now
-        near.now) (ratingsBetween sums.now) m back far result.upto result.beyond result.back result.far }
+    requires { Columns z.now counts.now near.now × OffsetsOf offsets.now z.now × Small z.now × Near near.now × (size m ≤ max_size) × (0 < far) × SumsOf sums.now near.now }
+    ensures { HalfCounts left z.now counts.now (less_near offsets.now counts.now
+        near.now) (ratings_between sums.now) m back far result.upto result.beyond result.back result.far }
 {
     let mut upto: u64 = 0;
     let mut beyond: u64 = 0;

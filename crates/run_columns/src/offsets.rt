@@ -3,7 +3,7 @@
 ghost use Rattle.std.specs.Prelude.{◌≡◌, ◌≤◌, length, get_or};
 ghost use Rattle.ints.specs.Lists.{sum};
 ghost use Rattle.run_columns.specs.inner.Columns.{Small};
-ghost use Rattle.run_columns.specs.inner.Offsets.{offsetsFrom, plusOffsets, OffsetsOf, maxOffset};
+ghost use Rattle.run_columns.specs.inner.Offsets.{offsets_from, plus_offsets, OffsetsOf, max_offset};
 
 use ints::plus;
 
@@ -16,8 +16,8 @@ pub fn distance_at(distances: &[u64], i: usize) -> u64
 
 // The offset of each box.
 pub fn fill_offsets(steps: &[u64], offsets: &mut [u64])
-    requires { sum steps.now ≤ maxOffset }
-    ensures { offsets.new ≡ offsetsFrom 0 steps.now (length offsets.old) }
+    requires { sum steps.now ≤ max_offset }
+    ensures { offsets.new ≡ offsets_from 0 steps.now (length offsets.old) }
 {
     let mut offset: u64 = 0;
     let mut i: usize = 0;
@@ -31,7 +31,7 @@ pub fn fill_offsets(steps: &[u64], offsets: &mut [u64])
 pub fn plus_offsets(offsets: &[u64], z: &mut [i64])
     requires offsets_of { OffsetsOf offsets.now z.old }
     requires small { Small z.old }
-    ensures { z.new ≡ plusOffsets offsets.now z.old }
+    ensures { z.new ≡ plus_offsets offsets.now z.old }
 {
     let mut i: usize = 0;
     while i < z.len() {

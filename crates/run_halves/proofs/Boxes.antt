@@ -7,36 +7,36 @@ use lib.ListN.{length, take, drop, get_or, length-drop}
 use lib.Seq.{take_at, drop_at, take-take, drop-drop, drop-nil}
 use lib.IntN.{ℤ, pos, ◌+ℤ◌}
 use Rattle.ints.specs.Lists.{sum}
-use Rattle.run.specs.Call.{boxesFrom}
+use Rattle.run.specs.Call.{boxes_from}
 use Rattle.ints.proofs.Lists.{drop-part}
 use Rattle.run.specs.Run.{span}
 use Rattle.run.proofs.Leads.{leads-less}
-use Rattle.run.specs.inner.Coordinates.{less, inRun, addOffsets}
-use Rattle.run_columns.specs.inner.Offsets.{offsetsFrom, lessOffsets, lessNear, plusOffsets}
+use Rattle.run.specs.inner.Coordinates.{less, in_run, add_offsets}
+use Rattle.run_columns.specs.inner.Offsets.{offsets_from, less_offsets, less_near, plus_offsets}
 use Rattle.run_columns.proofs.OffsetLaws.{mapped-long}
 
 -- ---- the boxes of the columns
-pub length-boxes : (os : List ℤ) (ds cs : List ℕ) (ns : List ℤ) (ws : List ℕ) → length os ≡ length cs → length (boxesFrom os ds cs ns ws) ≡ length os
-unfolding boxesFrom
+pub length-boxes : (os : List ℤ) (ds cs : List ℕ) (ns : List ℤ) (ws : List ℕ) → length os ≡ length cs → length (boxes_from os ds cs ns ws) ≡ length os
+unfolding boxes_from
 length-boxes [] ds cs ns ws e = refl
 length-boxes (o ∷ os) ds [] ns ws e = absurd (omega arith)
 length-boxes (o ∷ os) ds (c ∷ cs) ns ws e = ap suc (length-boxes os (drop 1 ds) cs (drop c ns) (drop c ws) (omega arith))
 
-pub take-boxes : (k : ℕ) (os : List ℤ) (ds cs : List ℕ) (ns : List ℤ) (ws : List ℕ) → take k (boxesFrom os ds cs ns ws) ≡ boxesFrom (take k os) ds (take k cs) (take (sum (take k cs)) ns) (take (sum (take k cs)) ws)
-unfolding boxesFrom sum
+pub take-boxes : (k : ℕ) (os : List ℤ) (ds cs : List ℕ) (ns : List ℤ) (ws : List ℕ) → take k (boxes_from os ds cs ns ws) ≡ boxes_from (take k os) ds (take k cs) (take (sum (take k cs)) ns) (take (sum (take k cs)) ws)
+unfolding boxes_from sum
 take-boxes zero os ds cs ns ws = refl
 take-boxes (suc k) [] ds cs ns ws = refl
 take-boxes (suc k) (o ∷ os) ds [] ns ws = refl
 take-boxes (suc k) (o ∷ os) ds (c ∷ cs) ns ws = let s = sum (take k cs) in
     rw (take-take c (c + s) ns (omega arith), drop-part c s ns, take-take c (c + s) ws (omega arith), drop-part c s ws, take-boxes k os (drop 1 ds) cs (drop c ns) (drop c ws))
 
-pub drop-boxes : (k : ℕ) (os : List ℤ) (ds cs : List ℕ) (ns : List ℤ) (ws : List ℕ) → drop k (boxesFrom os ds cs ns ws) ≡ boxesFrom (drop k os) (drop k ds) (drop k cs) (drop (sum (take k cs)) ns) (drop (sum (take k cs)) ws)
-unfolding boxesFrom sum
+pub drop-boxes : (k : ℕ) (os : List ℤ) (ds cs : List ℕ) (ns : List ℤ) (ws : List ℕ) → drop k (boxes_from os ds cs ns ws) ≡ boxes_from (drop k os) (drop k ds) (drop k cs) (drop (sum (take k cs)) ns) (drop (sum (take k cs)) ws)
+unfolding boxes_from sum
 drop-boxes zero os ds cs ns ws = refl
 drop-boxes (suc k) [] ds cs ns ws = refl
 drop-boxes (suc k) (o ∷ os) ds [] ns ws = no-counts (drop k os)
   where
-    no-counts : (os : List ℤ) → [] ≡ boxesFrom os (drop (suc k) ds) [] (drop 0 ns) (drop 0 ws)
+    no-counts : (os : List ℤ) → [] ≡ boxes_from os (drop (suc k) ds) [] (drop 0 ns) (drop 0 ws)
     no-counts [] = refl
     no-counts (o ∷ os) = refl
 drop-boxes (suc k) (o ∷ os) ds (c ∷ cs) ns ws =
@@ -48,24 +48,24 @@ drop-boxes (suc k) (o ∷ os) ds (c ∷ cs) ns ws =
 
 -- ---- the boxes
 pub in-run-is : (o : ℕ) (xs : List ℤ) (ds cs : List ℕ) (ns : List ℤ) (ws : List ℕ) → length xs ≡ length cs → length ns ≡ sum cs
-    → let os = offsetsFrom o ds (length xs) in boxesFrom (lessOffsets os xs) ds cs (lessNear os cs ns) ws ≡ inRun o (boxesFrom xs ds cs ns ws)
-unfolding boxesFrom offsetsFrom lessOffsets lessNear inRun sum
+    → let os = offsets_from o ds (length xs) in boxes_from (less_offsets os xs) ds cs (less_near os cs ns) ws ≡ in_run o (boxes_from xs ds cs ns ws)
+unfolding boxes_from offsets_from less_offsets less_near in_run sum
 in-run-is o [] ds cs ns ws e f = refl
 in-run-is o (x ∷ xs) ds [] ns ws e f = absurd (omega arith)
-in-run-is o (x ∷ xs) ds (c ∷ cs) ns ws e f = let s = map (less o) (take c ns) in let os = offsetsFrom (o + get_or ds 0 0) (drop 1 ds) (length xs) in let r = lessNear os cs (drop c ns) in
+in-run-is o (x ∷ xs) ds (c ∷ cs) ns ws e f = let s = map (less o) (take c ns) in let os = offsets_from (o + get_or ds 0 0) (drop 1 ds) (length xs) in let r = less_near os cs (drop c ns) in
     let l = mapped-long o c ns (omega arith) in
     rw (take_at s r c l, drop_at s r c l, leads-less o (take c ns) (take c ws), in-run-is (o + get_or ds 0 0) xs (drop 1 ds) cs (drop c ns) (drop c ws) (omega arith) (omega (arith, length-drop c ns)))
 
 pub add_is : (o : ℕ) (xs : List ℤ) (ds cs : List ℕ) (ns : List ℤ) (ws : List ℕ) (zs : List ℤ) → length xs ≡ length cs → length zs ≡ length xs
-    → plusOffsets (offsetsFrom o ds (length xs)) zs ≡ addOffsets o (boxesFrom xs ds cs ns ws) zs
-unfolding boxesFrom offsetsFrom plusOffsets addOffsets
+    → plus_offsets (offsets_from o ds (length xs)) zs ≡ add_offsets o (boxes_from xs ds cs ns ws) zs
+unfolding boxes_from offsets_from plus_offsets add_offsets
 add_is o [] ds cs ns ws zs e f = refl
 add_is o (x ∷ xs) ds [] ns ws zs e f = absurd (omega arith)
 add_is o (x ∷ xs) ds (c ∷ cs) ns ws [] e f = absurd (omega arith)
 add_is o (x ∷ xs) ds (c ∷ cs) ns ws (z ∷ zs) e f = ap (λ (r : List ℤ). (z +ℤ pos o) ∷ r) (add_is (o + get_or ds 0 0) xs (drop 1 ds) cs (drop c ns) (drop c ws) zs (omega arith) (omega arith))
 
-pub span-is : (os : List ℤ) (ds cs : List ℕ) (ns : List ℤ) (ws : List ℕ) → length os ≡ length cs → length ds ≤ length os → span (boxesFrom os ds cs ns ws) ≡ sum ds
-unfolding boxesFrom span sum
+pub span-is : (os : List ℤ) (ds cs : List ℕ) (ns : List ℤ) (ws : List ℕ) → length os ≡ length cs → length ds ≤ length os → span (boxes_from os ds cs ns ws) ≡ sum ds
+unfolding boxes_from span sum
 span-is [] [] cs ns ws e h = refl
 span-is [] (d ∷ ds) cs ns ws e h = absurd (omega arith)
 span-is (x ∷ os) ds [] ns ws e h = absurd (omega arith)

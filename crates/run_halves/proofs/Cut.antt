@@ -9,8 +9,8 @@ use lib.Seq.{drop-cons, drop-set-lt}
 use lib.IntN.{ℤ, pos}
 use Rattle.run_columns.specs.inner.Columns.{Columns}
 use Rattle.run_halves.specs.inner.Meet.{Cut}
-use Rattle.ints.specs.Ints.{minZ, maxZ}
-use Rattle.run.specs.inner.Bisection.{cut_at, raiseTo}
+use Rattle.ints.specs.Ints.{min_z, max_z}
+use Rattle.run.specs.inner.Bisection.{cut_at, raise_to}
 use Rattle.run_columns.proofs.ColumnLaws.{columns-drop, columns-take, sum-cut}
 use Rattle.run_columns.proofs.Fill.{fill_end, fill-next}
 
@@ -35,15 +35,15 @@ module _ (f : ℤ → ℤ) where
   map-end z i goal h q = fill_end z i goal h (rw (drop_of_length-le z h) at q)
 
 -- the cut and the raise of a half are such
-pub cut-is : (m : ℤ) (xs : List ℤ) → map (λ x. minZ x m) xs ≡ cut_at m xs
+pub cut-is : (m : ℤ) (xs : List ℤ) → map (λ x. min_z x m) xs ≡ cut_at m xs
 unfolding cut_at
 cut-is m [] = refl
-cut-is m (x ∷ xs) = ap (λ (r : List ℤ). minZ x m ∷ r) (cut-is m xs)
+cut-is m (x ∷ xs) = ap (λ (r : List ℤ). min_z x m ∷ r) (cut-is m xs)
 
-pub raise-is : (m : ℤ) (xs : List ℤ) → map (λ x. maxZ x m) xs ≡ raiseTo m xs
-unfolding raiseTo
+pub raise-is : (m : ℤ) (xs : List ℤ) → map (λ x. max_z x m) xs ≡ raise_to m xs
+unfolding raise_to
 raise-is m [] = refl
-raise-is m (x ∷ xs) = ap (λ (r : List ℤ). maxZ x m ∷ r) (raise-is m xs)
+raise-is m (x ∷ xs) = ap (λ (r : List ℤ). max_z x m ∷ r) (raise-is m xs)
 
 pub length_cut : (m : ℤ) (xs : List ℤ) → length (cut_at m xs) ≡ length xs
-length_cut m xs = rw (← cut-is m xs) (length-map xs (λ x. minZ x m))
+length_cut m xs = rw (← cut-is m xs) (length-map xs (λ x. min_z x m))

@@ -3,15 +3,15 @@
 // there are neighbours.
 ghost use Rattle.std.specs.Prelude.{◌≡◌, map, ◌<◌, ◌≤◌, ◌^◌, length};
 ghost use Rattle.ints.specs.Ints.{size};
-ghost use Rattle.run.specs.Run.{leadsOf, halfDown, start_of};
+ghost use Rattle.run.specs.Run.{leads_of, half_down, start_of};
 ghost use Rattle.run.specs.inner.Coordinates.{less};
-ghost use Rattle.run.specs.inner.Limits.{clampLow, clampHigh, clamp};
+ghost use Rattle.run.specs.inner.Limits.{clamp_low, clamp_high, clamp};
 ghost use Rattle.ints.specs.Lists.{sum};
 ghost use Rattle.ints.specs.Reach.{reach};
-ghost use Rattle.run.specs.Call.{limitOf, boxesFrom};
-ghost use Rattle.run_halves.specs.inner.Halves.{Placed, Given, Fits, placedBetween};
-ghost use Rattle.run_columns.specs.inner.Offsets.{lessOffsets, lessNear, Near, maxOffset};
-ghost use Rattle.run_columns.specs.inner.Sums.{ratingsBetween, SumsOf};
+ghost use Rattle.run.specs.Call.{limit_of, boxes_from};
+ghost use Rattle.run_halves.specs.inner.Halves.{Placed, Given, Fits, placed_between};
+ghost use Rattle.run_columns.specs.inner.Offsets.{less_offsets, less_near, Near, max_offset};
+ghost use Rattle.run_columns.specs.inner.Sums.{ratings_between, SumsOf};
 
 use crate::meet::join;
 use crate::middle::find_middles;
@@ -21,7 +21,7 @@ use run_columns::offsets::{fill_offsets, plus_offsets};
 
 // Half of z, rounded toward minus infinity: only numbers that are not negative are halved.
 fn half_down(z: i64) -> i64
-    ensures { result ≡ halfDown z }
+    ensures { result ≡ half_down z }
 {
     if z < 0 {
         -1 - ((-1 - z) as u64 / 2) as i64
@@ -33,7 +33,7 @@ fn half_down(z: i64) -> i64
 // Where a lone box starts: halfway between the two middle ones of its neighbours, or at its old position if it has none.
 fn start(old: i64, near: &[i64], sums: &[u64]) -> i64
     requires { Near near.now × SumsOf sums.now near.now }
-    ensures { result ≡ start_of old (leadsOf near.now (ratingsBetween sums.now)) }
+    ensures { result ≡ start_of old (leads_of near.now (ratings_between sums.now)) }
 {
     if near.len() == 0 {
         return old;
@@ -47,7 +47,7 @@ fn start(old: i64, near: &[i64], sums: &[u64]) -> i64
 }
 
 fn raised(left: Bound, x: i64) -> i64
-    ensures { result ≡ clampLow (limitOf left) x }
+    ensures { result ≡ clamp_low (limit_of left) x }
 {
     match left {
         Bound::Free => x,
@@ -56,7 +56,7 @@ fn raised(left: Bound, x: i64) -> i64
 }
 
 fn lowered(right: Bound, x: i64) -> i64
-    ensures { result ≡ clampHigh (limitOf right) x }
+    ensures { result ≡ clamp_high (limit_of right) x }
 {
     match right {
         Bound::Free => x,
@@ -66,9 +66,9 @@ fn lowered(right: Bound, x: i64) -> i64
 
 // One box: from its start raised to the left limit, then lowered to the right one.
 fn place_one(left: Bound, right: Bound, old: i64, offset: u64, near: &[i64], sums: &[u64]) -> i64
-    requires { (size old ≤ reach) × (offset ≤ maxOffset) × Near near.now × SumsOf sums.now near.now }
-    ensures { result ≡ clamp (limitOf left) (limitOf right) (start_of (less offset old) (leadsOf (map (less offset) near.now)
-        (ratingsBetween sums.now))) }
+    requires { (size old ≤ reach) × (offset ≤ max_offset) × Near near.now × SumsOf sums.now near.now }
+    ensures { result ≡ clamp (limit_of left) (limit_of right) (start_of (less offset old) (leads_of (map (less offset) near.now)
+        (ratings_between sums.now))) }
 {
     lowered(right, raised(left, minus(start(old, near, sums), offset)))
 }
@@ -97,9 +97,9 @@ fn place_halves(
     sums: &[u64],
     z: &mut [i64],
 )
-    requires { Given (limitOf left) (limitOf right) old.now offsets.now counts.now near.now sums.now z.old }
-    ensures { Placed (limitOf left) (limitOf right) (lessOffsets offsets.now old.now) counts.now
-        (lessNear offsets.now counts.now near.now) (ratingsBetween sums.now) z.new }
+    requires { Given (limit_of left) (limit_of right) old.now offsets.now counts.now near.now sums.now z.old }
+    ensures { Placed (limit_of left) (limit_of right) (less_offsets offsets.now old.now) counts.now
+        (less_near offsets.now counts.now near.now) (ratings_between sums.now) z.new }
 {
     let r = old.len();
     if r == 0 {
@@ -147,10 +147,10 @@ pub fn place_between(
     offsets: &mut [u64],
     answer: &mut [i64],
 )
-    requires fits { Fits (limitOf left) (limitOf right) steps.now old.now counts.now neighbours.now sums.now answer.old }
+    requires fits { Fits (limit_of left) (limit_of right) steps.now old.now counts.now neighbours.now sums.now answer.old }
     requires offsets_len { length offsets.old ≡ length old.now }
-    ensures { answer.new ≡ placedBetween (limitOf left) (limitOf right) (boxesFrom old.now steps.now counts.now
-        neighbours.now (ratingsBetween sums.now)) }
+    ensures { answer.new ≡ placed_between (limit_of left) (limit_of right) (boxes_from old.now steps.now counts.now
+        neighbours.now (ratings_between sums.now)) }
 {
     fill_offsets(steps, offsets);
     place_halves(left, right, old, offsets, counts, neighbours, sums, answer);

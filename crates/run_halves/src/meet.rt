@@ -3,11 +3,11 @@
 // neighbours.
 ghost use Rattle.std.specs.Prelude.{◌≡◌, true, ◌+◌, ◌-◌, ◌≤◌, ◌<◌};
 ghost use Rattle.ints.specs.Ints.{size, ◌⊏◌};
-ghost use Rattle.run.specs.inner.Bisection.{cut_at, raiseTo};
-ghost use Rattle.run_columns.specs.inner.Columns.{Small, maxSize};
-ghost use Rattle.run_halves.specs.inner.Meet.{Cut, Tests, lastBefore, firstAfter, MeetAt, Joined};
-ghost use Rattle.run_columns.specs.inner.Offsets.{lessNear, OffsetsOf, Near};
-ghost use Rattle.run_columns.specs.inner.Sums.{ratingsBetween, SumsOf};
+ghost use Rattle.run.specs.inner.Bisection.{cut_at, raise_to};
+ghost use Rattle.run_columns.specs.inner.Columns.{Small, max_size};
+ghost use Rattle.run_halves.specs.inner.Meet.{Cut, Tests, last_before, first_after, MeetAt, Joined};
+ghost use Rattle.run_columns.specs.inner.Offsets.{less_near, OffsetsOf, Near};
+ghost use Rattle.run_columns.specs.inner.Sums.{ratings_between, SumsOf};
 
 use ints::{apart, greater, lesser, plus};
 use run_columns::counts::count_half;
@@ -33,9 +33,9 @@ fn more_up_to(
     back: u64,
     far: u64,
 ) -> Tested
-    requires { Cut k n z.now counts.now near.now × OffsetsOf offsets.now z.now × Small z.now × Near near.now × (size m ≤ maxSize) × (0 < far) × SumsOf sums.now near.now }
-    ensures { Tests k n z.now counts.now (lessNear offsets.now counts.now near.now)
-        (ratingsBetween sums.now) m back far result.more result.back result.far }
+    requires { Cut k n z.now counts.now near.now × OffsetsOf offsets.now z.now × Small z.now × Near near.now × (size m ≤ max_size) × (0 < far) × SumsOf sums.now near.now }
+    ensures { Tests k n z.now counts.now (less_near offsets.now counts.now near.now)
+        (ratings_between sums.now) m back far result.more result.back result.far }
 {
     let l = count_half(
         true,
@@ -80,9 +80,9 @@ fn meeting_place(
 ) -> i64
     requires cut { Cut k n z.now counts.now near.now × OffsetsOf offsets.now z.now }
     requires small { Small z.now × Near near.now × SumsOf sums.now near.now }
-    requires first_after { firstAfter k z.now ⊏ lastBefore k z.now }
-    ensures { MeetAt k n z.now counts.now (lessNear offsets.now counts.now near.now)
-        (ratingsBetween sums.now) result }
+    requires first_after { first_after k z.now ⊏ last_before k z.now }
+    ensures { MeetAt k n z.now counts.now (less_near offsets.now counts.now near.now)
+        (ratings_between sums.now) result }
 {
     let b = z[k];
     let mut lo: u64 = 0;
@@ -124,7 +124,7 @@ fn cut(m: i64, z: &mut [i64])
 
 // Raises a half to m: no box stays left of it.
 fn raise(m: i64, z: &mut [i64])
-    ensures { z.new ≡ raiseTo m z.old }
+    ensures { z.new ≡ raise_to m z.old }
 {
     let mut i: usize = 0;
     while i < z.len() {
@@ -145,8 +145,8 @@ pub fn join(
 )
     requires cut { Cut k n z.old counts.now near.now × OffsetsOf offsets.now z.old }
     requires small { Small z.old × Near near.now × SumsOf sums.now near.now }
-    ensures { Joined k n z.old counts.now (lessNear offsets.now counts.now near.now)
-        (ratingsBetween sums.now) z.new }
+    ensures { Joined k n z.old counts.now (less_near offsets.now counts.now near.now)
+        (ratings_between sums.now) z.new }
 {
     if z[k] < z[k - 1] {
         let m = meeting_place(k, n, z, offsets, counts, near, sums);

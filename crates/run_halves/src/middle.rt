@@ -1,8 +1,8 @@
 // The two middle ones of a box's neighbours, by sums of ratings so far, one more than there are neighbours.
 ghost use Rattle.std.specs.Prelude.{◌≡◌, true, ◌+◌, ◌-◌, ◌*◌, ◌≤◌, ◌<◌, length, get_or};
-ghost use Rattle.ints.specs.Ratings.{allRatings};
-ghost use Rattle.run.specs.Call.{maxNeighbours};
-ghost use Rattle.run_columns.specs.inner.Sums.{ratingsBetween};
+ghost use Rattle.ints.specs.Ratings.{all_ratings};
+ghost use Rattle.run.specs.Call.{max_neighbours};
+ghost use Rattle.run_columns.specs.inner.Sums.{ratings_between};
 ghost use Rattle.run_halves.specs.inner.Middles.{Reaches, total_of, AreMiddles};
 
 #[derive(Drop)]
@@ -13,7 +13,7 @@ pub struct Middles {
 
 // The first neighbour at which twice the ratings so far reach t, by a binary search: between lo and hi all the time.
 fn first_reaching(sums: &[u64], t: u64) -> usize
-    requires sums_value { (allRatings (ratingsBetween sums.now) ≡ true) × (length sums.now ≤ maxNeighbours + 1) }
+    requires sums_value { (all_ratings (ratings_between sums.now) ≡ true) × (length sums.now ≤ max_neighbours + 1) }
     requires t_nonzero { (0 < t) × (t ≤ 2 * total_of sums.now) }
     ensures { Reaches t sums.now result }
 {
@@ -33,7 +33,7 @@ fn first_reaching(sums: &[u64], t: u64) -> usize
 
 // The first at which they exceed t, if i is the first at which they reach it: the same one, or the next, since no rating is 0.
 fn first_exceeding(sums: &[u64], t: u64, i: usize) -> usize
-    requires sums_value { (allRatings (ratingsBetween sums.now) ≡ true) × (length sums.now ≤ maxNeighbours + 1) × Reaches t sums.now i }
+    requires sums_value { (all_ratings (ratings_between sums.now) ≡ true) × (length sums.now ≤ max_neighbours + 1) × Reaches t sums.now i }
     requires t_bound { t + 1 ≤ 2 * total_of sums.now }
     ensures { Reaches (t + 1) sums.now result }
 {
@@ -46,7 +46,7 @@ fn first_exceeding(sums: &[u64], t: u64, i: usize) -> usize
 
 // Both, of at least one neighbour. If the total is their number, no rating is above 1, and they are known without a search.
 pub fn find_middles(sums: &[u64]) -> Middles
-    requires { (allRatings (ratingsBetween sums.now) ≡ true) × (length sums.now ≤ maxNeighbours + 1) × (1 < length sums.now) }
+    requires { (all_ratings (ratings_between sums.now) ≡ true) × (length sums.now ≤ max_neighbours + 1) × (1 < length sums.now) }
     ensures { AreMiddles sums.now result.lower result.upper }
 {
     let n = sums.len() - 1;

@@ -1,9 +1,9 @@
 // Reads a script from standard input, carries out its commands on a sheet, and writes their answers to standard output as it goes.
 ghost use Rattle.std.specs.Prelude.{◌≡◌, ◌≤◌, ◌<◌, length};
 ghost use Rattle.script_runs.specs.inner.Filled.{buffers};
-ghost use Rattle.script_commands.specs.Table.{commandOf};
-ghost use Rattle.script_commands.specs.inner.Held.{lent, commandIn, Inside};
-ghost use Rattle.script_answers.specs.inner.Lengths.{maxAnswer};
+ghost use Rattle.script_commands.specs.Table.{command_of};
+ghost use Rattle.script_commands.specs.inner.Held.{lent, command_in, Inside};
+ghost use Rattle.script_answers.specs.inner.Lengths.{max_answer};
 ghost use Rattle.script_told.specs.Turns.{turn_of};
 
 use libc::{STDIN_FILENO, STDOUT_FILENO};
@@ -48,8 +48,8 @@ fn print_answers(
     ratings: &[u64],
     buffer: &mut [u8],
 ) -> Sheet
-    requires { Inside (lent text.now (buffers old.now distances.now counts.now neighbours.now ratings.now)) command × (maxAnswer ≤ length buffer.old) }
-    ensures { result ≡ (turn_of (commandIn command (lent text.now
+    requires { Inside (lent text.now (buffers old.now distances.now counts.now neighbours.now ratings.now)) command × (max_answer ≤ length buffer.old) }
+    ensures { result ≡ (turn_of (command_in command (lent text.now
         (buffers old.now distances.now counts.now neighbours.now ratings.now))) sheet).sheet }
 {
     let mut kept = sheet;
@@ -70,7 +70,7 @@ fn print_answers(
 
 // Carries out the command on a line.
 fn answer_line(sheet: Sheet, line: &[u8]) -> Sheet
-    ensures { result ≡ (turn_of (commandOf line.now) sheet).sheet }
+    ensures { result ≡ (turn_of (command_of line.now) sheet).sheet }
 {
     let mut text = [0u8; TEXT_ROOM];
     let mut old = [0i64; 65];

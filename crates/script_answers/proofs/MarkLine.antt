@@ -6,8 +6,8 @@ use Rattle.marks.specs.Exact.{ExactMark}
 use Rattle.marks.proofs.Exact.{Fits}
 use Rattle.script_marks.proofs.Back.{mark-back}
 use Rattle.script_answers.specs.Answers.{mark, line_of}
-use Rattle.script_answers.specs.inner.MarkLine.{markLineIn}
+use Rattle.script_answers.specs.inner.MarkLine.{mark_line_in}
 
-pub mark-line : (w : WholeMark) (m : Mark) → Fits w → ExactMark w m → markLineIn m ≡ line_of (mark w)
-unfolding markLineIn line_of
+pub mark-line : (w : WholeMark) (m : Mark) → Fits w → ExactMark w m → mark_line_in m ≡ line_of (mark w)
+unfolding mark_line_in line_of
 mark-line w m f e = rw (mark-back w m f e)

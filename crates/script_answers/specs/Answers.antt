@@ -6,7 +6,7 @@ use Rattle.plan.specs.declared.walk.Walk.{Walk}
 use Rattle.marks.specs.Marks.{WholeMark}
 use Rattle.sheet.specs.declared.types.Stage.{Stage}
 use Rattle.sheet.specs.declared.types.Stage.TheVariants.{Empty, Loaded, Drawn}
-use Rattle.script_marks.specs.Marks.{markWords}
+use Rattle.script_marks.specs.Marks.{mark_words}
 
 -- What is answered to a command.
 pub data Said : Type 0 where
@@ -28,23 +28,23 @@ pub data Said : Type 0 where
   positions : List ℤ → Said
 
 -- "empty", "loaded V E", "drawn V E P"
-unfoldable pub stageWords : Stage → List ℕ
-stageWords Empty = bytes "empty"
-stageWords (Loaded v e) = bytes "loaded " ++ decimal v ++ bytes " " ++ decimal e
-stageWords (Drawn v e p) = bytes "drawn " ++ decimal v ++ bytes " " ++ decimal e ++ bytes " " ++ decimal p
+unfoldable pub stage_words : Stage → List ℕ
+stage_words Empty = bytes "empty"
+stage_words (Loaded v e) = bytes "loaded " ++ decimal v ++ bytes " " ++ decimal e
+stage_words (Drawn v e p) = bytes "drawn " ++ decimal v ++ bytes " " ++ decimal e ++ bytes " " ++ decimal p
 
 -- " x1 x2 .."
-unfoldable pub positionWords : List ℤ → List ℕ
-positionWords [] = []
-positionWords (x ∷ xs) = bytes " " ++ signed x ++ positionWords xs
+unfoldable pub position_words : List ℤ → List ℕ
+position_words [] = []
+position_words (x ∷ xs) = bytes " " ++ signed x ++ position_words xs
 
 -- The line of an answer. A report line's length counts its LF, which ends the answer.
 unfoldable pub line_of : Said → List ℕ
 line_of unknown = bytes "unknown\n"
 line_of (refused n) = bytes "refused " ++ decimal n ++ bytes "\n"
 line_of done = bytes "ok\n"
-line_of (stage s) = bytes "ok " ++ stageWords s ++ bytes "\n"
+line_of (stage s) = bytes "ok " ++ stage_words s ++ bytes "\n"
 line_of (text l) = bytes "ok " ++ decimal (length l) ++ bytes " " ++ l
-line_of (mark m) = bytes "ok " ++ markWords m ++ bytes "\n"
+line_of (mark m) = bytes "ok " ++ mark_words m ++ bytes "\n"
 line_of (walked w) = cond w.crossed (bytes "ok crossed ") (bytes "ok clear ") ++ decimal w.taken ++ bytes "\n"
-line_of (positions xs) = bytes "ok" ++ positionWords xs ++ bytes "\n"
+line_of (positions xs) = bytes "ok" ++ position_words xs ++ bytes "\n"

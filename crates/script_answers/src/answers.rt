@@ -2,8 +2,8 @@
 ghost use Rattle.std.specs.Prelude.{◌+◌, ◌≤◌, length};
 ghost use Rattle.text_write.specs.inner.Written.{Room, Wrote};
 ghost use Rattle.script_answers.specs.Answers.{unknown, refused, done, stage as staged, text, walked, positions, line_of};
-ghost use Rattle.script_answers.specs.inner.MarkLine.{markLineIn};
-ghost use Rattle.script_answers.specs.inner.Lengths.{maxAnswer};
+ghost use Rattle.script_answers.specs.inner.MarkLine.{mark_line_in};
+ghost use Rattle.script_answers.specs.inner.Lengths.{max_answer};
 
 use crate::words::{put_positions, put_stage};
 use marks::types::Mark;
@@ -42,7 +42,7 @@ pub fn say_done(out: &mut [u8], at: usize) -> usize
 
 // "ok empty", "ok loaded V E", "ok drawn V E P"
 pub fn say_stage(out: &mut [u8], at: usize, stage: Stage) -> usize
-    requires { at + maxAnswer ≤ length out.old }
+    requires { at + max_answer ≤ length out.old }
     ensures { Wrote (line_of (staged stage)) out.old at result out.new }
 {
     let words = put_word(out, at, b"ok ");
@@ -62,8 +62,8 @@ pub fn say_text(out: &mut [u8], at: usize, line: &[u8]) -> usize
 
 // "ok box x y hw", "ok bend x y", "ok line x1 y1 x2 y2"
 pub fn say_mark(out: &mut [u8], at: usize, mark: Mark) -> usize
-    requires { Room (markLineIn mark) out.old at }
-    ensures { Wrote (markLineIn mark) out.old at result out.new }
+    requires { Room (mark_line_in mark) out.old at }
+    ensures { Wrote (mark_line_in mark) out.old at result out.new }
 {
     let words = put_word(out, at, b"ok ");
     let end = put_mark(out, words, mark);

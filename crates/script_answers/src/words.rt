@@ -3,15 +3,15 @@ ghost use Rattle.std.specs.Prelude.{◌≡◌, ◌++◌, ◌+◌, ◌≤◌, len
 ghost use Rattle.text.specs.Bytes.{bytes};
 ghost use Rattle.text.specs.Decimal.{signed};
 ghost use Rattle.text_write.specs.inner.Written.{Room, Wrote};
-ghost use Rattle.script_answers.specs.Answers.{positionWords};
-ghost use Rattle.script_answers.specs.inner.Lengths.{maxStage, WroteStage};
+ghost use Rattle.script_answers.specs.Answers.{position_words};
+ghost use Rattle.script_answers.specs.inner.Lengths.{max_stage, WroteStage};
 
 use sheet::types::Stage;
 use text_write::number::{put_decimal, put_marked, put_then, put_word};
 
 // "loaded V E"
 fn put_loaded(out: &mut [u8], at: usize, vertices: usize, segments: usize) -> usize
-    requires { at + maxStage ≤ length out.old }
+    requires { at + max_stage ≤ length out.old }
     ensures { WroteStage (Stage.Loaded vertices segments) out.old at result out.new }
 {
     let v = put_word(out, at, b"loaded ");
@@ -21,7 +21,7 @@ fn put_loaded(out: &mut [u8], at: usize, vertices: usize, segments: usize) -> us
 
 // "drawn V E P"
 fn put_drawn(out: &mut [u8], at: usize, vertices: usize, segments: usize, placings: usize) -> usize
-    requires { at + maxStage ≤ length out.old }
+    requires { at + max_stage ≤ length out.old }
     ensures { WroteStage (Stage.Drawn vertices segments placings) out.old at result out.new }
 {
     let v = put_word(out, at, b"drawn ");
@@ -32,7 +32,7 @@ fn put_drawn(out: &mut [u8], at: usize, vertices: usize, segments: usize, placin
 
 // A stage.
 pub fn put_stage(out: &mut [u8], at: usize, stage: Stage) -> usize
-    requires { at + maxStage ≤ length out.old }
+    requires { at + max_stage ≤ length out.old }
     ensures { WroteStage stage out.old at result out.new }
 {
     match stage {
@@ -63,8 +63,8 @@ fn put_position(out: &mut [u8], at: usize, x: i64) -> usize
 
 // Positions, each with a space before it.
 pub fn put_positions(out: &mut [u8], from: usize, xs: &[i64]) -> usize
-    requires { Room (positionWords xs.now) out.old from }
-    ensures { Wrote (positionWords xs.now) out.old from result out.new }
+    requires { Room (position_words xs.now) out.old from }
+    ensures { Wrote (position_words xs.now) out.old from result out.new }
 {
     let mut at = from;
     let mut i: usize = 0;

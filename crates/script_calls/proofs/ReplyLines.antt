@@ -9,9 +9,9 @@ use lib.Ieee.{Float}
 use Rattle.text.proofs.Words.{never}
 use Rattle.text_write.specs.inner.Written.{Room, Wrote}
 use Rattle.marks.specs.declared.types.Mark.{Mark}
-use Rattle.marks.specs.Marks.{wholeMarkOf}
+use Rattle.marks.specs.Marks.{whole_mark_of}
 use Rattle.sheet.specs.declared.types.Sheet.{Sheet}
-use Rattle.sheet.specs.Sheet.{planIn, drawingIn}
+use Rattle.sheet.specs.Sheet.{plan_in, drawing_in}
 use Rattle.sheet.specs.Results.{Result, gives, refuses}
 use Rattle.sheet.specs.Calls as sheet
 use Rattle.sheet.proofs.Exactly.{mark-fits, mark-exact}
@@ -20,14 +20,14 @@ use Rattle.calls.specs.declared.types.Call.TheVariants.{Load, LoadTangled, Draw,
 use Rattle.calls.specs.declared.types.Reply.{Reply}
 use Rattle.calls.specs.declared.types.Reply.TheVariants.{Done, Written, Given, Refused}
 use Rattle.calls.specs.Replies as value
-use Rattle.calls.specs.Replies.{Value, written, marked, replyOf, each}
+use Rattle.calls.specs.Replies.{Value, written, marked, reply_of, each}
 use Rattle.calls.specs.Step.{Lent, step, Steps}
 use Rattle.script_answers.specs.Answers.{text, refused, done, mark, line_of}
-use Rattle.script_answers.specs.inner.MarkLine.{markLineIn}
+use Rattle.script_answers.specs.inner.MarkLine.{mark_line_in}
 use Rattle.script_answers.proofs.MarkLine.{mark-line}
 use Rattle.script_answers.proofs.Lengths.{said-short, mark-in-short}
-use Rattle.script_calls.specs.Said.{markAsked, callSaid, isRefusal}
-use Rattle.script_calls.specs.inner.Answered.{replyLine, is_refused, AnswerRoom, Fitted, AnswersCall}
+use Rattle.script_calls.specs.Said.{mark_asked, call_said, is_refusal}
+use Rattle.script_calls.specs.inner.Answered.{reply_line, is_refused, AnswerRoom, Fitted, AnswersCall}
 
 -- ---- a mark is given by the call mark alone
 no-mark : {A : Type 0} (f : A → Value) (r : Result A) {m : Mark} → ((a : A) → f a ≡ marked m → ⊥) → gives (marked m) ≡ each f r → ⊥
@@ -45,41 +45,41 @@ a-mark (gives a) e = cc
 a-mark (refuses k) e = never (cc)
 
 module _ (l : Lent) (s : Sheet) where
-  mark-given : (q : Call) (m : Mark) → gives (marked m) ≡ (step q l s).result → sheet.mark s (markAsked q) ≡ gives m
+  mark-given : (q : Call) (m : Mark) → gives (marked m) ≡ (step q l s).result → sheet.mark s (mark_asked q) ≡ gives m
   unfolding step
   mark-given Load m e = absurd (no-mark (λ u. value.done) (sheet.load s l.text).result (λ a. done_none) e)
-  mark-given LoadTangled m e = absurd (no-mark (λ u. value.done) (sheet.loadTangled s l.text).result (λ a. done_none) e)
+  mark-given LoadTangled m e = absurd (no-mark (λ u. value.done) (sheet.load_tangled s l.text).result (λ a. done_none) e)
   mark-given Draw m e = absurd (no-mark (λ u. value.done) (sheet.draw s).result (λ a. done_none) e)
   mark-given (Line n) m e = absurd (no-mark written (sheet.line s n l.buffer).result written_none e)
   mark-given Report m e = absurd (no-mark written (sheet.report s l.buffer).result written_none e)
-  mark-given (TextLine n) m e = absurd (no-mark written (sheet.textLine s n l.buffer).result written_none e)
-  mark-given WholeText m e = absurd (no-mark written (sheet.wholeText s l.buffer).result written_none e)
+  mark-given (TextLine n) m e = absurd (no-mark written (sheet.text_line s n l.buffer).result written_none e)
+  mark-given WholeText m e = absurd (no-mark written (sheet.whole_text s l.buffer).result written_none e)
   mark-given (MarkOf n) m e = a-mark (sheet.mark s n) e
   mark-given Marks m e = absurd (no-mark written (sheet.marks s l.numbers).result written_none e)
   mark-given Clear m e = absurd (no-mark (λ u. value.done) (sheet.clear s).result (λ a. done_none) e)
 
   -- ---- the line of a reply
-  pub reply-line : (q : Call) (r : Reply) → replyOf r ≡ (step q l s).result → replyLine r (step q l s).buffer ≡ line_of (callSaid q l s)
-  unfolding callSaid
+  pub reply-line : (q : Call) (r : Reply) → reply_of r ≡ (step q l s).result → reply_line r (step q l s).buffer ≡ line_of (call_said q l s)
+  unfolding call_said
   reply-line q Done e = rw (sym e)
   reply-line q (Written n) e = rw (sym e)
   reply-line q (Given m) e =
-      let w = wholeMarkOf (planIn s) (drawingIn s).final (markAsked q) in
+      let w = whole_mark_of (plan_in s) (drawing_in s).final (mark_asked q) in
       let g = mark-given q m e in
-      rw (sym e) (mark-line w m (mark-fits s (markAsked q) m g) (mark-exact s (markAsked q) m g))
+      rw (sym e) (mark-line w m (mark-fits s (mark_asked q) m g) (mark-exact s (mark_asked q) m g))
   reply-line q (Refused n) e = rw (sym e)
 
-  reply-refused : (r : Reply) → is_refused r ≡ isRefusal (replyOf r)
+  reply-refused : (r : Reply) → is_refused r ≡ is_refusal (reply_of r)
   reply-refused Done = refl
   reply-refused (Written n) = refl
   reply-refused (Given m) = refl
   reply-refused (Refused n) = refl
 
-  pub answers-call : {q : Call} (r : Reply) {left : Sheet} {b : List ℕ} {f : List Float} {o out : List ℕ} {at next : ℕ} → Steps (step q l s) r left b f → Fitted (replyLine r b) o at next out
+  pub answers-call : {q : Call} (r : Reply) {left : Sheet} {b : List ℕ} {f : List Float} {o out : List ℕ} {at next : ℕ} → Steps (step q l s) r left b f → Fitted (reply_line r b) o at next out
       → AnswersCall q l s o at next (is_refused r) left out b f
   answers-call {q} r h w = record {
     said = rw (sym (reply-line q r h.answered)) (rw h.bytes at w);
-    refused = reply-refused r ∙ ap isRefusal h.answered;
+    refused = reply-refused r ∙ ap is_refusal h.answered;
     sheet = h.left;
     bytes = h.bytes;
     floats = h.floats;
@@ -96,7 +96,7 @@ module _ {buffer out : List ℕ} {at : ℕ} (h : AnswerRoom buffer out at) where
   pub text-room : (n : ℕ) → Room (line_of (text (take n buffer))) out at
   text-room n = omega (arith, h.answer, said-short (text (take n buffer)) (omega (arith, h.line, length-take n buffer)))
 
-  pub mark-room : (m : Mark) → Room (markLineIn m) out at
+  pub mark-room : (m : Mark) → Room (mark_line_in m) out at
   mark-room m = omega (arith, h.answer, mark-in-short m)
 
   pub refused-room : (n : ℕ) → n < 2 ^ 64 → Room (line_of (refused n)) out at

@@ -11,17 +11,17 @@ use Rattle.run.specs.Call.{Request, Out, call_of, Outcome, number_of}
 use Rattle.place_run.proofs.Placed.{answer-few, answer-sized}
 use Rattle.text_write.specs.inner.Written.{Room}
 use Rattle.script_answers.specs.Answers.{positions, refused, line_of}
-use Rattle.script_answers.specs.inner.Lengths.{maxAnswer}
+use Rattle.script_answers.specs.inner.Lengths.{max_answer}
 use Rattle.script_answers.proofs.Lengths.{said-short}
 use Rattle.script_calls.specs.inner.Answered.{Fitted, AnswersRun}
 
 pub positions-room : (q : Request) (answer : List ℤ) (out : List ℕ) (at : ℕ) {a : Answer} {left : List ℤ} → a ≡ Accepted → Outcome (call_of q answer) a left → length left ≡ length answer
-    → at + maxAnswer ≤ length out → Room (line_of (positions left)) out at
+    → at + max_answer ≤ length out → Room (line_of (positions left)) out at
 positions-room q answer out at {left = left} e h k r =
     let n : (call_of q answer).number ≡ 0 = sym h.answered ∙ ap number_of e in
     omega (arith, said-short (positions left) (omega (arith, answer-few q answer n, k), rw h.left (answer-sized q answer n)))
 
-pub refused-room : (out : List ℕ) (at : ℕ) → at + maxAnswer ≤ length out → Room (line_of (refused 8)) out at
+pub refused-room : (out : List ℕ) (at : ℕ) → at + max_answer ≤ length out → Room (line_of (refused 8)) out at
 refused-room out at r = omega (arith, said-short (refused 8) (omega arith))
 
 module _ {r : Out} {a : Answer} {left : List ℤ} {o out : List ℕ} {at next : ℕ} where

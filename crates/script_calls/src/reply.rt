@@ -2,7 +2,7 @@
 ghost use Rattle.std.specs.Prelude.{◌≡◌, take};
 ghost use Rattle.text_write.specs.inner.Written.{Room, Wrote};
 ghost use Rattle.script_answers.specs.Answers.{text as texted, line_of};
-ghost use Rattle.script_calls.specs.inner.Answered.{replyLine, is_refused, AnswerRoom, Fitted};
+ghost use Rattle.script_calls.specs.inner.Answered.{reply_line, is_refused, AnswerRoom, Fitted};
 
 use calls::types::Reply;
 use script_answers::answers::{say_done, say_mark, say_refused, say_text};
@@ -21,7 +21,7 @@ fn say_front(out: &mut [u8], at: usize, buffer: &[u8], n: usize) -> usize
 // The reply's line.
 pub fn say_reply(out: &mut [u8], at: usize, reply: Reply, buffer: &[u8]) -> usize
     requires { AnswerRoom buffer.now out.old at }
-    ensures { Fitted (replyLine reply buffer.now) out.old at result out.new }
+    ensures { Fitted (reply_line reply buffer.now) out.old at result out.new }
 {
     match reply {
         Reply::Done => say_done(out, at),

@@ -1,7 +1,7 @@
 // The call place-run, and its answer.
 ghost use Rattle.std.specs.Prelude.{◌+◌, ◌≤◌, length};
 ghost use Rattle.run.specs.Call.{call_of};
-ghost use Rattle.script_answers.specs.inner.Lengths.{maxAnswer};
+ghost use Rattle.script_answers.specs.inner.Lengths.{max_answer};
 ghost use Rattle.script_calls.specs.inner.Answered.{AnswersRun};
 
 use place_run::call::place_run;
@@ -22,7 +22,7 @@ pub fn answer_run(
     out: &mut [u8],
     at: usize,
 ) -> usize
-    requires { at + maxAnswer ≤ length out.old }
+    requires { at + max_answer ≤ length out.old }
     ensures { AnswersRun (call_of (record {
       boxes = r;
       left = left;

@@ -11,7 +11,7 @@ pub data Command : Type 0 where
   -- `load S strict TEXT`: the bytes that TEXT stands for.
   load : List ℕ → Command
   -- `load S tangled TEXT`
-  loadTangled : List ℕ → Command
+  load_tangled : List ℕ → Command
   draw : Command
   clear : Command
   stage : Command
@@ -19,12 +19,12 @@ pub data Command : Type 0 where
   line : ℕ → ℕ → Command
   lines : Command
   -- `text S n [BUF]`: a line of the plan text as it was read.
-  textLine : ℕ → ℕ → Command
+  text_line : ℕ → ℕ → Command
   texts : Command
   mark : ℕ → Command
   marks : Command
   -- `walk l TEXT`: a level, and the bytes that TEXT stands for.
   walk : ℕ → List ℕ → Command
   -- `placerun ..`: a request for place-run, and the length of the answer buffer.
-  placeRun : Request → ℕ → Command
+  place_run : Request → ℕ → Command
   poke : Poke → Command

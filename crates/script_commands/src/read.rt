@@ -3,8 +3,8 @@ ghost use Rattle.std.specs.Prelude.{◌≡◌, List, ◌++◌, ℕ};
 ghost use Rattle.script_words.specs.Parts.{words};
 ghost use Rattle.script_texts.specs.Texts.{unescaped};
 ghost use Rattle.script_runs.specs.inner.Filled.{Buffers, buffers};
-ghost use Rattle.script_commands.specs.Commands.{load as strictLoad, loadTangled};
-ghost use Rattle.script_commands.specs.Table.{calls, planPokes, loadingPokes, drawingPokes, saidBy, isSkipped, loading, walking, placing, commandOf};
+ghost use Rattle.script_commands.specs.Commands.{load as strict_load, load_tangled};
+ghost use Rattle.script_commands.specs.Table.{calls, plan_pokes, loading_pokes, drawing_pokes, said_by, is_skipped, loading, walking, placing, command_of};
 ghost use Rattle.script_commands.specs.inner.Held.{lent, Commands, Bare};
 
 use crate::types::{Command, Poke};
@@ -21,7 +21,7 @@ pub const LONG_ENOUGH: usize = 1421;
 
 // "empty lines and lines that begin with `#` are skipped"
 fn is_skipped(line: &[u8]) -> bool
-    ensures { result ≡ isSkipped line.now }
+    ensures { result ≡ is_skipped line.now }
 {
     if line.len() == 0 {
         return true;
@@ -31,7 +31,7 @@ fn is_skipped(line: &[u8]) -> bool
 
 // "alters the stored record": the drawing,
 fn said_by_drawing_pokes(line: &[u8]) -> Command
-    ensures { Bare (saidBy drawingPokes line.now) result }
+    ensures { Bare (said_by drawing_pokes line.now) result }
 {
     let forms =
         b"poke 1 pre N Z\npoke 1 pos N Z\npoke 1 pass N N\npoke 1 level N N\npoke 1 box N N N Z";
@@ -52,7 +52,7 @@ fn said_by_drawing_pokes(line: &[u8]) -> Command
 
 // what is remembered of the loading,
 fn said_by_loading_pokes(line: &[u8]) -> Command
-    ensures { Bare (saidBy (loadingPokes ++ drawingPokes) line.now) result }
+    ensures { Bare (said_by (loading_pokes ++ drawing_pokes) line.now) result }
 {
     let forms = b"poke 1 mem N N\npoke 1 tangled 0\npoke 1 tangled 1";
     match first_form(forms, line) {
@@ -65,7 +65,7 @@ fn said_by_loading_pokes(line: &[u8]) -> Command
 
 // the stage and the plan.
 fn said_by_pokes(line: &[u8]) -> Command
-    ensures { Bare (saidBy (planPokes ++ loadingPokes ++ drawingPokes) line.now) result }
+    ensures { Bare (said_by (plan_pokes ++ loading_pokes ++ drawing_pokes) line.now) result }
 {
     let forms =
         b"poke 1 stage empty\npoke 1 stage loaded N N\npoke 1 stage drawn N N N\npoke 1 k N\npoke 1 g N\npoke 1 s N\npoke 1 size N N\npoke 1 vertex N box N\npoke 1 vertex N via N\npoke 1 seg N N N\npoke 1 seg N N N N";
@@ -97,7 +97,7 @@ fn said_by_pokes(line: &[u8]) -> Command
 
 // A call of the sheet, or a poke.
 fn said(line: &[u8]) -> Command
-    ensures { Bare (saidBy (calls ++ planPokes ++ loadingPokes ++ drawingPokes) line.now) result }
+    ensures { Bare (said_by (calls ++ plan_pokes ++ loading_pokes ++ drawing_pokes) line.now) result }
 {
     let forms =
         b"draw 1\nclear 1\nstage 1\nline 1 N\nline 1 N N\nlines 1\nmark 1 N\nmarks 1\ntext 1 N\ntext 1 N N\ntexts 1";
@@ -119,7 +119,7 @@ fn said(line: &[u8]) -> Command
 
 // "TEXT goes to the line's end": a strict load,
 fn load(escaped: &[u8], text: &mut [u8]) -> Command
-    ensures { (b : Buffers) → Commands (loading strictLoad (unescaped escaped.now)) (lent text.old b) result (lent text.new b) }
+    ensures { (b : Buffers) → Commands (loading strict_load (unescaped escaped.now)) (lent text.old b) result (lent text.new b) }
 {
     let r = unescape(escaped, text);
     match r {
@@ -130,7 +130,7 @@ fn load(escaped: &[u8], text: &mut [u8]) -> Command
 
 // a tangled one.
 fn load_tangled(escaped: &[u8], text: &mut [u8]) -> Command
-    ensures { (b : Buffers) → Commands (loading loadTangled (unescaped escaped.now)) (lent text.old b) result
+    ensures { (b : Buffers) → Commands (loading load_tangled (unescaped escaped.now)) (lent text.old b) result
         (lent text.new b) }
 {
     let r = unescape(escaped, text);
@@ -187,7 +187,7 @@ pub fn command(
     neighbours: &mut [i64],
     ratings: &mut [u64],
 ) -> Command
-    ensures { Commands (commandOf line.now)
+    ensures { Commands (command_of line.now)
         (lent text.old (buffers old.old distances.old counts.old neighbours.old ratings.old)) result
         (lent text.new (buffers old.new distances.new counts.new neighbours.new ratings.new)) }
 {

@@ -8,15 +8,15 @@ use lib.Dec.{eqb}
 use lib.ListN.{length, drop}
 use Rattle.text.specs.Bytes.{bytes}
 use Rattle.script_words.specs.Parts.{onto, parts, words, same}
-use Rattle.script_words.specs.Numbers.{number_in, isWhole, is_signed}
+use Rattle.script_words.specs.Numbers.{number_in, is_whole, is_signed}
 use Rattle.script_words.specs.inner.Ends.{between, PartEnds}
 use Rattle.script_words.proofs.PartLaws.{parts-split}
-use Rattle.script_forms.specs.Forms.{stands_for, fits, hasForm}
-use Rattle.script_forms.specs.inner.First.{firstForm}
+use Rattle.script_forms.specs.Forms.{stands_for, fits, has_form}
+use Rattle.script_forms.specs.inner.First.{first_form}
 
 -- ---- what a word of a form stands for
 module _ (f w : List ℕ) where
-  pub stands-whole : same f (bytes "N") ≡ true → stands_for f w ≡ isWhole (number_in w)
+  pub stands-whole : same f (bytes "N") ≡ true → stands_for f w ≡ is_whole (number_in w)
   unfolding stands_for
   stands-whole e = rw e
 
@@ -75,15 +75,15 @@ module _ (form line : List ℕ) (from end at to : ℕ) (f : PartEnds 32 form fro
 
 -- ---- the first form
 module _ (forms line : List ℕ) (from end : ℕ) (f : PartEnds 10 forms from end) where
-  pub first-here : hasForm (between from end forms) line ≡ true → firstForm (parts 10 (drop from forms)) line ≡ 0
-  unfolding firstForm
+  pub first-here : has_form (between from end forms) line ≡ true → first_form (parts 10 (drop from forms)) line ≡ 0
+  unfolding first_form
   first-here e = rw (parts-split 10 forms from end f, e)
 
-  pub first-none : hasForm (between from end forms) line ≡ false → length forms ≤ end → firstForm (parts 10 (drop from forms)) line ≡ 1
-  unfolding firstForm
+  pub first-none : has_form (between from end forms) line ≡ false → length forms ≤ end → first_form (parts 10 (drop from forms)) line ≡ 1
+  unfolding first_form
   first-none e h = rw (f.last h, e)
 
-  pub first_on : hasForm (between from end forms) line ≡ false → end < length forms → firstForm (parts 10 (drop from forms)) line ≡ suc
-      (firstForm (parts 10 (drop (end + 1) forms)) line)
-  unfolding firstForm
+  pub first_on : has_form (between from end forms) line ≡ false → end < length forms → first_form (parts 10 (drop from forms)) line ≡ suc
+      (first_form (parts 10 (drop (end + 1) forms)) line)
+  unfolding first_form
   first_on e h = rw (f.cut h, e)

@@ -2,13 +2,13 @@
 use Rattle.std.specs.Prelude.{Bool, true, false, cond, List, [], ◌∷◌, ℕ, ℤ}
 use Rattle.text.specs.Bytes.{bytes}
 use Rattle.script_words.specs.Parts.{words, word_at, same}
-use Rattle.script_words.specs.Numbers.{number_in, isWhole, is_signed, whole_of, signed_of}
+use Rattle.script_words.specs.Numbers.{number_in, is_whole, is_signed, whole_of, signed_of}
 
 -- Whether a word may stand where a form has f: N is any number without a sign, Z any number with a sign, of 64 bits each; all else
 -- stands for itself.
 unfoldable pub stands_for : List ℕ → List ℕ → Bool
 stands_for f w =
-    let whole = isWhole (number_in w) in
+    let whole = is_whole (number_in w) in
     let signed = is_signed (number_in w) in
     let other = cond (same f (bytes "Z")) signed (same f w) in
     cond (same f (bytes "N")) whole other
@@ -22,12 +22,12 @@ fits (f ∷ fs) (w ∷ ws) =
     cond (stands_for f w) more false
 
 -- Whether a line has a form, word by word.
-abbrev pub hasForm : List ℕ → List ℕ → Bool
-hasForm f l = fits (words f) (words l)
+abbrev pub has_form : List ℕ → List ℕ → Bool
+has_form f l = fits (words f) (words l)
 
 -- The number that word k of a line says, where it may have no sign and where it may have one.
 abbrev pub whole_at : List ℕ → ℕ → ℕ
 whole_at l k = whole_of (number_in (word_at l k))
 
-abbrev pub signedAt : List ℕ → ℕ → ℤ
-signedAt l k = signed_of (number_in (word_at l k))
+abbrev pub signed_at : List ℕ → ℕ → ℤ
+signed_at l k = signed_of (number_in (word_at l k))

@@ -1,8 +1,8 @@
 // Which form a line has, and the numbers in it.
 ghost use Rattle.std.specs.Prelude.{◌≡◌};
 ghost use Rattle.script_words.specs.Parts.{parts};
-ghost use Rattle.script_forms.specs.Forms.{stands_for, hasForm, whole_at, signedAt};
-ghost use Rattle.script_forms.specs.inner.First.{firstForm};
+ghost use Rattle.script_forms.specs.Forms.{stands_for, has_form, whole_at, signed_at};
+ghost use Rattle.script_forms.specs.inner.First.{first_form};
 
 use script_words::numbers::{is_signed, is_whole, number, signed, whole};
 use script_words::parts::{end_of, same, word};
@@ -21,7 +21,7 @@ pub fn stands_for(form: &[u8], word: &[u8]) -> bool
 }
 
 pub fn has_form(form: &[u8], line: &[u8]) -> bool
-    ensures { result ≡ hasForm form.now line.now }
+    ensures { result ≡ has_form form.now line.now }
 {
     let mut from: usize = 0;
     let mut at: usize = 0;
@@ -47,7 +47,7 @@ pub fn has_form(form: &[u8], line: &[u8]) -> bool
 
 // The first of the forms, one a line, that a line has, counted from 0; how many there are, if it has none.
 pub fn first_form(forms: &[u8], line: &[u8]) -> usize
-    ensures { result ≡ firstForm (parts 10 forms.now) line.now }
+    ensures { result ≡ first_form (parts 10 forms.now) line.now }
 {
     let mut from: usize = 0;
     let mut k: usize = 0;
@@ -73,7 +73,7 @@ pub fn whole_at(line: &[u8], k: usize) -> usize
 
 // The number in word k, with or without a sign.
 pub fn signed_at(line: &[u8], k: usize) -> i64
-    ensures { result ≡ signedAt line.now k }
+    ensures { result ≡ signed_at line.now k }
 {
     signed(number(word(line, k)))
 }

@@ -10,12 +10,12 @@ use Rattle.text.proofs.Words.{never}
 use Rattle.marks.specs.declared.types.Point.{Point}
 use Rattle.marks.specs.declared.types.Mark.{Mark}
 use Rattle.marks.specs.declared.types.Mark.TheVariants.{Box, Bend, Line}
-use Rattle.marks.specs.Half.{maxWhole}
+use Rattle.marks.specs.Half.{max_whole}
 use Rattle.marks.specs.Marks.{WholeMark, box, bend, line}
 use Rattle.marks.specs.Exact.{IsHalf, IsWhole, ExactPoint, ExactMark}
 use Rattle.marks.proofs.Exact.{Fits}
-use Rattle.script_marks.specs.Marks.{signedHalfSteps, pointWords, markWords}
-use Rattle.script_marks.specs.inner.Floats.{wholeIn, acrossIn, pointIn, markIn}
+use Rattle.script_marks.specs.Marks.{signed_half_steps, point_words, mark_words}
+use Rattle.script_marks.specs.inner.Floats.{whole_in, across_in, point_in, mark_in}
 
 -- ---- the whole part
 above : (m : ℕ) (e : ℤ) → lt (fin true 1 (pos 0)) (fin false m e) ≡ true
@@ -29,8 +29,8 @@ below m n e h l = lt-ltb (m * up e * 1) (1 * 2 ^ 64 * down e) (omega (arith, h, 
 part : (m n : ℕ) (e : ℤ) → m * up e * 1 ≡ n * down e → m * up e / down e ≡ n
 part m n e h = ap (λ (a : ℕ). a / down e) (sym (mul-one (m * up e)) ∙ h) ∙ mul-div_cancel n (down_pos e)
 
-pub whole_back : (x : Float) (n : ℕ) → n < 2 ^ 64 → IsWhole n x → wholeIn x ≡ n
-unfolding wholeIn to_unsigned
+pub whole_back : (x : Float) (n : ℕ) → n < 2 ^ 64 → IsWhole n x → whole_in x ≡ n
+unfolding whole_in to_unsigned
 whole_back nan n l v = absurd v
 whole_back (inf s) n l v = absurd v
 whole_back (fin true m e) n l v = never (sym v.0)
@@ -74,8 +74,8 @@ is_below m n e h = lt-ltb 0 (m * up e * 1 + 0 * 1 * down e) (omega (arith, down_
 small : (n : ℕ) → n ≤ reach → (n < 2 ^ 53) × (n < 2 ^ 64)
 small n h = (omega arith, omega arith)
 
-pub across-back : (x : Float) (z : ℤ) → nat_abs z ≤ reach → IsHalf z x → acrossIn x ≡ signedHalfSteps z
-unfolding acrossIn signedHalfSteps
+pub across-back : (x : Float) (z : ℤ) → nat_abs z ≤ reach → IsHalf z x → across_in x ≡ signed_half_steps z
+unfolding across_in signed_half_steps
 across-back nan z h v = absurd v
 across-back (inf s) z h v = absurd v
 across-back (fin true m e) (pos n) h v = never (sym v.0)
@@ -88,12 +88,12 @@ across-back (fin true m e) (negsuc n) h v =
 across-back (fin false m e) (negsuc n) h v = never v.0
 
 -- ---- a mark
-module _ {q : Point} (x : ℤ) (y : ℕ) (e : ExactPoint x y q) (h : nat_abs x ≤ reach) (l : y ≤ maxWhole) where
-  point-back : pointIn q ≡ pointWords x y
+module _ {q : Point} (x : ℤ) (y : ℕ) (e : ExactPoint x y q) (h : nat_abs x ≤ reach) (l : y ≤ max_whole) where
+  point-back : point_in q ≡ point_words x y
   point-back = rw (across-back q.x x h e.across, whole_back q.y y (omega arith) e.down)
 
-pub mark-back : (w : WholeMark) (m : Mark) → Fits w → ExactMark w m → markIn m ≡ markWords w
-unfolding markIn markWords
+pub mark-back : (w : WholeMark) (m : Mark) → Fits w → ExactMark w m → mark_in m ≡ mark_words w
+unfolding mark_in mark_words
 mark-back (box x y w) (Box q z) f e = rw (point-back x y e.0 f.0 f.1, whole_back z w (omega (arith, f.2)) e.1)
 mark-back (bend x y) (Bend q) f e = rw (point-back x y e f.0 f.1)
 mark-back (line x y u v) (Line q r) f e = rw (point-back x y e.0 f.0 f.1, point-back u v e.1 f.2 f.3)

@@ -5,19 +5,19 @@ use Rattle.text.specs.Decimal.{decimal}
 use Rattle.marks.specs.Marks.{WholeMark, box, bend, line}
 
 -- Half steps as steps, "with one decimal".
-unfoldable pub halfSteps : ℕ → List ℕ
-halfSteps n = decimal (n / 2) ++ cond (n % 2 == 0) (bytes ".0") (bytes ".5")
+unfoldable pub half_steps : ℕ → List ℕ
+half_steps n = decimal (n / 2) ++ cond (n % 2 == 0) (bytes ".0") (bytes ".5")
 
-unfoldable pub signedHalfSteps : ℤ → List ℕ
-signedHalfSteps (pos n) = halfSteps n
-signedHalfSteps (negsuc n) = bytes "-" ++ halfSteps (suc n)
+unfoldable pub signed_half_steps : ℤ → List ℕ
+signed_half_steps (pos n) = half_steps n
+signed_half_steps (negsuc n) = bytes "-" ++ half_steps (suc n)
 
 -- "x y"
-abbrev pub pointWords : ℤ → ℕ → List ℕ
-pointWords x y = signedHalfSteps x ++ bytes " " ++ decimal y
+abbrev pub point_words : ℤ → ℕ → List ℕ
+point_words x y = signed_half_steps x ++ bytes " " ++ decimal y
 
 -- "box x y hw", "bend x y", "line x1 y1 x2 y2"
-unfoldable pub markWords : WholeMark → List ℕ
-markWords (box x y w) = bytes "box " ++ pointWords x y ++ bytes " " ++ decimal w
-markWords (bend x y) = bytes "bend " ++ pointWords x y
-markWords (line x y u v) = bytes "line " ++ pointWords x y ++ bytes " " ++ pointWords u v
+unfoldable pub mark_words : WholeMark → List ℕ
+mark_words (box x y w) = bytes "box " ++ point_words x y ++ bytes " " ++ decimal w
+mark_words (bend x y) = bytes "bend " ++ point_words x y
+mark_words (line x y u v) = bytes "line " ++ point_words x y ++ bytes " " ++ point_words u v

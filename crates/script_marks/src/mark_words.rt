@@ -1,6 +1,6 @@
 // A mark's words, written from a position of a lent buffer on. Each answers the position past what it wrote.
 ghost use Rattle.text_write.specs.inner.Written.{Room, Wrote};
-ghost use Rattle.script_marks.specs.inner.Floats.{markIn};
+ghost use Rattle.script_marks.specs.inner.Floats.{mark_in};
 
 use crate::numbers::{put_down, put_point};
 use marks::types::{Mark, Point};
@@ -8,8 +8,8 @@ use text_write::number::put_word;
 
 // "box x y hw"
 fn put_box(out: &mut [u8], at: usize, q: Point, half: f64) -> usize
-    requires { Room (markIn (Mark.Box q half)) out.old at }
-    ensures { Wrote (markIn (Mark.Box q half)) out.old at result out.new }
+    requires { Room (mark_in (Mark.Box q half)) out.old at }
+    ensures { Wrote (mark_in (Mark.Box q half)) out.old at result out.new }
 {
     let point = put_word(out, at, b"box ");
     let space = put_point(out, point, q);
@@ -19,8 +19,8 @@ fn put_box(out: &mut [u8], at: usize, q: Point, half: f64) -> usize
 
 // "bend x y"
 fn put_bend(out: &mut [u8], at: usize, q: Point) -> usize
-    requires { Room (markIn (Mark.Bend q)) out.old at }
-    ensures { Wrote (markIn (Mark.Bend q)) out.old at result out.new }
+    requires { Room (mark_in (Mark.Bend q)) out.old at }
+    ensures { Wrote (mark_in (Mark.Bend q)) out.old at result out.new }
 {
     let point = put_word(out, at, b"bend ");
     put_point(out, point, q)
@@ -28,8 +28,8 @@ fn put_bend(out: &mut [u8], at: usize, q: Point) -> usize
 
 // "line x1 y1 x2 y2"
 fn put_line(out: &mut [u8], at: usize, a: Point, b: Point) -> usize
-    requires { Room (markIn (Mark.Line a b)) out.old at }
-    ensures { Wrote (markIn (Mark.Line a b)) out.old at result out.new }
+    requires { Room (mark_in (Mark.Line a b)) out.old at }
+    ensures { Wrote (mark_in (Mark.Line a b)) out.old at result out.new }
 {
     let upper = put_word(out, at, b"line ");
     let space = put_point(out, upper, a);
@@ -39,8 +39,8 @@ fn put_line(out: &mut [u8], at: usize, a: Point, b: Point) -> usize
 
 // A mark.
 pub fn put_mark(out: &mut [u8], at: usize, mark: Mark) -> usize
-    requires { Room (markIn mark) out.old at }
-    ensures { Wrote (markIn mark) out.old at result out.new }
+    requires { Room (mark_in mark) out.old at }
+    ensures { Wrote (mark_in mark) out.old at result out.new }
 {
     match mark {
         Mark::Box(q, half) => put_box(out, at, q, half),

@@ -1,15 +1,15 @@
 // The f64 numbers of a mark in decimal, written from a position of a lent buffer on. Each answers the position past what it wrote.
 ghost use Rattle.std.specs.Prelude.{◌≡◌};
 ghost use Rattle.text_write.specs.inner.Written.{Room, Wrote};
-ghost use Rattle.script_marks.specs.Marks.{halfSteps};
-ghost use Rattle.script_marks.specs.inner.Floats.{wholeIn, acrossIn, downIn, pointIn};
+ghost use Rattle.script_marks.specs.Marks.{half_steps};
+ghost use Rattle.script_marks.specs.inner.Floats.{whole_in, across_in, down_in, point_in};
 
 use marks::types::Point;
 use text_write::number::{put_decimal, put_then, put_word};
 
 // The whole part of a number between -1 and 2^64; 0 for any other.
 fn whole(x: f64) -> u64
-    ensures { result ≡ wholeIn x }
+    ensures { result ≡ whole_in x }
 {
     if x > -1.0 {
         if x < 18446744073709551616.0 {
@@ -21,8 +21,8 @@ fn whole(x: f64) -> u64
 
 // Half steps as steps, with one decimal.
 fn put_half_steps(out: &mut [u8], at: usize, n: u64) -> usize
-    requires { Room (halfSteps n) out.old at }
-    ensures { Wrote (halfSteps n) out.old at result out.new }
+    requires { Room (half_steps n) out.old at }
+    ensures { Wrote (half_steps n) out.old at result out.new }
 {
     if n % 2 == 0 {
         return put_then(out, at, n / 2, b".0");
@@ -32,8 +32,8 @@ fn put_half_steps(out: &mut [u8], at: usize, n: u64) -> usize
 
 // A multiple of 0.5, with one decimal.
 fn put_across(out: &mut [u8], at: usize, x: f64) -> usize
-    requires { Room (acrossIn x) out.old at }
-    ensures { Wrote (acrossIn x) out.old at result out.new }
+    requires { Room (across_in x) out.old at }
+    ensures { Wrote (across_in x) out.old at result out.new }
 {
     if x < 0.0 {
         let next = put_word(out, at, b"-");
@@ -44,16 +44,16 @@ fn put_across(out: &mut [u8], at: usize, x: f64) -> usize
 
 // A whole number that is not negative.
 pub fn put_down(out: &mut [u8], at: usize, y: f64) -> usize
-    requires { Room (downIn y) out.old at }
-    ensures { Wrote (downIn y) out.old at result out.new }
+    requires { Room (down_in y) out.old at }
+    ensures { Wrote (down_in y) out.old at result out.new }
 {
     put_decimal(out, at, whole(y))
 }
 
 // "x y"
 pub fn put_point(out: &mut [u8], at: usize, q: Point) -> usize
-    requires { Room (pointIn q) out.old at }
-    ensures { Wrote (pointIn q) out.old at result out.new }
+    requires { Room (point_in q) out.old at }
+    ensures { Wrote (point_in q) out.old at result out.new }
 {
     let space = put_across(out, at, q.x);
     let down = put_word(out, space, b" ");

@@ -1,7 +1,7 @@
 // "alters the stored record"
 ghost use Rattle.std.specs.Prelude.{◌≡◌};
 ghost use Rattle.script_poke.specs.Poked as spec;
-ghost use Rattle.script_poke.specs.Poked.{altered, in32, withStage, withTangled, withPlan, withLimits};
+ghost use Rattle.script_poke.specs.Poked.{altered, in32, with_stage, with_tangled, with_plan, with_limits};
 
 use crate::put::{
     in_16, in_32, put_final, put_level, put_listed, put_pass, put_preliminary, put_remembered,
@@ -12,7 +12,7 @@ use script_commands::types::Poke;
 use sheet::types::{Sheet, Stage};
 
 fn put_stage(sheet: Sheet, stage: Stage) -> Poked
-    ensures { result ≡ altered (withStage sheet stage) }
+    ensures { result ≡ altered (with_stage sheet stage) }
 {
     Poked {
         known: true,
@@ -21,7 +21,7 @@ fn put_stage(sheet: Sheet, stage: Stage) -> Poked
 }
 
 fn put_tangled(sheet: Sheet, tangled: bool) -> Poked
-    ensures { result ≡ altered (withTangled sheet tangled) }
+    ensures { result ≡ altered (with_tangled sheet tangled) }
 {
     Poked {
         known: true,
@@ -30,7 +30,7 @@ fn put_tangled(sheet: Sheet, tangled: bool) -> Poked
 }
 
 fn put_levels(sheet: Sheet, n: usize) -> Poked
-    ensures { result ≡ altered (withPlan sheet (withLimits sheet.plan (in32 n) sheet.plan.gap sheet.plan.spacing)) }
+    ensures { result ≡ altered (with_plan sheet (with_limits sheet.plan (in32 n) sheet.plan.gap sheet.plan.spacing)) }
 {
     let mut plan = sheet.plan;
     plan.levels = in_32(n);
@@ -41,7 +41,7 @@ fn put_levels(sheet: Sheet, n: usize) -> Poked
 }
 
 fn put_gap(sheet: Sheet, n: usize) -> Poked
-    ensures { result ≡ altered (withPlan sheet (withLimits sheet.plan sheet.plan.levels (in32 n) sheet.plan.spacing)) }
+    ensures { result ≡ altered (with_plan sheet (with_limits sheet.plan sheet.plan.levels (in32 n) sheet.plan.spacing)) }
 {
     let mut plan = sheet.plan;
     plan.gap = in_32(n);
@@ -52,7 +52,7 @@ fn put_gap(sheet: Sheet, n: usize) -> Poked
 }
 
 fn put_spacing(sheet: Sheet, n: usize) -> Poked
-    ensures { result ≡ altered (withPlan sheet (withLimits sheet.plan sheet.plan.levels sheet.plan.gap (in32 n))) }
+    ensures { result ≡ altered (with_plan sheet (with_limits sheet.plan sheet.plan.levels sheet.plan.gap (in32 n))) }
 {
     let mut plan = sheet.plan;
     plan.spacing = in_32(n);

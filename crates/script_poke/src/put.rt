@@ -1,9 +1,9 @@
 // A sheet with one entry of its record altered.
 ghost use Rattle.std.specs.Prelude.{◌≡◌, cond, ltb, set};
-ghost use Rattle.plan.specs.Limits.{maxLevels, maxVertices, maxSegments};
-ghost use Rattle.passes.specs.Words.{maxListed};
-ghost use Rattle.script_poke.specs.Poked.{alteredIf, in16, in32, withStage, withTangled, withPlan, withDrawing, withRemembered, place_of, hasBox};
-ghost use Rattle.script_poke.specs.Poked.{withSize, withVertex, withSegment, withPositions, withPlacings, withListed};
+ghost use Rattle.plan.specs.Limits.{max_levels, max_vertices, max_segments};
+ghost use Rattle.passes.specs.Words.{max_listed};
+ghost use Rattle.script_poke.specs.Poked.{altered_if, in16, in32, with_stage, with_tangled, with_plan, with_drawing, with_remembered, place_of, has_box};
+ghost use Rattle.script_poke.specs.Poked.{with_size, with_vertex, with_segment, with_positions, with_placings, with_listed};
 
 use crate::types::Poked;
 use ints::{total, wide};
@@ -31,7 +31,7 @@ pub fn in_32(n: usize) -> u32
 }
 
 pub fn with_stage(sheet: Sheet, stage: Stage) -> Sheet
-    ensures { result ≡ withStage sheet stage }
+    ensures { result ≡ with_stage sheet stage }
 {
     let header = sheet.header;
     let plan = sheet.plan;
@@ -49,7 +49,7 @@ pub fn with_stage(sheet: Sheet, stage: Stage) -> Sheet
 }
 
 pub fn with_tangled(sheet: Sheet, tangled: bool) -> Sheet
-    ensures { result ≡ withTangled sheet tangled }
+    ensures { result ≡ with_tangled sheet tangled }
 {
     let header = sheet.header;
     let stage = header.stage;
@@ -65,7 +65,7 @@ pub fn with_tangled(sheet: Sheet, tangled: bool) -> Sheet
 }
 
 pub fn with_plan(sheet: Sheet, plan: Plan) -> Sheet
-    ensures { result ≡ withPlan sheet plan }
+    ensures { result ≡ with_plan sheet plan }
 {
     let header = sheet.header;
     let drawing = sheet.drawing;
@@ -79,7 +79,7 @@ pub fn with_plan(sheet: Sheet, plan: Plan) -> Sheet
 }
 
 pub fn with_drawing(sheet: Sheet, drawing: Drawing) -> Sheet
-    ensures { result ≡ withDrawing sheet drawing }
+    ensures { result ≡ with_drawing sheet drawing }
 {
     let header = sheet.header;
     let plan = sheet.plan;
@@ -93,7 +93,7 @@ pub fn with_drawing(sheet: Sheet, drawing: Drawing) -> Sheet
 }
 
 pub fn with_remembered(sheet: Sheet, remembered: [u16; Plan::MAX_VERTICES]) -> Sheet
-    ensures { result ≡ withRemembered sheet remembered }
+    ensures { result ≡ with_remembered sheet remembered }
 {
     let header = sheet.header;
     let plan = sheet.plan;
@@ -107,7 +107,7 @@ pub fn with_remembered(sheet: Sheet, remembered: [u16; Plan::MAX_VERTICES]) -> S
 }
 
 pub fn put_size(sheet: Sheet, i: usize, n: u16) -> Poked
-    ensures { result ≡ alteredIf (ltb i maxLevels) (withPlan sheet (withSize sheet.plan i n)) sheet }
+    ensures { result ≡ altered_if (ltb i max_levels) (with_plan sheet (with_size sheet.plan i n)) sheet }
 {
     if Plan::MAX_LEVELS <= i {
         return Poked {
@@ -124,7 +124,7 @@ pub fn put_size(sheet: Sheet, i: usize, n: u16) -> Poked
 }
 
 pub fn put_vertex(sheet: Sheet, i: usize, via: bool, half: u16) -> Poked
-    ensures { result ≡ alteredIf (ltb i maxVertices) (withPlan sheet (withVertex sheet.plan i via half)) sheet }
+    ensures { result ≡ altered_if (ltb i max_vertices) (with_plan sheet (with_vertex sheet.plan i via half)) sheet }
 {
     if Plan::MAX_VERTICES <= i {
         return Poked {
@@ -142,7 +142,7 @@ pub fn put_vertex(sheet: Sheet, i: usize, via: bool, half: u16) -> Poked
 }
 
 pub fn put_segment(sheet: Sheet, i: usize, a: u32, b: u32, w: u32) -> Poked
-    ensures { result ≡ alteredIf (ltb i maxSegments) (withPlan sheet (withSegment sheet.plan i a b w)) sheet }
+    ensures { result ≡ altered_if (ltb i max_segments) (with_plan sheet (with_segment sheet.plan i a b w)) sheet }
 {
     if Plan::MAX_SEGMENTS <= i {
         return Poked {
@@ -161,7 +161,7 @@ pub fn put_segment(sheet: Sheet, i: usize, a: u32, b: u32, w: u32) -> Poked
 }
 
 pub fn put_remembered(sheet: Sheet, i: usize, n: u16) -> Poked
-    ensures { result ≡ alteredIf (ltb i maxVertices) (withRemembered sheet (set sheet.remembered i n)) sheet }
+    ensures { result ≡ altered_if (ltb i max_vertices) (with_remembered sheet (set sheet.remembered i n)) sheet }
 {
     if Plan::MAX_VERTICES <= i {
         return Poked {
@@ -178,7 +178,7 @@ pub fn put_remembered(sheet: Sheet, i: usize, n: u16) -> Poked
 }
 
 pub fn put_preliminary(sheet: Sheet, i: usize, x: i64) -> Poked
-    ensures { result ≡ alteredIf (ltb i maxVertices) (withDrawing sheet (withPositions sheet.drawing (set sheet.drawing.preliminary i x) sheet.drawing.finals)) sheet }
+    ensures { result ≡ altered_if (ltb i max_vertices) (with_drawing sheet (with_positions sheet.drawing (set sheet.drawing.preliminary i x) sheet.drawing.finals)) sheet }
 {
     if Plan::MAX_VERTICES <= i {
         return Poked {
@@ -195,7 +195,7 @@ pub fn put_preliminary(sheet: Sheet, i: usize, x: i64) -> Poked
 }
 
 pub fn put_final(sheet: Sheet, i: usize, x: i64) -> Poked
-    ensures { result ≡ alteredIf (ltb i maxVertices) (withDrawing sheet (withPositions sheet.drawing sheet.drawing.preliminary (set sheet.drawing.finals i x))) sheet }
+    ensures { result ≡ altered_if (ltb i max_vertices) (with_drawing sheet (with_positions sheet.drawing sheet.drawing.preliminary (set sheet.drawing.finals i x))) sheet }
 {
     if Plan::MAX_VERTICES <= i {
         return Poked {
@@ -212,7 +212,7 @@ pub fn put_final(sheet: Sheet, i: usize, x: i64) -> Poked
 }
 
 pub fn put_pass(sheet: Sheet, i: usize, n: u16) -> Poked
-    ensures { result ≡ alteredIf (ltb i maxListed) (withDrawing sheet (withPlacings sheet.drawing (set sheet.drawing.passes i n) sheet.drawing.levels)) sheet }
+    ensures { result ≡ altered_if (ltb i max_listed) (with_drawing sheet (with_placings sheet.drawing (set sheet.drawing.passes i n) sheet.drawing.levels)) sheet }
 {
     if Drawing::MAX_LISTED <= i {
         return Poked {
@@ -229,7 +229,7 @@ pub fn put_pass(sheet: Sheet, i: usize, n: u16) -> Poked
 }
 
 pub fn put_level(sheet: Sheet, i: usize, n: u16) -> Poked
-    ensures { result ≡ alteredIf (ltb i maxListed) (withDrawing sheet (withPlacings sheet.drawing sheet.drawing.passes (set sheet.drawing.levels i n))) sheet }
+    ensures { result ≡ altered_if (ltb i max_listed) (with_drawing sheet (with_placings sheet.drawing sheet.drawing.passes (set sheet.drawing.levels i n))) sheet }
 {
     if Drawing::MAX_LISTED <= i {
         return Poked {
@@ -247,7 +247,7 @@ pub fn put_level(sheet: Sheet, i: usize, n: u16) -> Poked
 
 // How many boxes stand before box b of placing q, or 2,048 if the record does not have it.
 fn place_of(counts: [u16; Drawing::MAX_LISTED], q: usize, b: usize) -> usize
-    ensures { result ≡ cond (hasBox counts q b) (place_of counts q b) maxListed }
+    ensures { result ≡ cond (has_box counts q b) (place_of counts q b) max_listed }
 {
     if Drawing::MAX_LISTED <= q {
         return Drawing::MAX_LISTED;
@@ -266,7 +266,7 @@ fn place_of(counts: [u16; Drawing::MAX_LISTED], q: usize, b: usize) -> usize
 }
 
 pub fn put_listed(sheet: Sheet, q: usize, b: usize, v: u16, x: i64) -> Poked
-    ensures { result ≡ alteredIf (hasBox sheet.drawing.counts q b) (withDrawing sheet (withListed sheet.drawing (place_of sheet.drawing.counts q b) v x)) sheet }
+    ensures { result ≡ altered_if (has_box sheet.drawing.counts q b) (with_drawing sheet (with_listed sheet.drawing (place_of sheet.drawing.counts q b) v x)) sheet }
 {
     let mut drawing = sheet.drawing;
     let counts = drawing.counts;

@@ -13,9 +13,9 @@ use Rattle.ints.proofs.Lists.{concat-one}
 use Rattle.text.proofs.Words.{never}
 use Rattle.sheet.specs.declared.types.Sheet.{Sheet}
 use Rattle.script_commands.specs.declared.types.Command.{Command as Found}
-use Rattle.script_commands.specs.inner.Held.{Lent, commandIn, Inside}
+use Rattle.script_commands.specs.inner.Held.{Lent, command_in, Inside}
 use Rattle.script_answers.specs.Answers.{Said, line_of}
-use Rattle.script_answers.specs.inner.Lengths.{maxAnswer}
+use Rattle.script_answers.specs.inner.Lengths.{max_answer}
 use Rattle.script_told.specs.Turns.{Turn, turn_of, bytes_of}
 use Rattle.script_turn.specs.inner.One.{Asked, Answers}
 use Rattle.script_told.proofs.Unchanged.{several-leave}
@@ -44,17 +44,17 @@ Rest said write room o at n out to =
 
 -- A command whose answer n is next: it answers so on the sheet as it is kept.
 pub record Turning (c : Found) (b : Lent) (t : Turn) (kept : Sheet) (n : ℕ) : Type 0 where
-  pub same : turn_of (commandIn c b) kept ≡ t
+  pub same : turn_of (command_in c b) kept ≡ t
   pub has : n ≤ length t.said - 1
 
-pub turning : (c : Found) (b : Lent) (s : Sheet) → Turning c b (turn_of (commandIn c b) s) s 0
+pub turning : (c : Found) (b : Lent) (s : Sheet) → Turning c b (turn_of (command_in c b) s) s 0
 turning c b s = record { same = refl; has = omega arith }
 
 module _ {c : Found} {b : Lent} {t : Turn} {kept : Sheet} {n : ℕ} (g : Turning c b t kept n) where
-  pub asked : {buffer : List ℕ} → Inside b c → maxAnswer ≤ length buffer → Asked c b kept n buffer
+  pub asked : {buffer : List ℕ} → Inside b c → max_answer ≤ length buffer → Asked c b kept n buffer
   asked i l = record { inside = i; has = rw g.same g.has; room = l }
 
-  module _ {buffer after : List ℕ} {s : Sheet} {count : ℕ} {more : Bool} (a : Answers (turn_of (commandIn c b) kept) n buffer s count more after) where
+  module _ {buffer after : List ℕ} {s : Sheet} {count : ℕ} {more : Bool} (a : Answers (turn_of (command_in c b) kept) n buffer s count more after) where
     answer : take count after ≡ bytes_of (take 1 (drop n t.said))
     answer = front a.wrote ∙ ap (λ (u : Turn). bytes_of (take 1 (drop n u.said))) g.same
 
@@ -69,7 +69,7 @@ module _ {c : Found} {b : Lent} {t : Turn} {kept : Sheet} {n : ℕ} (g : Turning
       below = ltb-true (n + 1) (length t.said) (sym further ∙ m)
 
       unchanged : s ≡ kept
-      unchanged = a.left ∙ several-leave (commandIn c b) kept (omega (arith, below, ap (λ (u : Turn). length u.said) g.same))
+      unchanged = a.left ∙ several-leave (command_in c b) kept (omega (arith, below, ap (λ (u : Turn). length u.said) g.same))
 
       pub next : Turning c b t s (n + 1)
       next = record { same = rw unchanged g.same; has = omega (arith, below) }
@@ -80,12 +80,12 @@ pub record Going (c : Found) (b : Lent) (t : Turn) (write : Bool) (room : ℕ) (
   pub rest : Rest t.said write room o at n out to
 
 module _ (c : Found) (b : Lent) (s : Sheet) {write : Bool} {room : ℕ} {o : List ℕ} {at : ℕ} where
-  pub starts : InRoom room at o → Going c b (turn_of (commandIn c b) s) write room o at s o at 0
+  pub starts : InRoom room at o → Going c b (turn_of (command_in c b) s) write room o at s o at 0
   starts p = record { turning = turning c b s; place = p; rest = λ f z q h. h }
 
 module _ {c : Found} {b : Lent} {t : Turn} {write : Bool} {room : ℕ} {o : List ℕ} {at : ℕ} {kept : Sheet} {out : List ℕ} {to n : ℕ}
     (g : Going c b t write room o at kept out to n) {buffer after : List ℕ} {s : Sheet} {count : ℕ} {more : Bool}
-    (a : Answers (turn_of (commandIn c b) kept) n buffer s count more after) {f : Bool} {z : ℕ} {q : List ℕ} (h : Lays (take count after) write room out to f z q) where
+    (a : Answers (turn_of (command_in c b) kept) n buffer s count more after) {f : Bool} {z : ℕ} {q : List ℕ} (h : Lays (take count after) write room out to f z q) where
   laid : Lays (bytes_of (take 1 (drop n t.said))) write room out to f z q
   laid = rw (answer g.turning a) at h
 

@@ -7,7 +7,7 @@ use native.Mathlib.Omega.{arith}
 use lib.IntN.{ℤ, pos}
 use lib.ListN.{length, take, replicate, length-replicate}
 use Rattle.run.specs.Call.{Request, Out}
-use Rattle.text.specs.Reading.{maxBytes}
+use Rattle.text.specs.Reading.{max_bytes}
 use Rattle.sheet.specs.declared.types.Sheet.{Sheet}
 use Rattle.sheet.specs.Calls as sheet
 use Rattle.calls.specs.Step.{step}
@@ -15,33 +15,33 @@ use Rattle.script_runs.specs.inner.Filled.{buffers, shortened}
 use Rattle.script_runs.proofs.Short.{Roomy, call-short}
 use Rattle.script_commands.specs.declared.types.Command.{Command as Found}
 use Rattle.script_commands.specs.declared.types.Command.TheVariants.{Skip, Unknown, Load, LoadTangled, Draw, Clear, Stage, Line, Lines, TextLine, Texts, Mark, Marks, Walk, PlaceRun, Poke}
-use Rattle.script_commands.specs.Commands.{Command, load, loadTangled, walk, placeRun}
-use Rattle.script_commands.specs.inner.Held.{Lent, lent, commandIn, Inside, Commands}
+use Rattle.script_commands.specs.Commands.{Command, load, load_tangled, walk, place_run}
+use Rattle.script_commands.specs.inner.Held.{Lent, lent, command_in, Inside, Commands}
 use Rattle.script_commands.proofs.Whole.{reading-cut, tangled-cut, same_answer}
-use Rattle.script_answers.specs.inner.Lengths.{maxAnswer}
-use Rattle.text_walk.specs.Walks.{textWalk}
-use Rattle.script_calls.specs.Said.{callSaid, runSaid}
+use Rattle.script_answers.specs.inner.Lengths.{max_answer}
+use Rattle.text_walk.specs.Walks.{text_walk}
+use Rattle.script_calls.specs.Said.{call_said, run_said}
 use Rattle.script_told.specs.Turns.{saying, turn_of}
 use Rattle.script_run.specs.inner.Laid.{Turned}
 
-module _ (b : Lent) (long : maxBytes < length b.text) (roomy : Roomy b.run) (s : Sheet) where
+module _ (b : Lent) (long : max_bytes < length b.text) (roomy : Roomy b.run) (s : Sheet) where
   text : (t : List ℕ) → turn_of (load (take (length b.text) t)) s ≡ turn_of (load t) s
-  unfolding turn_of callSaid step sheet.load
+  unfolding turn_of call_said step sheet.load
   text t = rw (reading-cut (length b.text) t long)
 
-  tangled : (t : List ℕ) → turn_of (loadTangled (take (length b.text) t)) s ≡ turn_of (loadTangled t) s
-  unfolding turn_of callSaid step sheet.loadTangled
+  tangled : (t : List ℕ) → turn_of (load_tangled (take (length b.text) t)) s ≡ turn_of (load_tangled t) s
+  unfolding turn_of call_said step sheet.load_tangled
   tangled t = rw (tangled-cut (length b.text) t long)
 
   walked : (l : ℕ) (t : List ℕ) → turn_of (walk l (take (length b.text) t)) s ≡ turn_of (walk l t) s
-  unfolding turn_of textWalk
+  unfolding turn_of text_walk
   walked l t = rw (tangled-cut (length b.text) t long)
 
-  run : (q : Request) (room : ℕ) → turn_of (placeRun (shortened b.run q) room) s ≡ turn_of (placeRun q room) s
+  run : (q : Request) (room : ℕ) → turn_of (place_run (shortened b.run q) room) s ≡ turn_of (place_run q room) s
   unfolding turn_of
-  run q room = ap (λ (o : Out). saying (runSaid o) s) (call-short b.run roomy q (replicate room (pos 0)))
+  run q room = ap (λ (o : Out). saying (run_said o) s) (call-short b.run roomy q (replicate room (pos 0)))
 
-  pub same_turn : (c : Command) (r : Found) (after : Lent) → Commands c b r after → turn_of (commandIn r after) s ≡ turn_of c s
+  pub same_turn : (c : Command) (r : Found) (after : Lent) → Commands c b r after → turn_of (command_in r after) s ≡ turn_of c s
   same_turn c r after h = same_answer (λ (d : Command). turn_of d s) b text tangled walked run c r after h
 
 -- ---- what lies in the buffers lies in them when they are given back
@@ -81,7 +81,7 @@ inside-after b d (Poke p) l i = tt
 abbrev pub rooms : Lent
 rooms = lent (replicate 65537 0) (buffers (replicate 65 (pos 0)) (replicate 66 0) (replicate 65 0) (replicate 2049 (pos 0)) (replicate 2049 0))
 
-text-long : maxBytes < length rooms.text
+text-long : max_bytes < length rooms.text
 text-long = omega (arith, length-replicate {A = ℕ} 65537 0)
 
 rooms-roomy : Roomy rooms.run
@@ -93,12 +93,12 @@ rooms-roomy = record {
   ratings = omega (arith, length-replicate {A = ℕ} 2049 0);
 }
 
-pub answer-long : maxAnswer ≤ length (replicate {A = ℕ} 1500 0)
+pub answer-long : max_answer ≤ length (replicate {A = ℕ} 1500 0)
 answer-long = omega (arith, length-replicate {A = ℕ} 1500 0)
 
-pub rooms-turn : (s : Sheet) (c : Command) (r : Found) (after : Lent) → Commands c rooms r after → turn_of (commandIn r after) s ≡ turn_of c s
+pub rooms-turn : (s : Sheet) (c : Command) (r : Found) (after : Lent) → Commands c rooms r after → turn_of (command_in r after) s ≡ turn_of c s
 rooms-turn s c r after h = same_turn rooms text-long rooms-roomy s c r after h
 
 pub line-turned : (s : Sheet) (c : Command) (r : Found) (after : Lent) {write : Bool} {room : ℕ} {o : List ℕ} {at : ℕ} {t : Sheet} {f : Bool} {z : ℕ} {q : List ℕ}
-    → Commands c rooms r after → Turned (turn_of (commandIn r after) s) write room o at t f z q → Turned (turn_of c s) write room o at t f z q
+    → Commands c rooms r after → Turned (turn_of (command_in r after) s) write room o at t f z q → Turned (turn_of c s) write room o at t f z q
 line-turned s c r after h k = rw (rooms-turn s c r after h) at k

@@ -2,10 +2,10 @@
 ghost use Rattle.std.specs.Prelude.{◌≡◌, ◌≤◌, min, length};
 ghost use Rattle.sheet.specs.Calls.{Writes};
 ghost use Rattle.script_runs.specs.inner.Filled.{buffers};
-ghost use Rattle.script_commands.specs.Table.{commandOf};
-ghost use Rattle.script_commands.specs.inner.Held.{lent, commandIn};
+ghost use Rattle.script_commands.specs.Table.{command_of};
+ghost use Rattle.script_commands.specs.inner.Held.{lent, command_in};
 ghost use Rattle.script_told.specs.Turns.{turn_of};
-ghost use Rattle.script_told.specs.Scripts.{maxLength, scriptAnswers, scriptOf};
+ghost use Rattle.script_told.specs.Scripts.{max_length, script_answers, script_of};
 ghost use Rattle.script_told.specs.inner.Laid.{Lays, InRoom};
 ghost use Rattle.script_run.specs.inner.Laid as laid;
 ghost use Rattle.script_run.specs.inner.Laid.{Answering};
@@ -29,7 +29,7 @@ pub const ANSWER_ROOM: usize = 1500;
 
 // How much of a buffer is used.
 fn room_in(length: usize) -> usize
-    ensures { result ≡ min maxLength length }
+    ensures { result ≡ min max_length length }
 {
     if length < MAX_LENGTH {
         return length;
@@ -54,7 +54,7 @@ fn each_answer(
     write: bool,
 ) -> Turned
     requires { Answering command (lent text.now (buffers old.now distances.now counts.now neighbours.now ratings.now)) buffer.old room at out.old }
-    ensures { laid.Turned (turn_of (commandIn command (lent text.now (buffers old.now distances.now
+    ensures { laid.Turned (turn_of (command_in command (lent text.now (buffers old.now distances.now
         counts.now neighbours.now ratings.now))) sheet) write room out.old at result.sheet result.laid.fits result.laid.at out.new }
 {
     let mut kept = sheet;
@@ -88,7 +88,7 @@ fn answer_line(
     write: bool,
 ) -> Turned
     requires { InRoom room at out.old }
-    ensures { laid.Turned (turn_of (commandOf line.now) sheet) write room out.old at result.sheet result.laid.fits result.laid.at out.new }
+    ensures { laid.Turned (turn_of (command_of line.now) sheet) write room out.old at result.sheet result.laid.fits result.laid.at out.new }
 {
     let mut text = [0u8; TEXT_ROOM];
     let mut old = [0i64; 65];
@@ -126,7 +126,7 @@ fn answer_line(
 // The answers to all lines.
 fn each_line(script: &[u8], out: &mut [u8], room: usize, write: bool) -> Laid
     requires { room ≤ length out.old }
-    ensures { Lays (scriptAnswers script.now) write room out.old 0 result.fits result.at out.new }
+    ensures { Lays (script_answers script.now) write room out.old 0 result.fits result.at out.new }
 {
     let mut sheet = Sheet::empty();
     let mut at: usize = 0;
@@ -149,7 +149,7 @@ fn each_line(script: &[u8], out: &mut [u8], room: usize, write: bool) -> Laid
 
 // The answers of a script in a lent buffer, with their length; later bytes stay. Refused 14, the buffer stays as it is.
 pub fn answers(script: &[u8], out: &mut [u8]) -> LineAnswer
-    ensures { Writes (scriptOf script.now out.old) result out.new }
+    ensures { Writes (script_of script.now out.old) result out.new }
 {
     let room = room_in(out.len());
     let counted = each_line(script, out, room, false);

@@ -13,7 +13,7 @@ use Rattle.script_words.specs.inner.Ends.{between, PartEnds}
 use Rattle.script_words.specs.inner.Puts.{Puts}
 use Rattle.script_words.proofs.PartLaws.{parts-split}
 use Rattle.script_words.proofs.Filling.{fill_more}
-use Rattle.script_runs.specs.Lists.{items_of, signedsIn}
+use Rattle.script_runs.specs.Lists.{items_of, signeds_in}
 
 pub items-none : (w : List ℕ) → length w ≡ 0 → items_of w ≡ []
 items-none [] e = refl
@@ -28,8 +28,8 @@ ones : (f : List ℕ → ℤ) (ws : List (List ℕ)) → map {B = ℕ} (λ v. 1)
 ones f [] = refl
 ones f (w ∷ ws) = ap (λ (l : List ℕ). 1 ∷ l) (ones f ws)
 
-pub ones-items : (w : List ℕ) → map {B = ℕ} (λ v. 1) (items_of w) ≡ replicate (length (signedsIn w)) 1
-unfolding signedsIn
+pub ones-items : (w : List ℕ) → map {B = ℕ} (λ v. 1) (items_of w) ≡ replicate (length (signeds_in w)) 1
+unfolding signeds_in
 ones-items w = ones _ (items_of w)
 
 module _ (w : List ℕ) (from to : ℕ) (e : PartEnds 44 w from to) where

@@ -10,25 +10,25 @@ use Rattle.text.specs.Parser.{Got, got, nothing, word}
 use Rattle.script_words.specs.Parts.{words}
 use Rattle.script_words.specs.inner.Ends.{between, PartEnds}
 use Rattle.script_words.proofs.PartLaws.{parts-split}
-use Rattle.script_runs.specs.Names.{valueBefore, values_of, timesOf, value_of}
+use Rattle.script_runs.specs.Names.{value_before, values_of, times_of, value_of}
 
-value-adds : (g : Got (Unit {0})) (vs : List (List ℕ)) → length (valueBefore g vs) ≡ length (valueBefore g []) + length vs
+value-adds : (g : Got (Unit {0})) (vs : List (List ℕ)) → length (value_before g vs) ≡ length (value_before g []) + length vs
 value-adds (got u v) vs = omega arith
 value-adds nothing vs = omega arith
 
 -- every word begins with nothing
-pub times-all : (ws : List (List ℕ)) → timesOf [] ws ≡ length ws
+pub times-all : (ws : List (List ℕ)) → times_of [] ws ≡ length ws
 unfolding values_of word
 times-all [] = refl
 times-all (w ∷ ws) = ap suc (times-all ws)
 
 module _ (name s : List ℕ) (from to : ℕ) (e : PartEnds 32 s from to) where
   -- ---- how often
-  pub times-last : length s ≤ to → timesOf name (words (drop from s)) ≡ length (valueBefore (word name (between from to s)) [])
+  pub times-last : length s ≤ to → times_of name (words (drop from s)) ≡ length (value_before (word name (between from to s)) [])
   unfolding values_of
   times-last h = rw (e.last h)
 
-  pub times-on : to < length s → timesOf name (words (drop from s)) ≡ length (valueBefore (word name (between from to s)) []) + timesOf name
+  pub times-on : to < length s → times_of name (words (drop from s)) ≡ length (value_before (word name (between from to s)) []) + times_of name
       (words (drop (to + 1) s))
   unfolding values_of
   times-on h = rw (e.cut h) (value-adds (word name (between from to s)) (values_of name (words (drop (to + 1) s))))

@@ -16,7 +16,7 @@ use Rattle.ints.specs.Lists.{sum}
 use Rattle.ints.proofs.Tests.{test, and_left, and_right}
 use Rattle.run.specs.declared.types.Bound.{Bound}
 use Rattle.run.specs.declared.types.Bound.TheVariants.{Free, At}
-use Rattle.run.specs.Call.{Request, memberOf, isSmall, isFitting, isInReach, isSound, is_taken, out, call_of}
+use Rattle.run.specs.Call.{Request, member_of, is_small, is_fitting, is_in_reach, is_sound, is_taken, out, call_of}
 use Rattle.run.proofs.WhenRefused.{taken-row}
 use Rattle.script_runs.specs.inner.Filled.{Buffers, shortened}
 
@@ -29,7 +29,7 @@ record Sizes (q : Request) (answer : List ℤ) : Type 0 where
   counts : length q.counts ≡ q.boxes
   neighbours : length q.neighbours ≡ sum q.counts
   ratings : length q.ratings ≡ sum q.counts
-  distances : length q.distances ≡ memberOf q.left + q.boxes + memberOf q.right - 1
+  distances : length q.distances ≡ member_of q.left + q.boxes + member_of q.right - 1
 
 sizes : (q : Request) (answer : List ℤ) → is_taken q answer ≡ true → Sizes q answer
 sizes q answer e =
@@ -38,10 +38,10 @@ sizes q answer e =
     let c = eqb (length q.counts) q.boxes in
     let n = eqb (length q.neighbours) (sum q.counts) in
     let w = eqb (length q.ratings) (sum q.counts) in
-    let d = eqb (length q.distances) (memberOf q.left + q.boxes + memberOf q.right - 1) in
-    let both = and_left (isSmall q && isFitting q answer) (isInReach q) (and_left (isSmall q && isFitting q answer && isInReach q) (isSound q) (sym (taken-row q answer) ∙ e)) in
-    let s = and_left (isSmall q) (isFitting q answer) both in
-    let f = and_right (isSmall q) (isFitting q answer) both in
+    let d = eqb (length q.distances) (member_of q.left + q.boxes + member_of q.right - 1) in
+    let both = and_left (is_small q && is_fitting q answer) (is_in_reach q) (and_left (is_small q && is_fitting q answer && is_in_reach q) (is_sound q) (sym (taken-row q answer) ∙ e)) in
+    let s = and_left (is_small q) (is_fitting q answer) both in
+    let f = and_right (is_small q) (is_fitting q answer) both in
     let f5 = and_left (a && o && c && n && w) d f in
     let f4 = and_left (a && o && c && n) w f5 in
     let f3 = and_left (a && o && c) n f4 in
@@ -54,10 +54,10 @@ sizes q answer e =
       counts = eqb-true (length q.counts) q.boxes (and_right (a && o) c f3);
       neighbours = eqb-true (length q.neighbours) (sum q.counts) (and_right (a && o && c) n f4);
       ratings = eqb-true (length q.ratings) (sum q.counts) (and_right (a && o && c && n) w f5);
-      distances = eqb-true (length q.distances) (memberOf q.left + q.boxes + memberOf q.right - 1) (and_right (a && o && c && n && w) d f);
+      distances = eqb-true (length q.distances) (member_of q.left + q.boxes + member_of q.right - 1) (and_right (a && o && c && n && w) d f);
     }
 
-one-member : (b : Bound) → memberOf b ≤ 1
+one-member : (b : Bound) → member_of b ≤ 1
 one-member Free = omega arith
 one-member (At x) = omega arith
 

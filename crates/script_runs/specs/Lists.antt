@@ -4,7 +4,7 @@ use Rattle.plan.specs.Checks.{every}
 use Rattle.script_words.specs.Parts.{parts}
 use Rattle.script_words.specs.declared.types.Number.{Number}
 use Rattle.script_words.specs.declared.types.Number.TheVariants.{Whole, Negative, Other}
-use Rattle.script_words.specs.Numbers.{number_in, isWhole, whole_of, is_signed, signed_of}
+use Rattle.script_words.specs.Numbers.{number_in, is_whole, whole_of, is_signed, signed_of}
 use Rattle.script_runs.specs.declared.types.Kind.{Kind}
 use Rattle.script_runs.specs.declared.types.Kind.TheVariants.{Unsigned, Signed, Any}
 
@@ -18,17 +18,17 @@ is_number (Whole n) = true
 is_number (Negative z) = true
 is_number Other = false
 
-abbrev pub mayStand : Kind → Number → Bool
-mayStand Unsigned n = isWhole n
-mayStand Signed n = is_signed n
-mayStand Any n = is_number n
+abbrev pub may_stand : Kind → Number → Bool
+may_stand Unsigned n = is_whole n
+may_stand Signed n = is_signed n
+may_stand Any n = is_number n
 
-unfoldable pub isList : Kind → List ℕ → Bool
-isList k w = every (λ v. mayStand k (number_in v)) (items_of w)
+unfoldable pub is_list : Kind → List ℕ → Bool
+is_list k w = every (λ v. may_stand k (number_in v)) (items_of w)
 
 -- The numbers of a list, without and with a sign. Where there may be no sign a number below 0 counts as 0.
-unfoldable pub wholesIn : List ℕ → List ℕ
-wholesIn w = map (λ v. whole_of (number_in v)) (items_of w)
+unfoldable pub wholes_in : List ℕ → List ℕ
+wholes_in w = map (λ v. whole_of (number_in v)) (items_of w)
 
-unfoldable pub signedsIn : List ℕ → List ℤ
-signedsIn w = map (λ v. signed_of (number_in v)) (items_of w)
+unfoldable pub signeds_in : List ℕ → List ℤ
+signeds_in w = map (λ v. signed_of (number_in v)) (items_of w)

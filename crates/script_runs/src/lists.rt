@@ -1,7 +1,7 @@
 // Lists of numbers with commas between.
 ghost use Rattle.std.specs.Prelude.{◌≡◌, ◌≤◌, length, replicate};
 ghost use Rattle.script_words.specs.inner.Puts.{Puts};
-ghost use Rattle.script_runs.specs.Lists.{is_number, mayStand, isList, wholesIn, signedsIn};
+ghost use Rattle.script_runs.specs.Lists.{is_number, may_stand, is_list, wholes_in, signeds_in};
 ghost use Rattle.script_runs.specs.inner.Filled.{Fills};
 
 use crate::types::Kind;
@@ -20,7 +20,7 @@ fn is_number(n: Number) -> bool
 }
 
 fn may_stand(kind: Kind, n: Number) -> bool
-    ensures { result ≡ mayStand kind n }
+    ensures { result ≡ may_stand kind n }
 {
     match kind {
         Kind::Unsigned => is_whole(n),
@@ -30,7 +30,7 @@ fn may_stand(kind: Kind, n: Number) -> bool
 }
 
 pub fn is_list(kind: Kind, word: &[u8]) -> bool
-    ensures { result ≡ isList kind word.now }
+    ensures { result ≡ is_list kind word.now }
 {
     if word.len() == 0 {
         return true;
@@ -72,7 +72,7 @@ fn put_signed(out: &mut [i64], n: usize, x: i64) -> usize
 
 // The numbers of a list at the front of a buffer, as many as it has room for: how many there are.
 pub fn wholes_in(word: &[u8], out: &mut [u64]) -> usize
-    ensures { Fills (wholesIn word.now) (length out.old) result out.new }
+    ensures { Fills (wholes_in word.now) (length out.old) result out.new }
 {
     if word.len() == 0 {
         return 0;
@@ -91,7 +91,7 @@ pub fn wholes_in(word: &[u8], out: &mut [u64]) -> usize
 
 // The same with signs.
 pub fn signeds_in(word: &[u8], out: &mut [i64]) -> usize
-    ensures { Fills (signedsIn word.now) (length out.old) result out.new }
+    ensures { Fills (signeds_in word.now) (length out.old) result out.new }
 {
     if word.len() == 0 {
         return 0;
@@ -110,7 +110,7 @@ pub fn signeds_in(word: &[u8], out: &mut [i64]) -> usize
 
 // A 1 for each number of a list, likewise.
 pub fn ones_in(word: &[u8], out: &mut [u64]) -> usize
-    ensures { Fills (replicate (length (signedsIn word.now)) 1) (length out.old) result out.new }
+    ensures { Fills (replicate (length (signeds_in word.now)) 1) (length out.old) result out.new }
 {
     if word.len() == 0 {
         return 0;

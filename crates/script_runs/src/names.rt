@@ -2,14 +2,14 @@
 ghost use Rattle.std.specs.Prelude.{◌≡◌, [], ◌≤◌, length};
 ghost use Rattle.text.specs.Parser.{word};
 ghost use Rattle.script_words.specs.Parts.{words};
-ghost use Rattle.script_runs.specs.Names.{valueBefore, timesOf, value_of};
+ghost use Rattle.script_runs.specs.Names.{value_before, times_of, value_of};
 
 use script_words::parts::end_of;
 use text_scan::scanners::word_at;
 
 // 1 if a word begins with the name, else 0.
 fn once(given: &[u8], name: &[u8]) -> usize
-    ensures { (result ≡ length (valueBefore (word name.now given.now) [])) × (result ≤ 1) }
+    ensures { (result ≡ length (value_before (word name.now given.now) [])) × (result ≤ 1) }
 {
     if word_at(given, 0, name) {
         return 1;
@@ -19,7 +19,7 @@ fn once(given: &[u8], name: &[u8]) -> usize
 
 // How many words begin with the name.
 pub fn times(given: &[u8], name: &[u8]) -> usize
-    ensures { result ≡ timesOf name.now (words given.now) }
+    ensures { result ≡ times_of name.now (words given.now) }
 {
     let mut from: usize = 0;
     let mut n: usize = 0;

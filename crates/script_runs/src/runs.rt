@@ -1,7 +1,7 @@
 // A command placerun: whether its words are a request, and which.
 ghost use Rattle.std.specs.Prelude.{◌≡◌, length};
 ghost use Rattle.script_words.specs.Parts.{words};
-ghost use Rattle.script_runs.specs.Runs.{isSaid, mayBound, mayRoom, boundIn, boxesIn, roomIn, ratingsIn, requestIn, hasParts, hasOptions, hasNumbers, hasLists, isRequest};
+ghost use Rattle.script_runs.specs.Runs.{is_said, may_bound, may_room, bound_in, boxes_in, room_in, ratings_in, request_in, has_parts, has_options, has_numbers, has_lists, is_request};
 ghost use Rattle.script_runs.specs.inner.Filled.{Fills, buffers, Asks};
 
 use crate::lists::{is_list, ones_in, signeds_in, wholes_in};
@@ -11,14 +11,14 @@ use run::types::Bound;
 use script_words::numbers::{is_signed, is_whole, number, signed, whole};
 
 fn is_once(given: &[u8], name: &[u8]) -> bool
-    ensures { result ≡ isSaid name.now (words given.now) }
+    ensures { result ≡ is_said name.now (words given.now) }
 {
     times(given, name) == 1
 }
 
 // r, the old positions, the neighbours' counts and positions and the distances are said once;
 fn has_parts(given: &[u8]) -> bool
-    ensures { result ≡ hasParts (words given.now) }
+    ensures { result ≡ has_parts (words given.now) }
 {
     if !is_once(given, b"r=") {
         return false;
@@ -37,7 +37,7 @@ fn has_parts(given: &[u8]) -> bool
 
 // the bounds, the ratings and the answer's length at most once, and nothing else.
 fn has_options(given: &[u8]) -> bool
-    ensures { result ≡ hasOptions (words given.now) }
+    ensures { result ≡ has_options (words given.now) }
 {
     let left = times(given, b"left=");
     if 1 < left {
@@ -59,7 +59,7 @@ fn has_options(given: &[u8]) -> bool
 }
 
 fn may_bound(given: &[u8], name: &[u8]) -> bool
-    ensures { result ≡ mayBound name.now (words given.now) }
+    ensures { result ≡ may_bound name.now (words given.now) }
 {
     if is_once(given, name) {
         return is_signed(number(value(given, name)));
@@ -68,7 +68,7 @@ fn may_bound(given: &[u8], name: &[u8]) -> bool
 }
 
 fn may_room(given: &[u8]) -> bool
-    ensures { result ≡ mayRoom (words given.now) }
+    ensures { result ≡ may_room (words given.now) }
 {
     if is_once(given, b"answer=") {
         return is_whole(number(value(given, b"answer=")));
@@ -77,7 +77,7 @@ fn may_room(given: &[u8]) -> bool
 }
 
 fn has_numbers(given: &[u8]) -> bool
-    ensures { result ≡ hasNumbers (words given.now) }
+    ensures { result ≡ has_numbers (words given.now) }
 {
     if !is_whole(number(value(given, b"r="))) {
         return false;
@@ -92,7 +92,7 @@ fn has_numbers(given: &[u8]) -> bool
 }
 
 fn has_lists(given: &[u8]) -> bool
-    ensures { result ≡ hasLists (words given.now) }
+    ensures { result ≡ has_lists (words given.now) }
 {
     if !is_list(Kind::Signed, value(given, b"old=")) {
         return false;
@@ -111,7 +111,7 @@ fn has_lists(given: &[u8]) -> bool
 
 // Whether the words are a request.
 pub fn is_request(given: &[u8]) -> bool
-    ensures { result ≡ isRequest (words given.now) }
+    ensures { result ≡ is_request (words given.now) }
 {
     if !has_parts(given) {
         return false;
@@ -126,7 +126,7 @@ pub fn is_request(given: &[u8]) -> bool
 }
 
 fn bound_in(given: &[u8], name: &[u8]) -> Bound
-    ensures { result ≡ boundIn name.now (words given.now) }
+    ensures { result ≡ bound_in name.now (words given.now) }
 {
     if is_once(given, name) {
         return Bound::At(signed(number(value(given, name))));
@@ -135,13 +135,13 @@ fn bound_in(given: &[u8], name: &[u8]) -> Bound
 }
 
 fn boxes_in(given: &[u8]) -> u64
-    ensures { result ≡ boxesIn (words given.now) }
+    ensures { result ≡ boxes_in (words given.now) }
 {
     whole(number(value(given, b"r=")))
 }
 
 fn room_in(given: &[u8]) -> u64
-    ensures { result ≡ roomIn (words given.now) }
+    ensures { result ≡ room_in (words given.now) }
 {
     if is_once(given, b"answer=") {
         return whole(number(value(given, b"answer=")));
@@ -151,7 +151,7 @@ fn room_in(given: &[u8]) -> u64
 
 // The ratings that are said, or a 1 for each neighbour, at the front of a buffer, as many as it has room for: how many there are.
 fn ratings_in(given: &[u8], out: &mut [u64]) -> usize
-    ensures { Fills (ratingsIn (words given.now)) (length out.old) result out.new }
+    ensures { Fills (ratings_in (words given.now)) (length out.old) result out.new }
 {
     if is_once(given, b"ratings=") {
         return wholes_in(value(given, b"ratings="), out);
@@ -168,7 +168,7 @@ pub fn request(
     neighbours: &mut [i64],
     ratings: &mut [u64],
 ) -> RunRequest
-    ensures { Asks (requestIn (words given.now)) (roomIn (words given.now))
+    ensures { Asks (request_in (words given.now)) (room_in (words given.now))
         (buffers old.old distances.old counts.old neighbours.old ratings.old) result
         (buffers old.new distances.new counts.new neighbours.new ratings.new) }
 {

@@ -12,7 +12,7 @@ use lib.ListN.{length, get_or, take, drop, length-take, length-drop, drop_of_len
 use lib.Seq.{drop-cons, take_all}
 use Rattle.ints.proofs.Tests.{and-false}
 use Rattle.plan.specs.Limits.{within}
-use Rattle.script_texts.specs.Texts.{follows, hexValue, isHex, unescaped, escaped, hexadecimal}
+use Rattle.script_texts.specs.Texts.{follows, hex_value, is_hex, unescaped, escaped, hexadecimal}
 use Rattle.script_words.specs.inner.Puts.{Puts}
 use Rattle.script_words.proofs.Filling.{fill_more}
 use Rattle.script_texts.specs.inner.Units.{Stands, cut}
@@ -29,20 +29,20 @@ module _ (lo hi n : ℕ) where
   within-yes h k = rw (le-leb lo n h, le-leb n hi k)
 
 module _ (b : ℕ) where
-  pub hex-digit : 48 ≤ b → b ≤ 57 → hexValue b ≡ b - 48
-  unfolding hexValue
+  pub hex-digit : 48 ≤ b → b ≤ 57 → hex_value b ≡ b - 48
+  unfolding hex_value
   hex-digit h k = rw (within-yes 48 57 b h k)
 
-  pub hex-upper : 65 ≤ b → b ≤ 70 → hexValue b ≡ b - 55
-  unfolding hexValue
+  pub hex-upper : 65 ≤ b → b ≤ 70 → hex_value b ≡ b - 55
+  unfolding hex_value
   hex-upper h k = rw (within-high 48 57 b (omega arith), within-yes 65 70 b h k)
 
-  pub hex-lower : 97 ≤ b → b ≤ 102 → hexValue b ≡ b - 87
-  unfolding hexValue
+  pub hex-lower : 97 ≤ b → b ≤ 102 → hex_value b ≡ b - 87
+  unfolding hex_value
   hex-lower h k = rw (within-high 48 57 b (omega arith), within-high 65 70 b (omega arith), within-yes 97 102 b h k)
 
-  pub hex-none : within 48 57 b ≡ false → within 65 70 b ≡ false → within 97 102 b ≡ false → hexValue b ≡ 16
-  unfolding hexValue
+  pub hex-none : within 48 57 b ≡ false → within 65 70 b ≡ false → within 97 102 b ≡ false → hex_value b ≡ 16
+  unfolding hex_value
   hex-none x y z = rw (x, y, z)
 
 -- ---- what stands at a position
@@ -106,21 +106,21 @@ module _ (s : List ℕ) (at : ℕ) where
   pub hex-short : length s < at + 2 → hexadecimal (drop at s) ≡ none
   hex-short h = hex-few (drop at s) (simp length-drop (omega arith))
 
-  hex-both : at + 1 < length s → hexadecimal (drop at s) ≡ cond (isHex (get_or s at 0) && isHex (get_or s (at + 1) 0))
-      (follows (16 * hexValue (get_or s at 0) + hexValue (get_or s (at + 1) 0)) (unescaped (drop (at + 2) s))) none
+  hex-both : at + 1 < length s → hexadecimal (drop at s) ≡ cond (is_hex (get_or s at 0) && is_hex (get_or s (at + 1) 0))
+      (follows (16 * hex_value (get_or s at 0) + hex_value (get_or s (at + 1) 0)) (unescaped (drop (at + 2) s))) none
   unfolding hexadecimal
   hex-both h = rw (add-one at, add-two at, drop-cons s at 0 (omega arith), drop-cons s (suc at) 0 (omega arith))
 
   module _ (h : at + 1 < length s) where
-    pub hex-not-first : 16 ≤ hexValue (get_or s at 0) → hexadecimal (drop at s) ≡ none
-    hex-not-first k = hex-both h ∙ rw (le-ltb (hexValue (get_or s at 0)) 16 k)
+    pub hex-not-first : 16 ≤ hex_value (get_or s at 0) → hexadecimal (drop at s) ≡ none
+    hex-not-first k = hex-both h ∙ rw (le-ltb (hex_value (get_or s at 0)) 16 k)
 
-    pub hex-not-second : 16 ≤ hexValue (get_or s (at + 1) 0) → hexadecimal (drop at s) ≡ none
-    hex-not-second k = hex-both h ∙ rw (le-ltb (hexValue (get_or s (at + 1) 0)) 16 k, and-false (isHex (get_or s at 0)))
+    pub hex-not-second : 16 ≤ hex_value (get_or s (at + 1) 0) → hexadecimal (drop at s) ≡ none
+    hex-not-second k = hex-both h ∙ rw (le-ltb (hex_value (get_or s (at + 1) 0)) 16 k, and-false (is_hex (get_or s at 0)))
 
-    pub hex-is : hexValue (get_or s at 0) < 16 → hexValue (get_or s (at + 1) 0) < 16 → hexadecimal (drop at s) ≡ follows
-        (16 * hexValue (get_or s at 0) + hexValue (get_or s (at + 1) 0)) (unescaped (drop (at + 2) s))
-    hex-is k l = hex-both h ∙ rw (lt-ltb (hexValue (get_or s at 0)) 16 k, lt-ltb (hexValue (get_or s (at + 1) 0)) 16 l)
+    pub hex-is : hex_value (get_or s at 0) < 16 → hex_value (get_or s (at + 1) 0) < 16 → hexadecimal (drop at s) ≡ follows
+        (16 * hex_value (get_or s at 0) + hex_value (get_or s (at + 1) 0)) (unescaped (drop (at + 2) s))
+    hex-is k l = hex-both h ∙ rw (lt-ltb (hex_value (get_or s at 0)) 16 k, lt-ltb (hex_value (get_or s (at + 1) 0)) 16 l)
 
 -- ---- nothing, or a byte
 pub nothing-stands : (f : List ℕ → Option (List ℕ)) (s : List ℕ) (at : ℕ) → f (drop at s) ≡ none → at ≤ length s → Stands f s at false 0 at

@@ -1,4 +1,4 @@
--- TEXT at the end of a line: "`\n \t \r \\ \xHH` for bytes"; every other byte stands for itself.
+-- TEXT at the end of a line: "`\n \t \r \\ \x_hh` for bytes"; every other byte stands for itself.
 use Rattle.std.specs.Prelude.{Bool, cond, ◌&&◌, List, [], ◌∷◌, ℕ, ◌+◌, ◌-◌, ◌*◌, ltb, eqb}
 use Rattle.std.proofs.Math.Option.{Option, none, some}
 use Rattle.plan.specs.Limits.{within}
@@ -9,11 +9,11 @@ follows b none = none
 follows b (some t) = some (b ∷ t)
 
 -- What a hexadecimal digit of either case stands for; 16 if it is none.
-unfoldable pub hexValue : ℕ → ℕ
-hexValue b = cond (within 48 57 b) (b - 48) (cond (within 65 70 b) (b - 55) (cond (within 97 102 b) (b - 87) 16))
+unfoldable pub hex_value : ℕ → ℕ
+hex_value b = cond (within 48 57 b) (b - 48) (cond (within 65 70 b) (b - 55) (cond (within 97 102 b) (b - 87) 16))
 
-abbrev pub isHex : ℕ → Bool
-isHex b = ltb (hexValue b) 16
+abbrev pub is_hex : ℕ → Bool
+is_hex b = ltb (hex_value b) 16
 
 -- The bytes that a text stands for; none if it has a backslash with anything else after it.
 unfoldable mutual
@@ -33,15 +33,15 @@ unfoldable mutual
       let r = follows 13 (unescaped s) in
       let backslash = follows 92 (unescaped s) in
       let x = hexadecimal s in
-      let notR = cond (eqb c 92) backslash (cond (eqb c 120) x none) in
-      let notT = cond (eqb c 114) r notR in
-      let notN = cond (eqb c 116) t notT in
-      cond (eqb c 110) n notN
+      let not_r = cond (eqb c 92) backslash (cond (eqb c 120) x none) in
+      let not_t = cond (eqb c 114) r not_r in
+      let not_n = cond (eqb c 116) t not_t in
+      cond (eqb c 110) n not_n
 
   -- after a backslash and an x.
   pub hexadecimal : List ℕ → Option (List ℕ)
   hexadecimal [] = none
   hexadecimal (h ∷ []) = none
   hexadecimal (h ∷ l ∷ s) =
-      let byte = follows (16 * hexValue h + hexValue l) (unescaped s) in
-      cond (isHex h && isHex l) byte none
+      let byte = follows (16 * hex_value h + hex_value l) (unescaped s) in
+      cond (is_hex h && is_hex l) byte none

@@ -1,7 +1,7 @@
 // Texts with bytes written as escapes.
 ghost use Rattle.std.specs.Prelude.{◌≡◌, true, false, ◌≤◌, ◌<◌, length};
 ghost use Rattle.script_words.specs.inner.Puts.{Puts};
-ghost use Rattle.script_texts.specs.Texts.{hexValue, unescaped, escaped, hexadecimal};
+ghost use Rattle.script_texts.specs.Texts.{hex_value, unescaped, escaped, hexadecimal};
 ghost use Rattle.script_texts.specs.inner.Units.{Stands, Unescapes};
 
 use crate::types::Text;
@@ -36,7 +36,7 @@ fn one(byte: u8, next: usize) -> Unit
 
 // 16 for what is no digit.
 fn hex(b: u8) -> u8
-    ensures { (result ≡ hexValue b) × (result ≤ 16) }
+    ensures { (result ≡ hex_value b) × (result ≤ 16) }
 {
     if b < b'0' {
         return 16;

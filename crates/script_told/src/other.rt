@@ -1,14 +1,14 @@
 // The other commands: an answer at the front of a lent buffer.
 ghost use Rattle.std.specs.Prelude.{◌≡◌, ◌≤◌, min, pos, length, replicate};
 ghost use Rattle.run.specs.Call.{call_of};
-ghost use Rattle.script_runs.specs.inner.Filled.{buffers, requestWith, Within};
+ghost use Rattle.script_runs.specs.inner.Filled.{buffers, request_with, Within};
 ghost use Rattle.script_poke.specs.Poked as pokes;
-ghost use Rattle.script_answers.specs.Answers.{unknown as notKnown, stage as standing, line_of};
-ghost use Rattle.script_answers.specs.inner.Lengths.{maxAnswer};
-ghost use Rattle.text_walk.specs.Walks.{textWalk};
-ghost use Rattle.script_calls.specs.Said.{walkSaid, runSaid};
+ghost use Rattle.script_answers.specs.Answers.{unknown as not_known, stage as standing, line_of};
+ghost use Rattle.script_answers.specs.inner.Lengths.{max_answer};
+ghost use Rattle.text_walk.specs.Walks.{text_walk};
+ghost use Rattle.script_calls.specs.Said.{walk_said, run_said};
 ghost use Rattle.script_calls.specs.inner.Answered.{Fitted};
-ghost use Rattle.script_told.specs.Turns.{pokeSaid};
+ghost use Rattle.script_told.specs.Turns.{poke_said};
 ghost use Rattle.script_told.specs.inner.One.{Single};
 
 use crate::types::OneAnswer;
@@ -24,8 +24,8 @@ use sheet::types::{Sheet, Stage};
 const TOO_MANY: usize = 65;
 
 pub fn unknown(sheet: Sheet, out: &mut [u8]) -> OneAnswer
-    requires { maxAnswer ≤ length out.old }
-    ensures { Single notKnown sheet out.old result.sheet result.written result.more out.new }
+    requires { max_answer ≤ length out.old }
+    ensures { Single not_known sheet out.old result.sheet result.written result.more out.new }
 {
     OneAnswer {
         sheet,
@@ -35,7 +35,7 @@ pub fn unknown(sheet: Sheet, out: &mut [u8]) -> OneAnswer
 }
 
 fn tell_stage(stage: Stage, out: &mut [u8]) -> usize
-    requires { maxAnswer ≤ length out.old }
+    requires { max_answer ≤ length out.old }
     ensures { Fitted (line_of (standing stage)) out.old 0 result out.new }
 {
     match stage {
@@ -46,7 +46,7 @@ fn tell_stage(stage: Stage, out: &mut [u8]) -> usize
 }
 
 pub fn show_stage(sheet: Sheet, out: &mut [u8]) -> OneAnswer
-    requires { maxAnswer ≤ length out.old }
+    requires { max_answer ≤ length out.old }
     ensures { Single (standing sheet.header.stage) sheet out.old result.sheet result.written result.more out.new }
 {
     let header = sheet.header;
@@ -59,8 +59,8 @@ pub fn show_stage(sheet: Sheet, out: &mut [u8]) -> OneAnswer
 }
 
 pub fn alter(sheet: Sheet, what: Poke, out: &mut [u8]) -> OneAnswer
-    requires { maxAnswer ≤ length out.old }
-    ensures { Single (pokeSaid (pokes.poke what sheet)) (pokes.poke what sheet).sheet out.old result.sheet result.written result.more out.new }
+    requires { max_answer ≤ length out.old }
+    ensures { Single (poke_said (pokes.poke what sheet)) (pokes.poke what sheet).sheet out.old result.sheet result.written result.more out.new }
 {
     let poked = poke(sheet, what);
     let left = poked.sheet;
@@ -85,8 +85,8 @@ pub fn at_most(room: usize, limit: usize) -> usize
 }
 
 pub fn walk(sheet: Sheet, l: usize, text: &[u8], out: &mut [u8]) -> OneAnswer
-    requires { maxAnswer ≤ length out.old }
-    ensures { Single (walkSaid (textWalk l text.now)) sheet out.old result.sheet result.written result.more out.new }
+    requires { max_answer ≤ length out.old }
+    ensures { Single (walk_said (text_walk l text.now)) sheet out.old result.sheet result.written result.more out.new }
 {
     OneAnswer {
         sheet,
@@ -106,8 +106,8 @@ pub fn place(
     ratings: &[u64],
     out: &mut [u8],
 ) -> OneAnswer
-    requires { Within (buffers old.now distances.now counts.now neighbours.now ratings.now) run × (maxAnswer ≤ length out.old) }
-    ensures { Single (runSaid (call_of (requestWith run (buffers old.now distances.now counts.now neighbours.now
+    requires { Within (buffers old.now distances.now counts.now neighbours.now ratings.now) run × (max_answer ≤ length out.old) }
+    ensures { Single (run_said (call_of (request_with run (buffers old.now distances.now counts.now neighbours.now
         ratings.now)) (replicate run.room (pos 0)))) sheet out.old result.sheet result.written result.more out.new }
 {
     let left = run.left;

@@ -9,7 +9,7 @@ use Rattle.ints.proofs.FrontLaws.{take-replicate}
 use Rattle.sheet.specs.declared.types.Sheet.{Sheet}
 use Rattle.calls.specs.declared.types.Call.{Call}
 use Rattle.calls.specs.Step.{lent, step}
-use Rattle.script_calls.specs.Said.{callSaid}
+use Rattle.script_calls.specs.Said.{call_said}
 use Rattle.script_calls.specs.inner.Answered.{AnswersCall}
 use Rattle.script_told.specs.Turns.{lending}
 use Rattle.script_told.proofs.Enough.{refused-said}
@@ -25,7 +25,7 @@ zeros-cut m n h = ap length (zeros-first m n h) ∙ zeros-long m
 
 pub tells : (q : Call) (t : List ℕ) (room n : ℕ) (s : Sheet) {o after : List ℕ} {next : ℕ} {refused : Bool} {left : Sheet} {buffer : List ℕ} {numbers : List Float}
     → room ≤ n → AnswersCall q (lent t (take room (zeros n)) []) s o 0 next refused left after buffer numbers
-    → Tells (callSaid q (lending t room) s) (step q (lending t room) s).sheet o next refused left after
+    → Tells (call_said q (lending t room) s) (step q (lending t room) s).sheet o next refused left after
 tells q t room n s l h =
     let h' = rw (zeros-first room n l) at h in
     record { wrote = h'.said; ends = h'.refused ∙ sym (refused-said q (lending t room) s); left = h'.sheet }

@@ -1,10 +1,10 @@
 // Commands that are calls: an answer at the front of a lent buffer.
 ghost use Rattle.std.specs.Prelude.{◌≡◌, false, cond, [], ◌+◌, ◌≤◌, ◌<◌, ltb, length};
 ghost use Rattle.calls.specs.Step.{step};
-ghost use Rattle.script_commands.specs.Table.{longEnough};
-ghost use Rattle.script_answers.specs.inner.Lengths.{maxAnswer};
-ghost use Rattle.script_calls.specs.Said.{callSaid};
-ghost use Rattle.script_told.specs.Turns.{lending, mostAnswers};
+ghost use Rattle.script_commands.specs.Table.{long_enough};
+ghost use Rattle.script_answers.specs.inner.Lengths.{max_answer};
+ghost use Rattle.script_calls.specs.Said.{call_said};
+ghost use Rattle.script_told.specs.Turns.{lending, most_answers};
 ghost use Rattle.script_told.specs.inner.One.{Single};
 ghost use Rattle.script_turn.specs.inner.One.{Tells, Nth};
 
@@ -21,8 +21,8 @@ const MOST_ANSWERS: usize = 3075;
 
 // A call with a text and a buffer of `room` bytes.
 fn ask(sheet: Sheet, call: Call, text: &[u8], room: usize, out: &mut [u8]) -> Answered
-    requires { (room ≤ longEnough) × (maxAnswer ≤ length out.old) }
-    ensures { Tells (callSaid call (lending text.now room) sheet) (step call (lending text.now room) sheet).sheet
+    requires { (room ≤ long_enough) × (max_answer ≤ length out.old) }
+    ensures { Tells (call_said call (lending text.now room) sheet) (step call (lending text.now room) sheet).sheet
         out.old result.next result.refused result.sheet out.new }
 {
     let mut buffer = [0u8; LONG_ENOUGH];
@@ -40,8 +40,8 @@ fn ask(sheet: Sheet, call: Call, text: &[u8], room: usize, out: &mut [u8]) -> An
 
 // One call.
 pub fn one_call(sheet: Sheet, call: Call, text: &[u8], room: usize, out: &mut [u8]) -> OneAnswer
-    requires { (room ≤ longEnough) × (maxAnswer ≤ length out.old) }
-    ensures { Single (callSaid call (lending text.now room) sheet) (step call (lending text.now room) sheet).sheet
+    requires { (room ≤ long_enough) × (max_answer ≤ length out.old) }
+    ensures { Single (call_said call (lending text.now room) sheet) (step call (lending text.now room) sheet).sheet
         out.old result.sheet result.written result.more out.new }
 {
     let answered = ask(sheet, call, text, room, out);
@@ -55,8 +55,8 @@ pub fn one_call(sheet: Sheet, call: Call, text: &[u8], room: usize, out: &mut [u
 
 // Whether an answer follows answer n: not after a refusal.
 fn goes_on(refused: bool, n: usize) -> bool
-    requires { n < mostAnswers }
-    ensures { result ≡ cond refused false (ltb (n + 1) mostAnswers) }
+    requires { n < most_answers }
+    ensures { result ≡ cond refused false (ltb (n + 1) most_answers) }
 {
     if refused {
         return false;
@@ -66,8 +66,8 @@ fn goes_on(refused: bool, n: usize) -> bool
 
 // Call n of those up to a refusal.
 pub fn next_call(sheet: Sheet, call: Call, n: usize, room: usize, out: &mut [u8]) -> OneAnswer
-    requires { (n < mostAnswers) × (room ≤ longEnough) × (maxAnswer ≤ length out.old) }
-    ensures { Nth (callSaid call (lending [] room) sheet) n (step call (lending [] room) sheet).sheet
+    requires { (n < most_answers) × (room ≤ long_enough) × (max_answer ≤ length out.old) }
+    ensures { Nth (call_said call (lending [] room) sheet) n (step call (lending [] room) sheet).sheet
         out.old result.sheet result.written result.more out.new }
 {
     let answered = ask(sheet, call, b"", room, out);

@@ -1,6 +1,6 @@
 // One answer of one command.
 ghost use Rattle.script_runs.specs.inner.Filled.{buffers};
-ghost use Rattle.script_commands.specs.inner.Held.{lent, commandIn};
+ghost use Rattle.script_commands.specs.inner.Held.{lent, command_in};
 ghost use Rattle.script_told.specs.Turns.{turn_of};
 ghost use Rattle.script_turn.specs.inner.One.{Asked, Answers};
 
@@ -25,7 +25,7 @@ pub fn turn(
     out: &mut [u8],
 ) -> OneAnswer
     requires { Asked command (lent text.now (buffers old.now distances.now counts.now neighbours.now ratings.now)) sheet n out.old }
-    ensures { Answers (turn_of (commandIn command (lent text.now (buffers old.now distances.now
+    ensures { Answers (turn_of (command_in command (lent text.now (buffers old.now distances.now
         counts.now neighbours.now ratings.now))) sheet) n out.old result.sheet result.written result.more out.new }
 {
     match command {

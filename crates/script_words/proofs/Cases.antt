@@ -7,7 +7,7 @@ use Rattle.plan.specs.Checks.{every}
 use Rattle.text.specs.Bytes.{bytes}
 use Rattle.script_words.specs.declared.types.Number.TheVariants.{Whole, Negative, Other}
 use Rattle.script_words.specs.Parts.{parts, words}
-use Rattle.script_words.specs.Numbers.{valueFrom, isNatural, naturalIn, number_in}
+use Rattle.script_words.specs.Numbers.{value_from, is_natural, natural_in, number_in}
 
 line-words : words (bytes "line 1  7 ") ≡ bytes "line" ∷ bytes "1" ∷ [] ∷ bytes "7" ∷ [] ∷ []
 unfolding parts
@@ -27,7 +27,7 @@ record Numbers : Type 0 where
   pub sign : number_in (bytes "-") ≡ Other
 
 numbers : Numbers
-unfolding number_in naturalIn isNatural every valueFrom
+unfolding number_in natural_in is_natural every value_from
 numbers = record {
   zero = refl;
   most = refl;

@@ -1,19 +1,19 @@
 // Numbers in words.
 ghost use Rattle.std.specs.Prelude.{◌≡◌, true, ◌+◌, ◌-◌, ◌*◌, ◌≤◌, ◌^◌, ltb, neg_ℤ, pos};
 ghost use Rattle.plan.specs.Checks.{every};
-ghost use Rattle.text.specs.Parser.{isDigit};
-ghost use Rattle.script_words.specs.Numbers.{valueFrom, wholeIf, isNatural, naturalIn, negated, number_in, isWhole, whole_of, is_signed, signed_of};
+ghost use Rattle.text.specs.Parser.{is_digit};
+ghost use Rattle.script_words.specs.Numbers.{value_from, whole_if, is_natural, natural_in, negated, number_in, is_whole, whole_of, is_signed, signed_of};
 
 use crate::types::Number;
 
 fn is_digit(b: u8) -> bool
-    ensures { result ≡ isDigit b }
+    ensures { result ≡ is_digit b }
 {
     b'0' <= b && b <= b'9'
 }
 
 fn all_digits(word: &[u8]) -> bool
-    ensures { result ≡ every isDigit word.now }
+    ensures { result ≡ every is_digit word.now }
 {
     let mut i: usize = 0;
     while i < word.len() {
@@ -27,7 +27,7 @@ fn all_digits(word: &[u8]) -> bool
 
 // "no leading zero except 0 itself"
 fn is_natural(word: &[u8]) -> bool
-    ensures { result ≡ isNatural word.now }
+    ensures { result ≡ is_natural word.now }
 {
     if word.len() == 0 {
         return false;
@@ -43,7 +43,7 @@ fn is_natural(word: &[u8]) -> bool
 
 // What a digit stands for.
 fn digit(b: u8) -> u64
-    requires { isDigit b ≡ true }
+    requires { is_digit b ≡ true }
     ensures { (result ≡ b - 48) × (result ≤ 9) }
 {
     (b - b'0') as u64
@@ -68,8 +68,8 @@ fn fits(n: u64, d: u64) -> bool
 
 // The number that digits stand for, if it is within 64 bits.
 fn value(word: &[u8]) -> Number
-    requires { every isDigit word.now ≡ true }
-    ensures { result ≡ wholeIf (valueFrom 0 word.now) }
+    requires { every is_digit word.now ≡ true }
+    ensures { result ≡ whole_if (value_from 0 word.now) }
 {
     let mut n: u64 = 0;
     let mut i: usize = 0;
@@ -85,7 +85,7 @@ fn value(word: &[u8]) -> Number
 }
 
 fn natural(word: &[u8]) -> Number
-    ensures { result ≡ naturalIn word.now }
+    ensures { result ≡ natural_in word.now }
 {
     if !is_natural(word) {
         return Number::Other;
@@ -134,7 +134,7 @@ pub fn number(word: &[u8]) -> Number
 }
 
 pub fn is_whole(n: Number) -> bool
-    ensures { result ≡ isWhole n }
+    ensures { result ≡ is_whole n }
 {
     match n {
         Number::Whole(_) => true,

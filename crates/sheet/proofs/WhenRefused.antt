@@ -9,29 +9,29 @@ use lib.Dec.{eqb}
 use lib.ListN.{length}
 use lib.Ieee.{Float}
 use Rattle.ints.specs.Lists.{over}
-use Rattle.ints.specs.Refusals.{Test, firstRefusal, isFirst, noneRefuses}
+use Rattle.ints.specs.Refusals.{Test, first_refusal, is_first, none_refuses}
 use Rattle.ints.proofs.Refusals.{lacks, numbered, refused-first, given-none, none-append, first-early, first-late}
 use Rattle.plan.specs.Plan.{PlanData}
-use Rattle.text.specs.Reading.{Reading, accepted, refused, textTests, reading, tangledReading}
+use Rattle.text.specs.Reading.{Reading, accepted, refused, text_tests, reading, tangled_reading}
 use Rattle.text.proofs.Words.{never}
 use Rattle.text.proofs.WhenRefused as read
-use Rattle.text.proofs.WhenRefused.{read-refused, read-given, tangledTests}
-use Rattle.passes.specs.Drawing.{drawingOf}
+use Rattle.text.proofs.WhenRefused.{read-refused, read-given, tangled_tests}
+use Rattle.passes.specs.Drawing.{drawing_of}
 use Rattle.marks.specs.Marks.{mark_of}
 use Rattle.sheet.specs.declared.types.Stage.{Stage}
 use Rattle.sheet.specs.declared.types.Stage.TheVariants.{Empty, Loaded, Drawn}
 use Rattle.sheet.specs.declared.types.Sheet.{Sheet}
-use Rattle.sheet.specs.Sheet.{is_empty, isDrawn, planIn, drawingIn, loadedAsRead, loadedUntangled, drawnSheet}
-use Rattle.sheet.specs.Results.{Result, gives, refuses, resultAfter}
-use Rattle.sheet.specs.Tests.{test11, test12, test15, holdsPlan, test13Plan, holdsNumbers, test13Numbers, holdsDrawing, test13Drawing, marksIn, line_of, reportOf, numbersOf, textLineOf, wholeTextOf}
-use Rattle.sheet.specs.Calls.{load_of, load, loadTangled, drawTests, draw, bufferAfter, lineTests, line, reportTests, report, textLineTests, textLine, wholeTextTests, wholeText, markTests, mark, marksTests, marks, clear}
+use Rattle.sheet.specs.Sheet.{is_empty, is_drawn, plan_in, drawing_in, loaded_as_read, loaded_untangled, drawn_sheet}
+use Rattle.sheet.specs.Results.{Result, gives, refuses, result_after}
+use Rattle.sheet.specs.Tests.{test11, test12, test15, holds_plan, test13_plan, holds_numbers, test13_numbers, holds_drawing, test13_drawing, marks_in, line_of, report_of, numbers_of, text_line_of, whole_text_of}
+use Rattle.sheet.specs.Calls.{load_of, load, load_tangled, draw_tests, draw, buffer_after, line_tests, line, report_tests, report, text_line_tests, text_line, whole_text_tests, whole_text, mark_tests, mark, marks_tests, marks, clear}
 
 -- ---- the one law, of what a call gives
 module _ {A : Type 0} (ts : List Test) (h : numbered ts ≡ true) (a : A) where
-  pub refuses-first : (m : ℕ) → (resultAfter (firstRefusal ts) a ≡ refuses m) ↔ (isFirst m ts ≡ true)
+  pub refuses-first : (m : ℕ) → (result_after (first_refusal ts) a ≡ refuses m) ↔ (is_first m ts ≡ true)
   refuses-first m = refused-first (gives a) refuses (λ m e. never (cc)) (λ m n e. cc) ts h m
 
-  pub gives_none : (resultAfter (firstRefusal ts) a ≡ gives a) ↔ (noneRefuses ts ≡ true)
+  pub gives_none : (result_after (first_refusal ts) a ≡ gives a) ↔ (none_refuses ts ≡ true)
   gives_none = given-none (gives a) refuses (λ m e. never (cc)) (λ m n e. cc) ts h
 
 -- What a call gives, if it gives something.
@@ -41,61 +41,61 @@ given false k a b e = never (cc)
 
 -- ---- each call
 module _ (s : Sheet) where
-  pub draw-refused : (m : ℕ) → ((draw s).result ≡ refuses m) ↔ (isFirst m (drawTests s) ≡ true)
+  pub draw-refused : (m : ℕ) → ((draw s).result ≡ refuses m) ↔ (is_first m (draw_tests s) ≡ true)
   unfolding draw
-  draw-refused = refuses-first {A = Unit} (drawTests s) refl tt
+  draw-refused = refuses-first {A = Unit} (draw_tests s) refl tt
 
-  pub draw-given : ((draw s).result ≡ gives tt) ↔ (noneRefuses (drawTests s) ≡ true)
+  pub draw-given : ((draw s).result ≡ gives tt) ↔ (none_refuses (draw_tests s) ≡ true)
   unfolding draw
-  draw-given = gives_none {A = Unit} (drawTests s) refl tt
+  draw-given = gives_none {A = Unit} (draw_tests s) refl tt
 
-  pub line_refused : (n : ℕ) (b : List ℕ) (m : ℕ) → ((line s n b).result ≡ refuses m) ↔ (isFirst m (lineTests s n b) ≡ true)
+  pub line_refused : (n : ℕ) (b : List ℕ) (m : ℕ) → ((line s n b).result ≡ refuses m) ↔ (is_first m (line_tests s n b) ≡ true)
   unfolding line
-  line_refused n b = refuses-first (lineTests s n b) refl (length (line_of s n))
+  line_refused n b = refuses-first (line_tests s n b) refl (length (line_of s n))
 
-  pub line-given : (n : ℕ) (b : List ℕ) → ((line s n b).result ≡ gives (length (line_of s n))) ↔ (noneRefuses (lineTests s n b) ≡ true)
+  pub line-given : (n : ℕ) (b : List ℕ) → ((line s n b).result ≡ gives (length (line_of s n))) ↔ (none_refuses (line_tests s n b) ≡ true)
   unfolding line
-  line-given n b = gives_none (lineTests s n b) refl (length (line_of s n))
+  line-given n b = gives_none (line_tests s n b) refl (length (line_of s n))
 
-  pub report-refused : (b : List ℕ) (m : ℕ) → ((report s b).result ≡ refuses m) ↔ (isFirst m (reportTests s b) ≡ true)
+  pub report-refused : (b : List ℕ) (m : ℕ) → ((report s b).result ≡ refuses m) ↔ (is_first m (report_tests s b) ≡ true)
   unfolding report
-  report-refused b = refuses-first (reportTests s b) refl (length (reportOf s))
+  report-refused b = refuses-first (report_tests s b) refl (length (report_of s))
 
-  pub report-given : (b : List ℕ) → ((report s b).result ≡ gives (length (reportOf s))) ↔ (noneRefuses (reportTests s b) ≡ true)
+  pub report-given : (b : List ℕ) → ((report s b).result ≡ gives (length (report_of s))) ↔ (none_refuses (report_tests s b) ≡ true)
   unfolding report
-  report-given b = gives_none (reportTests s b) refl (length (reportOf s))
+  report-given b = gives_none (report_tests s b) refl (length (report_of s))
 
-  pub text-line-refused : (n : ℕ) (b : List ℕ) (m : ℕ) → ((textLine s n b).result ≡ refuses m) ↔ (isFirst m (textLineTests s n b) ≡ true)
-  unfolding textLine
-  text-line-refused n b = refuses-first (textLineTests s n b) refl (length (textLineOf s n))
+  pub text-line-refused : (n : ℕ) (b : List ℕ) (m : ℕ) → ((text_line s n b).result ≡ refuses m) ↔ (is_first m (text_line_tests s n b) ≡ true)
+  unfolding text_line
+  text-line-refused n b = refuses-first (text_line_tests s n b) refl (length (text_line_of s n))
 
-  pub text-line-given : (n : ℕ) (b : List ℕ) → ((textLine s n b).result ≡ gives (length (textLineOf s n))) ↔ (noneRefuses (textLineTests s n b) ≡ true)
-  unfolding textLine
-  text-line-given n b = gives_none (textLineTests s n b) refl (length (textLineOf s n))
+  pub text-line-given : (n : ℕ) (b : List ℕ) → ((text_line s n b).result ≡ gives (length (text_line_of s n))) ↔ (none_refuses (text_line_tests s n b) ≡ true)
+  unfolding text_line
+  text-line-given n b = gives_none (text_line_tests s n b) refl (length (text_line_of s n))
 
-  pub whole-text-refused : (b : List ℕ) (m : ℕ) → ((wholeText s b).result ≡ refuses m) ↔ (isFirst m (wholeTextTests s b) ≡ true)
-  unfolding wholeText
-  whole-text-refused b = refuses-first (wholeTextTests s b) refl (length (wholeTextOf s))
+  pub whole-text-refused : (b : List ℕ) (m : ℕ) → ((whole_text s b).result ≡ refuses m) ↔ (is_first m (whole_text_tests s b) ≡ true)
+  unfolding whole_text
+  whole-text-refused b = refuses-first (whole_text_tests s b) refl (length (whole_text_of s))
 
-  pub whole-text-given : (b : List ℕ) → ((wholeText s b).result ≡ gives (length (wholeTextOf s))) ↔ (noneRefuses (wholeTextTests s b) ≡ true)
-  unfolding wholeText
-  whole-text-given b = gives_none (wholeTextTests s b) refl (length (wholeTextOf s))
+  pub whole-text-given : (b : List ℕ) → ((whole_text s b).result ≡ gives (length (whole_text_of s))) ↔ (none_refuses (whole_text_tests s b) ≡ true)
+  unfolding whole_text
+  whole-text-given b = gives_none (whole_text_tests s b) refl (length (whole_text_of s))
 
-  pub mark-refused : (n m : ℕ) → (mark s n ≡ refuses m) ↔ (isFirst m (markTests s n) ≡ true)
+  pub mark-refused : (n m : ℕ) → (mark s n ≡ refuses m) ↔ (is_first m (mark_tests s n) ≡ true)
   unfolding mark
-  mark-refused n = refuses-first (markTests s n) refl (mark_of (planIn s) (drawingIn s).final n)
+  mark-refused n = refuses-first (mark_tests s n) refl (mark_of (plan_in s) (drawing_in s).final n)
 
-  pub mark-given : (n : ℕ) → (mark s n ≡ gives (mark_of (planIn s) (drawingIn s).final n)) ↔ (noneRefuses (markTests s n) ≡ true)
+  pub mark-given : (n : ℕ) → (mark s n ≡ gives (mark_of (plan_in s) (drawing_in s).final n)) ↔ (none_refuses (mark_tests s n) ≡ true)
   unfolding mark
-  mark-given n = gives_none (markTests s n) refl (mark_of (planIn s) (drawingIn s).final n)
+  mark-given n = gives_none (mark_tests s n) refl (mark_of (plan_in s) (drawing_in s).final n)
 
-  pub marks-refused : (b : List Float) (m : ℕ) → ((marks s b).result ≡ refuses m) ↔ (isFirst m (marksTests s b) ≡ true)
+  pub marks-refused : (b : List Float) (m : ℕ) → ((marks s b).result ≡ refuses m) ↔ (is_first m (marks_tests s b) ≡ true)
   unfolding marks
-  marks-refused b = refuses-first (marksTests s b) refl (marksIn s)
+  marks-refused b = refuses-first (marks_tests s b) refl (marks_in s)
 
-  pub marks-given : (b : List Float) → ((marks s b).result ≡ gives (marksIn s)) ↔ (noneRefuses (marksTests s b) ≡ true)
+  pub marks-given : (b : List Float) → ((marks s b).result ≡ gives (marks_in s)) ↔ (none_refuses (marks_tests s b) ≡ true)
   unfolding marks
-  marks-given b = gives_none (marksTests s b) refl (marksIn s)
+  marks-given b = gives_none (marks_tests s b) refl (marks_in s)
 
   pub clear-given : (clear s).result ≡ gives tt
   unfolding clear
@@ -106,14 +106,14 @@ module _ (s : Sheet) where
   unread f (accepted p) m = (λ e. never (cc), λ e. never (cc))
   unread f (refused n) m = (λ e. cc, λ e. cc)
 
-  pub load-refused : (text : List ℕ) (m : ℕ) → ((load s text).result ≡ refuses m) ↔ (isFirst m (textTests text) ≡ true)
+  pub load-refused : (text : List ℕ) (m : ℕ) → ((load s text).result ≡ refuses m) ↔ (is_first m (text_tests text) ≡ true)
   unfolding load
-  load-refused text m = let u = unread loadedAsRead (reading text) m in let r = read-refused text m in (λ e. r.0 (u.0 e), λ e. u.1 (r.1 e))
+  load-refused text m = let u = unread loaded_as_read (reading text) m in let r = read-refused text m in (λ e. r.0 (u.0 e), λ e. u.1 (r.1 e))
 
   -- by the second way with 1 to 5 alone
-  pub tangled-refused : (text : List ℕ) (m : ℕ) → ((loadTangled s text).result ≡ refuses m) ↔ (isFirst m (tangledTests text) ≡ true)
-  unfolding loadTangled
-  tangled-refused text m = let u = unread loadedUntangled (tangledReading text) m in let r = read.tangled-refused text m in (λ e. r.0 (u.0 e), λ e. u.1 (r.1 e))
+  pub tangled-refused : (text : List ℕ) (m : ℕ) → ((load_tangled s text).result ≡ refuses m) ↔ (is_first m (tangled_tests text) ≡ true)
+  unfolding load_tangled
+  tangled-refused text m = let u = unread loaded_untangled (tangled_reading text) m in let r = read.tangled-refused text m in (λ e. r.0 (u.0 e), λ e. u.1 (r.1 e))
 
   taken : (f : PlanData → Sheet) (r : Reading) → ((load_of f s r).result ≡ gives tt) ↔ ((p : PlanData) × (r ≡ accepted p))
   taken f (accepted p) = (λ e. (p, refl), λ e. refl)
@@ -121,35 +121,35 @@ module _ (s : Sheet) where
 
   pub load_read : (text : List ℕ) → ((load s text).result ≡ gives tt) ↔ ((p : PlanData) × (reading text ≡ accepted p))
   unfolding load
-  load_read text = taken loadedAsRead (reading text)
+  load_read text = taken loaded_as_read (reading text)
 
-  pub tangled-read : (text : List ℕ) → ((loadTangled s text).result ≡ gives tt) ↔ ((p : PlanData) × (tangledReading text ≡ accepted p))
-  unfolding loadTangled
-  tangled-read text = taken loadedUntangled (tangledReading text)
+  pub tangled-read : (text : List ℕ) → ((load_tangled s text).result ≡ gives tt) ↔ ((p : PlanData) × (tangled_reading text ≡ accepted p))
+  unfolding load_tangled
+  tangled-read text = taken loaded_untangled (tangled_reading text)
 
-  pub load_given : (text : List ℕ) → ((load s text).result ≡ gives tt) ↔ (noneRefuses (textTests text) ≡ true)
+  pub load_given : (text : List ℕ) → ((load s text).result ≡ gives tt) ↔ (none_refuses (text_tests text) ≡ true)
   load_given text = let l = load_read text in let r = read-given text in (λ e. r.0 (l.0 e), λ e. l.1 (r.1 e))
 
   -- a tangled load "is accepted" exactly if checks 1 to 5 pass
-  pub tangled-given : (text : List ℕ) → ((loadTangled s text).result ≡ gives tt) ↔ (noneRefuses (tangledTests text) ≡ true)
+  pub tangled-given : (text : List ℕ) → ((load_tangled s text).result ≡ gives tt) ↔ (none_refuses (tangled_tests text) ≡ true)
   tangled-given text = let l = tangled-read text in let r = read.tangled-given text in (λ e. r.0 (l.0 e), λ e. l.1 (r.1 e))
 
 -- ---- what that says, number by number, of the calls that show a sheet: all begin with the same tests
-abbrev pub isLoaded : Stage → Bool
-isLoaded Empty = false
-isLoaded (Loaded v e) = true
-isLoaded (Drawn v e k) = false
+abbrev pub is_loaded : Stage → Bool
+is_loaded Empty = false
+is_loaded (Loaded v e) = true
+is_loaded (Drawn v e k) = false
 
 -- A sheet that is drawn, and not refused by 13.
-abbrev pub canShow : Sheet → Bool
-canShow s = isDrawn s.header.stage && holdsPlan s && holdsNumbers s && holdsDrawing s
+abbrev pub can_show : Sheet → Bool
+can_show s = is_drawn s.header.stage && holds_plan s && holds_numbers s && holds_drawing s
 
-abbrev pub showTests : Sheet → List Test
-showTests s = test11 s ∷ test12 s ∷ test13Plan s ∷ test13Numbers s ∷ test13Drawing s ∷ []
+abbrev pub show_tests : Sheet → List Test
+show_tests s = test11 s ∷ test12 s ∷ test13_plan s ∷ test13_numbers s ∷ test13_drawing s ∷ []
 
 module _ (s : Sheet) where
   begin-11 : (t : Stage) (c n d : Bool)
-      → cond (is_empty t) true (cond (not (isDrawn t)) false (cond (not c) false (cond (not n) false (cond (not d) false false)))) ≡ is_empty t
+      → cond (is_empty t) true (cond (not (is_drawn t)) false (cond (not c) false (cond (not n) false (cond (not d) false false)))) ≡ is_empty t
   begin-11 Empty c n d = refl
   begin-11 (Loaded v e) c n d = refl
   begin-11 (Drawn v e k) false n d = refl
@@ -158,7 +158,7 @@ module _ (s : Sheet) where
   begin-11 (Drawn v e k) true true true = refl
 
   begin-12 : (t : Stage) (c n d : Bool)
-      → cond (is_empty t) false (cond (not (isDrawn t)) true (cond (not c) false (cond (not n) false (cond (not d) false false)))) ≡ isLoaded t
+      → cond (is_empty t) false (cond (not (is_drawn t)) true (cond (not c) false (cond (not n) false (cond (not d) false false)))) ≡ is_loaded t
   begin-12 Empty c n d = refl
   begin-12 (Loaded v e) c n d = refl
   begin-12 (Drawn v e k) false n d = refl
@@ -167,7 +167,7 @@ module _ (s : Sheet) where
   begin-12 (Drawn v e k) true true true = refl
 
   begin-13 : (t : Stage) (c n d : Bool)
-      → cond (is_empty t) false (cond (not (isDrawn t)) false (cond (not c) true (cond (not n) true (cond (not d) true false)))) ≡ (isDrawn t && not (c && n && d))
+      → cond (is_empty t) false (cond (not (is_drawn t)) false (cond (not c) true (cond (not n) true (cond (not d) true false)))) ≡ (is_drawn t && not (c && n && d))
   begin-13 Empty c n d = refl
   begin-13 (Loaded v e) c n d = refl
   begin-13 (Drawn v e k) false n d = refl
@@ -176,7 +176,7 @@ module _ (s : Sheet) where
   begin-13 (Drawn v e k) true true true = refl
 
   begin-none : (t : Stage) (c n d : Bool)
-      → cond (is_empty t) false (cond (not (isDrawn t)) false (cond (not c) false (cond (not n) false (cond (not d) false true)))) ≡ (isDrawn t && c && n && d)
+      → cond (is_empty t) false (cond (not (is_drawn t)) false (cond (not c) false (cond (not n) false (cond (not d) false true)))) ≡ (is_drawn t && c && n && d)
   begin-none Empty c n d = refl
   begin-none (Loaded v e) c n d = refl
   begin-none (Drawn v e k) false n d = refl
@@ -184,37 +184,37 @@ module _ (s : Sheet) where
   begin-none (Drawn v e k) true true false = refl
   begin-none (Drawn v e k) true true true = refl
 
-  shown : noneRefuses (showTests s) ≡ canShow s
-  unfolding noneRefuses
-  shown = begin-none s.header.stage (holdsPlan s) (holdsNumbers s) (holdsDrawing s)
+  shown : none_refuses (show_tests s) ≡ can_show s
+  unfolding none_refuses
+  shown = begin-none s.header.stage (holds_plan s) (holds_numbers s) (holds_drawing s)
 
   module _ (more : List Test) where
-    pub shows-11 : lacks 11 more ≡ true → isFirst 11 (showTests s ++ more) ≡ is_empty s.header.stage
-    unfolding isFirst
-    shows-11 h = first-early 11 (showTests s) more h ∙ begin-11 s.header.stage (holdsPlan s) (holdsNumbers s) (holdsDrawing s)
+    pub shows-11 : lacks 11 more ≡ true → is_first 11 (show_tests s ++ more) ≡ is_empty s.header.stage
+    unfolding is_first
+    shows-11 h = first-early 11 (show_tests s) more h ∙ begin-11 s.header.stage (holds_plan s) (holds_numbers s) (holds_drawing s)
 
-    pub shows-12 : lacks 12 more ≡ true → isFirst 12 (showTests s ++ more) ≡ isLoaded s.header.stage
-    unfolding isFirst
-    shows-12 h = first-early 12 (showTests s) more h ∙ begin-12 s.header.stage (holdsPlan s) (holdsNumbers s) (holdsDrawing s)
+    pub shows-12 : lacks 12 more ≡ true → is_first 12 (show_tests s ++ more) ≡ is_loaded s.header.stage
+    unfolding is_first
+    shows-12 h = first-early 12 (show_tests s) more h ∙ begin-12 s.header.stage (holds_plan s) (holds_numbers s) (holds_drawing s)
 
-    pub shows-13 : lacks 13 more ≡ true → isFirst 13 (showTests s ++ more) ≡ (isDrawn s.header.stage && not (holdsPlan s && holdsNumbers s && holdsDrawing s))
-    unfolding isFirst
-    shows-13 h = first-early 13 (showTests s) more h ∙ begin-13 s.header.stage (holdsPlan s) (holdsNumbers s) (holdsDrawing s)
+    pub shows-13 : lacks 13 more ≡ true → is_first 13 (show_tests s ++ more) ≡ (is_drawn s.header.stage && not (holds_plan s && holds_numbers s && holds_drawing s))
+    unfolding is_first
+    shows-13 h = first-early 13 (show_tests s) more h ∙ begin-13 s.header.stage (holds_plan s) (holds_numbers s) (holds_drawing s)
 
     -- 7 and 14, and what is given
-    pub shows_later : (m : ℕ) → lacks m (showTests s) ≡ true → isFirst m (showTests s ++ more) ≡ (canShow s && isFirst m more)
-    shows_later m h = first-late m (showTests s) more h ∙ rw shown
+    pub shows_later : (m : ℕ) → lacks m (show_tests s) ≡ true → is_first m (show_tests s ++ more) ≡ (can_show s && is_first m more)
+    shows_later m h = first-late m (show_tests s) more h ∙ rw shown
 
-    pub shows-given : noneRefuses (showTests s ++ more) ≡ (canShow s && noneRefuses more)
-    shows-given = none-append (showTests s) more ∙ rw shown
+    pub shows-given : none_refuses (show_tests s ++ more) ≡ (can_show s && none_refuses more)
+    shows-given = none-append (show_tests s) more ∙ rw shown
 
 -- ---- the same of the calls that give the text: 11, 15 and 13 before all else
 -- A sheet that was loaded by E1's way, drawn or not, and not refused by 13.
-abbrev pub canGiveBack : Sheet → Bool
-canGiveBack s = not (is_empty s.header.stage) && s.header.tangled && holdsPlan s && holdsNumbers s
+abbrev pub can_give_back : Sheet → Bool
+can_give_back s = not (is_empty s.header.stage) && s.header.tangled && holds_plan s && holds_numbers s
 
-abbrev pub backTests : Sheet → List Test
-backTests s = test11 s ∷ test15 s ∷ test13Plan s ∷ test13Numbers s ∷ []
+abbrev pub back_tests : Sheet → List Test
+back_tests s = test11 s ∷ test15 s ∷ test13_plan s ∷ test13_numbers s ∷ []
 
 module _ (s : Sheet) where
   back-11 : (t w c n : Bool) → cond t true (cond (not w) false (cond (not c) false (cond (not n) false false))) ≡ t
@@ -248,33 +248,33 @@ module _ (s : Sheet) where
   abbrev stands : Bool
   stands = is_empty s.header.stage
 
-  backed : noneRefuses (backTests s) ≡ canGiveBack s
-  unfolding noneRefuses
-  backed = back_none stands s.header.tangled (holdsPlan s) (holdsNumbers s)
+  backed : none_refuses (back_tests s) ≡ can_give_back s
+  unfolding none_refuses
+  backed = back_none stands s.header.tangled (holds_plan s) (holds_numbers s)
 
   module _ (more : List Test) where
-    pub backs-11 : lacks 11 more ≡ true → isFirst 11 (backTests s ++ more) ≡ is_empty s.header.stage
-    unfolding isFirst
-    backs-11 h = first-early 11 (backTests s) more h ∙ back-11 stands s.header.tangled (holdsPlan s) (holdsNumbers s)
+    pub backs-11 : lacks 11 more ≡ true → is_first 11 (back_tests s ++ more) ≡ is_empty s.header.stage
+    unfolding is_first
+    backs-11 h = first-early 11 (back_tests s) more h ∙ back-11 stands s.header.tangled (holds_plan s) (holds_numbers s)
 
     -- 15 "comes after 11 and before 13"
-    pub backs-15 : lacks 15 more ≡ true → isFirst 15 (backTests s ++ more) ≡ (not (is_empty s.header.stage) && not s.header.tangled)
-    unfolding isFirst
-    backs-15 h = first-early 15 (backTests s) more h ∙ back-15 stands s.header.tangled (holdsPlan s) (holdsNumbers s)
+    pub backs-15 : lacks 15 more ≡ true → is_first 15 (back_tests s ++ more) ≡ (not (is_empty s.header.stage) && not s.header.tangled)
+    unfolding is_first
+    backs-15 h = first-early 15 (back_tests s) more h ∙ back-15 stands s.header.tangled (holds_plan s) (holds_numbers s)
 
-    pub backs-13 : lacks 13 more ≡ true → isFirst 13 (backTests s ++ more) ≡ (not (is_empty s.header.stage) && s.header.tangled && not (holdsPlan s && holdsNumbers s))
-    unfolding isFirst
-    backs-13 h = first-early 13 (backTests s) more h ∙ back-13 stands s.header.tangled (holdsPlan s) (holdsNumbers s)
+    pub backs-13 : lacks 13 more ≡ true → is_first 13 (back_tests s ++ more) ≡ (not (is_empty s.header.stage) && s.header.tangled && not (holds_plan s && holds_numbers s))
+    unfolding is_first
+    backs-13 h = first-early 13 (back_tests s) more h ∙ back-13 stands s.header.tangled (holds_plan s) (holds_numbers s)
 
     -- 7 and 14, and what is given
-    pub backs-later : (m : ℕ) → lacks m (backTests s) ≡ true → isFirst m (backTests s ++ more) ≡ (canGiveBack s && isFirst m more)
-    backs-later m h = first-late m (backTests s) more h ∙ rw backed
+    pub backs-later : (m : ℕ) → lacks m (back_tests s) ≡ true → is_first m (back_tests s ++ more) ≡ (can_give_back s && is_first m more)
+    backs-later m h = first-late m (back_tests s) more h ∙ rw backed
 
-    pub backs-given : noneRefuses (backTests s ++ more) ≡ (canGiveBack s && noneRefuses more)
-    backs-given = none-append (backTests s) more ∙ rw backed
+    pub backs-given : none_refuses (back_tests s ++ more) ≡ (can_give_back s && none_refuses more)
+    backs-given = none-append (back_tests s) more ∙ rw backed
 
 -- ---- a refusal changes nothing
-buffer-kept : {A : Type 0} (k m n : ℕ) (w b : List A) → (bufferAfter k n w b).result ≡ refuses m → (bufferAfter k n w b).buffer ≡ b
+buffer-kept : {A : Type 0} (k m n : ℕ) (w b : List A) → (buffer_after k n w b).result ≡ refuses m → (buffer_after k n w b).buffer ≡ b
 buffer-kept k m n w b = by (eqb k 0)
   where
     by : (t : Bool) → cond t (gives n) (refuses k) ≡ refuses m → cond t (over w b) b ≡ b
@@ -283,30 +283,30 @@ buffer-kept k m n w b = by (eqb k 0)
 
 pub line_kept : (s : Sheet) (n m : ℕ) (b : List ℕ) → (line s n b).result ≡ refuses m → (line s n b).buffer ≡ b
 unfolding line
-line_kept s n m b = buffer-kept (firstRefusal (lineTests s n b)) m (length (line_of s n)) (line_of s n) b
+line_kept s n m b = buffer-kept (first_refusal (line_tests s n b)) m (length (line_of s n)) (line_of s n) b
 
 pub report-kept : (s : Sheet) (m : ℕ) (b : List ℕ) → (report s b).result ≡ refuses m → (report s b).buffer ≡ b
 unfolding report
-report-kept s m b = buffer-kept (firstRefusal (reportTests s b)) m (length (reportOf s)) (reportOf s) b
+report-kept s m b = buffer-kept (first_refusal (report_tests s b)) m (length (report_of s)) (report_of s) b
 
-pub text-line-kept : (s : Sheet) (n m : ℕ) (b : List ℕ) → (textLine s n b).result ≡ refuses m → (textLine s n b).buffer ≡ b
-unfolding textLine
-text-line-kept s n m b = buffer-kept (firstRefusal (textLineTests s n b)) m (length (textLineOf s n)) (textLineOf s n) b
+pub text-line-kept : (s : Sheet) (n m : ℕ) (b : List ℕ) → (text_line s n b).result ≡ refuses m → (text_line s n b).buffer ≡ b
+unfolding text_line
+text-line-kept s n m b = buffer-kept (first_refusal (text_line_tests s n b)) m (length (text_line_of s n)) (text_line_of s n) b
 
-pub whole-text-kept : (s : Sheet) (m : ℕ) (b : List ℕ) → (wholeText s b).result ≡ refuses m → (wholeText s b).buffer ≡ b
-unfolding wholeText
-whole-text-kept s m b = buffer-kept (firstRefusal (wholeTextTests s b)) m (length (wholeTextOf s)) (wholeTextOf s) b
+pub whole-text-kept : (s : Sheet) (m : ℕ) (b : List ℕ) → (whole_text s b).result ≡ refuses m → (whole_text s b).buffer ≡ b
+unfolding whole_text
+whole-text-kept s m b = buffer-kept (first_refusal (whole_text_tests s b)) m (length (whole_text_of s)) (whole_text_of s) b
 
 pub marks-kept : (s : Sheet) (m : ℕ) (b : List Float) → (marks s b).result ≡ refuses m → (marks s b).buffer ≡ b
 unfolding marks
-marks-kept s m b = buffer-kept (firstRefusal (marksTests s b)) m (marksIn s) (numbersOf s) b
+marks-kept s m b = buffer-kept (first_refusal (marks_tests s b)) m (marks_in s) (numbers_of s) b
 
 pub draw-kept : (s : Sheet) (m : ℕ) → (draw s).result ≡ refuses m → (draw s).sheet ≡ s
 unfolding draw
-draw-kept s m = by (eqb (firstRefusal (drawTests s)) 0)
+draw-kept s m = by (eqb (first_refusal (draw_tests s)) 0)
   where
-    by : (t : Bool) → ◌≡◌ {A = Result Unit} (cond t (gives tt) (refuses (firstRefusal (drawTests s)))) (refuses m)
-        → cond t (drawnSheet s (drawingOf (planIn s))) s ≡ s
+    by : (t : Bool) → ◌≡◌ {A = Result Unit} (cond t (gives tt) (refuses (first_refusal (draw_tests s)))) (refuses m)
+        → cond t (drawn_sheet s (drawing_of (plan_in s))) s ≡ s
     by true e = never (cc)
     by false e = refl
 
@@ -316,8 +316,8 @@ unread-kept f s m (refused n) e = refl
 
 pub load_kept : (s : Sheet) (text : List ℕ) (m : ℕ) → (load s text).result ≡ refuses m → (load s text).sheet ≡ s
 unfolding load
-load_kept s text m = unread-kept loadedAsRead s m (reading text)
+load_kept s text m = unread-kept loaded_as_read s m (reading text)
 
-pub tangled-kept : (s : Sheet) (text : List ℕ) (m : ℕ) → (loadTangled s text).result ≡ refuses m → (loadTangled s text).sheet ≡ s
-unfolding loadTangled
-tangled-kept s text m = unread-kept loadedUntangled s m (tangledReading text)
+pub tangled-kept : (s : Sheet) (text : List ℕ) (m : ℕ) → (load_tangled s text).result ≡ refuses m → (load_tangled s text).sheet ≡ s
+unfolding load_tangled
+tangled-kept s text m = unread-kept loaded_untangled s m (tangled_reading text)

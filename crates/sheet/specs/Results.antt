@@ -18,14 +18,14 @@ abbrev pub result_of : Answer → Result Unit
 result_of Accepted = gives tt
 result_of (Refused n) = refuses n
 
-abbrev pub lineResultOf : LineAnswer → Result ℕ
-lineResultOf (Written n) = gives n
-lineResultOf (Unwritten n) = refuses n
+abbrev pub line_result_of : LineAnswer → Result ℕ
+line_result_of (Written n) = gives n
+line_result_of (Unwritten n) = refuses n
 
-abbrev pub markResultOf : MarkAnswer → Result Mark
-markResultOf (Given m) = gives m
-markResultOf (Unmarked n) = refuses n
+abbrev pub mark_result_of : MarkAnswer → Result Mark
+mark_result_of (Given m) = gives m
+mark_result_of (Unmarked n) = refuses n
 
 -- What a call gives whose tests came out as n.
-abbrev pub resultAfter : {A : Type 0} → ℕ → A → Result A
-resultAfter n a = cond (eqb n 0) (gives a) (refuses n)
+abbrev pub result_after : {A : Type 0} → ℕ → A → Result A
+result_after n a = cond (eqb n 0) (gives a) (refuses n)

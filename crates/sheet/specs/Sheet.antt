@@ -1,13 +1,13 @@
 -- What a sheet holds: its stage's counts, its plan's data, its drawing, and what it remembers of its loading.
 use Rattle.std.specs.Prelude.{Bool, true, false, List, ℕ, length, take, replicate}
 use Rattle.ints.specs.Lists.{over}
-use Rattle.plan.specs.Limits.{maxVertices}
-use Rattle.plan.specs.Plan.{PlanData, vertexCount, numbers}
-use Rattle.plan.specs.Stored.{planData, emptyPlan}
+use Rattle.plan.specs.Limits.{max_vertices}
+use Rattle.plan.specs.Plan.{PlanData, vertex_count, numbers}
+use Rattle.plan.specs.Stored.{plan_data, empty_plan}
 use Rattle.plan_untangle.specs.Order.{order, untangled}
 use Rattle.text_read.specs.Answer.{plan_of}
 use Rattle.passes.specs.Drawing.{Drawing}
-use Rattle.report.specs.Arrays.{drawingFrom, arraysOf, noDrawing}
+use Rattle.report.specs.Arrays.{drawing_from, arrays_of, no_drawing}
 use Rattle.sheet.specs.declared.types.Stage.{Stage}
 use Rattle.sheet.specs.declared.types.Stage.TheVariants.{Empty, Loaded, Drawn}
 use Rattle.sheet.specs.declared.types.Sheet.{Sheet}
@@ -18,75 +18,75 @@ is_empty Empty = true
 is_empty (Loaded v e) = false
 is_empty (Drawn v e k) = false
 
-abbrev pub isDrawn : Stage → Bool
-isDrawn Empty = false
-isDrawn (Loaded v e) = false
-isDrawn (Drawn v e k) = true
+abbrev pub is_drawn : Stage → Bool
+is_drawn Empty = false
+is_drawn (Loaded v e) = false
+is_drawn (Drawn v e k) = true
 
-abbrev pub verticesIn : Stage → ℕ
-verticesIn Empty = 0
-verticesIn (Loaded v e) = v
-verticesIn (Drawn v e k) = v
+abbrev pub vertices_in : Stage → ℕ
+vertices_in Empty = 0
+vertices_in (Loaded v e) = v
+vertices_in (Drawn v e k) = v
 
-abbrev pub segmentsIn : Stage → ℕ
-segmentsIn Empty = 0
-segmentsIn (Loaded v e) = e
-segmentsIn (Drawn v e k) = e
+abbrev pub segments_in : Stage → ℕ
+segments_in Empty = 0
+segments_in (Loaded v e) = e
+segments_in (Drawn v e k) = e
 
-abbrev pub placingsIn : Stage → ℕ
-placingsIn Empty = 0
-placingsIn (Loaded v e) = 0
-placingsIn (Drawn v e k) = k
+abbrev pub placings_in : Stage → ℕ
+placings_in Empty = 0
+placings_in (Loaded v e) = 0
+placings_in (Drawn v e k) = k
 
 -- The data of the plan.
-abbrev pub planIn : Sheet → PlanData
-planIn s = planData s.plan (verticesIn s.header.stage) (segmentsIn s.header.stage)
+abbrev pub plan_in : Sheet → PlanData
+plan_in s = plan_data s.plan (vertices_in s.header.stage) (segments_in s.header.stage)
 
 -- The drawing.
-abbrev pub drawingIn : Sheet → Drawing
-drawingIn s = drawingFrom s.drawing (verticesIn s.header.stage) (placingsIn s.header.stage)
+abbrev pub drawing_in : Sheet → Drawing
+drawing_in s = drawing_from s.drawing (vertices_in s.header.stage) (placings_in s.header.stage)
 
 -- "The sheet remembers each vertex's number in the text."
-abbrev pub rememberedIn : Sheet → List ℕ
-rememberedIn s = take (verticesIn s.header.stage) s.remembered
+abbrev pub remembered_in : Sheet → List ℕ
+remembered_in s = take (vertices_in s.header.stage) s.remembered
 
 -- Numbers in the array of a sheet: 0 beyond them.
-abbrev pub rememberedOf : List ℕ → List ℕ
-rememberedOf m = over m (replicate maxVertices 0)
+abbrev pub remembered_of : List ℕ → List ℕ
+remembered_of m = over m (replicate max_vertices 0)
 
 -- The one empty sheet.
-unfoldable pub emptySheet : Sheet
-emptySheet = record {
+unfoldable pub empty_sheet : Sheet
+empty_sheet = record {
   header = record { stage = Empty; tangled = false };
-  plan = emptyPlan;
-  drawing = arraysOf noDrawing;
-  remembered = replicate maxVertices 0;
+  plan = empty_plan;
+  drawing = arrays_of no_drawing;
+  remembered = replicate max_vertices 0;
 }
 
 -- A sheet just loaded with a plan whose vertices have the numbers m in the text: 0 beyond its data, 0 in all positions and in the list.
-unfoldable pub loadedSheet : Bool → List ℕ → PlanData → Sheet
-loadedSheet tangled m p = record {
-  header = record { stage = Loaded (vertexCount p) (length p.uppers); tangled = tangled };
+unfoldable pub loaded_sheet : Bool → List ℕ → PlanData → Sheet
+loaded_sheet tangled m p = record {
+  header = record { stage = Loaded (vertex_count p) (length p.uppers); tangled = tangled };
   plan = plan_of p;
-  drawing = arraysOf noDrawing;
-  remembered = rememberedOf m;
+  drawing = arrays_of no_drawing;
+  remembered = remembered_of m;
 }
 
 -- The two ways of loading: the plan as it was read; and the plan rearranged, of which the sheet remembers the order.
-abbrev pub loadedAsRead : PlanData → Sheet
-loadedAsRead p = loadedSheet false (numbers 0 (vertexCount p)) p
+abbrev pub loaded_as_read : PlanData → Sheet
+loaded_as_read p = loaded_sheet false (numbers 0 (vertex_count p)) p
 
-abbrev pub loadedUntangled : PlanData → Sheet
-loadedUntangled p = loadedSheet true (order p) (untangled p)
+abbrev pub loaded_untangled : PlanData → Sheet
+loaded_untangled p = loaded_sheet true (order p) (untangled p)
 
 -- A sheet with another drawing of its plan.
-unfoldable pub drawnSheet : Sheet → Drawing → Sheet
-drawnSheet s d = record {
+unfoldable pub drawn_sheet : Sheet → Drawing → Sheet
+drawn_sheet s d = record {
   header = record {
-    stage = Drawn (verticesIn s.header.stage) (segmentsIn s.header.stage) (length d.placings);
+    stage = Drawn (vertices_in s.header.stage) (segments_in s.header.stage) (length d.placings);
     tangled = s.header.tangled;
   };
   plan = s.plan;
-  drawing = arraysOf d;
+  drawing = arrays_of d;
   remembered = s.remembered;
 }

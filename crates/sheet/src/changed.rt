@@ -1,6 +1,6 @@
 // What draw leaves.
 ghost use Rattle.std.specs.Prelude.{◌≡◌};
-ghost use Rattle.sheet.specs.inner.Refusals.{withDrawing};
+ghost use Rattle.sheet.specs.inner.Refusals.{with_drawing};
 
 use crate::refusals::counts_in;
 use crate::types::{Header, Sheet, Stage};
@@ -8,7 +8,7 @@ use report::data::NewDrawing;
 
 // The sheet with another drawing of its plan.
 pub fn with_drawing(sheet: Sheet, new: NewDrawing) -> Sheet
-    ensures { result ≡ withDrawing sheet new }
+    ensures { result ≡ with_drawing sheet new }
 {
     let header = sheet.header;
     let stage = header.stage;

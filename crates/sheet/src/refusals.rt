@@ -1,6 +1,6 @@
 // The refusals from the state: those of draw, 11 and 13, and those of what shows a sheet, 11 to 13.
 ghost use Rattle.std.specs.Prelude.{◌≡◌};
-ghost use Rattle.sheet.specs.inner.Refusals.{countsIn, planRefusal, drawRefusal, dataRefusal, showRefusal};
+ghost use Rattle.sheet.specs.inner.Refusals.{counts_in, plan_refusal, draw_refusal, data_refusal, show_refusal};
 
 use crate::types::Stage;
 use plan::data::Plan;
@@ -10,7 +10,7 @@ use sheet_data::valid::{are_own, is_drawing_of};
 
 // The counts of a stage; 0 where it has none.
 pub fn counts_in(stage: Stage) -> Counts
-    ensures { result ≡ countsIn stage }
+    ensures { result ≡ counts_in stage }
 {
     match stage {
         Stage::Empty => Counts {
@@ -33,7 +33,7 @@ pub fn counts_in(stage: Stage) -> Counts
 
 // 13, of the plan and of the remembered numbers: its number, or 0.
 fn plan_refusal(plan: Plan, remembered: [u16; Plan::MAX_VERTICES], counts: Counts) -> u32
-    ensures { result ≡ planRefusal plan remembered counts }
+    ensures { result ≡ plan_refusal plan remembered counts }
 {
     if !is_plan_of_text(plan, counts.vertices, counts.segments) {
         return 13;
@@ -46,7 +46,7 @@ fn plan_refusal(plan: Plan, remembered: [u16; Plan::MAX_VERTICES], counts: Count
 
 // The number by which draw is refused, 0 if it is not.
 pub fn draw_refusal(stage: Stage, plan: Plan, remembered: [u16; Plan::MAX_VERTICES]) -> u32
-    ensures { result ≡ drawRefusal stage plan remembered }
+    ensures { result ≡ draw_refusal stage plan remembered }
 {
     match stage {
         Stage::Empty => 11,
@@ -62,7 +62,7 @@ fn data_refusal(
     drawing: Drawing,
     counts: Counts,
 ) -> u32
-    ensures { result ≡ dataRefusal plan remembered drawing counts }
+    ensures { result ≡ data_refusal plan remembered drawing counts }
 {
     let refused = plan_refusal(plan, remembered, counts);
     if refused != 0 {
@@ -81,7 +81,7 @@ pub fn show_refusal(
     remembered: [u16; Plan::MAX_VERTICES],
     drawing: Drawing,
 ) -> u32
-    ensures { result ≡ showRefusal stage plan remembered drawing }
+    ensures { result ≡ show_refusal stage plan remembered drawing }
 {
     match stage {
         Stage::Empty => 11,

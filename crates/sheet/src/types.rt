@@ -1,6 +1,6 @@
 // A sheet and what its calls answer.
 ghost use Rattle.std.specs.Prelude.{◌≡◌};
-ghost use Rattle.sheet.specs.Sheet.{emptySheet};
+ghost use Rattle.sheet.specs.Sheet.{empty_sheet};
 
 use marks::types::Mark;
 use plan::data::Plan;
@@ -33,7 +33,7 @@ pub struct Sheet {
 impl Sheet {
     // The one empty sheet.
     pub fn empty() -> Self
-        ensures { result ≡ emptySheet }
+        ensures { result ≡ empty_sheet }
     {
         Self {
             header: Header {

@@ -4,31 +4,31 @@ use mathlib.Core.Bool.{true}
 use Prim.Native.Nat.{◌≤◌}
 use native.Mathlib.Omega.{arith}
 use lib.ListN.{length}
-use Rattle.plan.specs.Limits.{maxLevels, maxVertices, maxSegments}
+use Rattle.plan.specs.Limits.{max_levels, max_vertices, max_segments}
 use Rattle.plan.specs.declared.data.Plan.{Plan}
-use Rattle.passes.specs.Words.{maxListed}
+use Rattle.passes.specs.Words.{max_listed}
 use Rattle.report_validity.proofs.Stored.{stored_of}
 use Rattle.report.specs.declared.data.Drawing.{Drawing as Arrays}
 use Rattle.report.specs.declared.data.Counts.{Counts}
-use Rattle.sheet_data.specs.inner.Parts.{isPlanWith}
+use Rattle.sheet_data.specs.inner.Parts.{is_plan_with}
 
 -- How long the arrays of a plan and of a drawing are.
 pub record PlanArrays (p : Plan) : Type 0 where
-  pub sizes : length p.sizes ≡ maxLevels
-  pub vias : length p.vias ≡ maxVertices
-  pub halves : length p.halves ≡ maxVertices
-  pub uppers : length p.uppers ≡ maxSegments
-  pub lowers : length p.lowers ≡ maxSegments
-  pub ratings : length p.ratings ≡ maxSegments
+  pub sizes : length p.sizes ≡ max_levels
+  pub vias : length p.vias ≡ max_vertices
+  pub halves : length p.halves ≡ max_vertices
+  pub uppers : length p.uppers ≡ max_segments
+  pub lowers : length p.lowers ≡ max_segments
+  pub ratings : length p.ratings ≡ max_segments
 
 pub record DrawingArrays (d : Arrays) : Type 0 where
-  pub preliminary : length d.preliminary ≡ maxVertices
-  pub finals : length d.finals ≡ maxVertices
-  pub passes : length d.passes ≡ maxListed
-  pub levels : length d.levels ≡ maxListed
-  pub counts : length d.counts ≡ maxListed
-  pub vertices : length d.vertices ≡ maxListed
-  pub positions : length d.positions ≡ maxListed
+  pub preliminary : length d.preliminary ≡ max_vertices
+  pub finals : length d.finals ≡ max_vertices
+  pub passes : length d.passes ≡ max_listed
+  pub levels : length d.levels ≡ max_listed
+  pub counts : length d.counts ≡ max_listed
+  pub vertices : length d.vertices ≡ max_listed
+  pub positions : length d.positions ≡ max_listed
 
 -- They are as long as what they hold.
 pub record PlanCut (p : Plan) (c : Counts) : Type 0 where
@@ -38,7 +38,7 @@ pub record PlanCut (p : Plan) (c : Counts) : Type 0 where
   pub uppers : c.segments ≤ length p.uppers
   pub lowers : c.segments ≤ length p.lowers
   pub ratings : c.segments ≤ length p.ratings
-  pub few : c.vertices ≤ maxVertices
+  pub few : c.vertices ≤ max_vertices
 
 pub record DrawingCut (d : Arrays) (c : Counts) : Type 0 where
   pub preliminary : c.vertices ≤ length d.preliminary
@@ -47,7 +47,7 @@ pub record DrawingCut (d : Arrays) (c : Counts) : Type 0 where
   pub levels : c.placings ≤ length d.levels
   pub counts : c.placings ≤ length d.counts
 
-pub plan-cut : {p : Plan} → PlanArrays p → (c : Counts) → isPlanWith p c ≡ true → PlanCut p c
+pub plan-cut : {p : Plan} → PlanArrays p → (c : Counts) → is_plan_with p c ≡ true → PlanCut p c
 plan-cut {p} a c h =
     let s = stored_of p c.vertices c.segments h in
     record {
@@ -60,7 +60,7 @@ plan-cut {p} a c h =
       few = s.vertices;
     }
 
-pub drawing-cut : {d : Arrays} → DrawingArrays d → (c : Counts) → c.vertices ≤ maxVertices → c.placings ≤ maxListed → DrawingCut d c
+pub drawing-cut : {d : Arrays} → DrawingArrays d → (c : Counts) → c.vertices ≤ max_vertices → c.placings ≤ max_listed → DrawingCut d c
 drawing-cut a c v k = record {
   preliminary = omega (arith, a.preliminary);
   finals = omega (arith, a.finals);

@@ -1,6 +1,6 @@
 // One mark.
 ghost use Rattle.std.specs.Prelude.{◌≡◌, ◌<◌};
-ghost use Rattle.sheet_data.specs.inner.Parts.{Holds, marksOf, markWith};
+ghost use Rattle.sheet_data.specs.inner.Parts.{Holds, marks_of, mark_with};
 
 use marks::marks::mark;
 use marks::types::Mark;
@@ -10,8 +10,8 @@ use report::data::{Counts, Drawing};
 
 // Mark n, which is there.
 pub fn mark_with(plan: Plan, drawing: Drawing, counts: Counts, n: usize) -> Mark
-    requires { Holds plan drawing counts × (n < marksOf counts) }
-    ensures { result ≡ markWith plan drawing counts n }
+    requires { Holds plan drawing counts × (n < marks_of counts) }
+    ensures { result ≡ mark_with plan drawing counts n }
 {
     let v = counts.vertices;
     let e = counts.segments;

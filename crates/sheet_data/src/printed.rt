@@ -1,8 +1,8 @@
 // One line of the report.
 ghost use Rattle.std.specs.Prelude.{◌≡◌, true, ◌<◌, ◌≤◌, length};
 ghost use Rattle.text_write.specs.inner.Written.{Fronts};
-ghost use Rattle.report_lines.specs.inner.Stored.{maxLine};
-ghost use Rattle.sheet_data.specs.inner.Parts.{Holds, areOwnWith, lines_of, lineWith};
+ghost use Rattle.report_lines.specs.inner.Stored.{max_line};
+ghost use Rattle.sheet_data.specs.inner.Parts.{Holds, are_own_with, lines_of, line_with};
 
 use plan::data::Plan;
 use plan::numbers::wide;
@@ -21,8 +21,8 @@ pub fn put_line(
     n: usize,
     out: &mut [u8],
 ) -> usize
-    requires { Holds plan drawing counts × (areOwnWith plan remembered counts ≡ true) × (n < lines_of counts) × (maxLine ≤ length out.old) }
-    ensures { Fronts (lineWith plan remembered drawing counts n) out.old result out.new }
+    requires { Holds plan drawing counts × (are_own_with plan remembered counts ≡ true) × (n < lines_of counts) × (max_line ≤ length out.old) }
+    ensures { Fronts (line_with plan remembered drawing counts n) out.old result out.new }
 {
     let v = counts.vertices;
     let p = counts.placings;

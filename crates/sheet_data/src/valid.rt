@@ -1,6 +1,6 @@
 // 13, of the remembered numbers and of the drawing.
 ghost use Rattle.std.specs.Prelude.{◌≡◌, true};
-ghost use Rattle.sheet_data.specs.inner.Parts.{isPlanWith, areOwnWith, isDrawingWith};
+ghost use Rattle.sheet_data.specs.inner.Parts.{is_plan_with, are_own_with, is_drawing_with};
 
 use plan::data::Plan;
 use plan::numbers::wide;
@@ -10,8 +10,8 @@ use report_validity::drawing::is_drawing;
 
 // Whether remembered numbers are those of a plan's levels, once each, of a plan that is not refused.
 pub fn are_own(plan: Plan, remembered: [u16; Plan::MAX_VERTICES], counts: Counts) -> bool
-    requires { isPlanWith plan counts ≡ true }
-    ensures { result ≡ areOwnWith plan remembered counts }
+    requires { is_plan_with plan counts ≡ true }
+    ensures { result ≡ are_own_with plan remembered counts }
 {
     let k = wide(plan.levels);
     let sizes = plan.sizes;
@@ -20,8 +20,8 @@ pub fn are_own(plan: Plan, remembered: [u16; Plan::MAX_VERTICES], counts: Counts
 
 // Whether a drawing is one of its plan, which is not refused.
 pub fn is_drawing_of(plan: Plan, drawing: Drawing, counts: Counts) -> bool
-    requires { isPlanWith plan counts ≡ true }
-    ensures { result ≡ isDrawingWith plan drawing counts }
+    requires { is_plan_with plan counts ≡ true }
+    ensures { result ≡ is_drawing_with plan drawing counts }
 {
     let v = counts.vertices;
     let p = counts.placings;

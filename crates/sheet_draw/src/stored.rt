@@ -1,6 +1,6 @@
 // The draw of a stored plan.
 ghost use Rattle.std.specs.Prelude.{◌≡◌, true};
-ghost use Rattle.sheet_data.specs.inner.Parts.{isPlanWith, Draws};
+ghost use Rattle.sheet_data.specs.inner.Parts.{is_plan_with, Draws};
 ghost use Rattle.sheet_draw.specs.inner.Drawn.{Blank, Drawn};
 
 use pass_draw::draw::draw;
@@ -52,7 +52,7 @@ pub fn draw_into(
 
 // The drawing of a plan that is not refused.
 pub fn draw_plan(plan: Plan, counts: Counts) -> NewDrawing
-    requires { isPlanWith plan counts ≡ true }
+    requires { is_plan_with plan counts ≡ true }
     ensures { Draws plan counts result }
 {
     let v = counts.vertices;

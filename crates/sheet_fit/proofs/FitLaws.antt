@@ -7,22 +7,22 @@ use borrow.Author.Tests.{lt-ltb, le-ltb}
 use lib.ListN.{length, take, drop, length-append}
 use lib.Seq.{take_at}
 use Rattle.ints.specs.Lists.{over}
-use Rattle.ints.specs.Refusals.{firstRefusal}
+use Rattle.ints.specs.Refusals.{first_refusal}
 use Rattle.text_write.specs.inner.Written.{Fronts}
 use Rattle.sheet.specs.declared.types.LineAnswer.{LineAnswer}
 use Rattle.sheet.specs.declared.types.LineAnswer.TheVariants.{Written}
 use Rattle.sheet.specs.Results.{gives, refuses}
 use Rattle.sheet.specs.Calls.{BufferOut, Writes}
-use Rattle.sheet_fit.specs.inner.Fitted.{fitted, fittedText}
+use Rattle.sheet_fit.specs.inner.Fitted.{fitted, fitted_text}
 
 -- ---- 14
 module _ {A : Type 0} (n : ℕ) (w b : List A) where
   pub fitted_short : length b < length w → fitted n w b ≡ record { result = refuses 14; buffer = b }
-  unfolding firstRefusal
+  unfolding first_refusal
   fitted_short h = rw (lt-ltb (length b) (length w) h)
 
   pub fitted-long : length w ≤ length b → fitted n w b ≡ record { result = gives n; buffer = over w b }
-  unfolding firstRefusal
+  unfolding first_refusal
   fitted-long h = rw (le-ltb (length b) (length w) h)
 
 -- ---- what is written into a lent buffer
@@ -41,5 +41,5 @@ module _ {w o out : List ℕ} {n : ℕ} (f : Fronts w o n out) where
   front-is = rw f.bytes (take_at w (drop (length w) o) n (sym f.count))
 
 -- what was made at the front of a buffer with room for it fits that
-pub wrote-all : {w o out : List ℕ} {n : ℕ} → Fronts w o n out → length out ≡ length o → Writes (fittedText w o) (Written n) out
+pub wrote-all : {w o out : List ℕ} {n : ℕ} → Fronts w o n out → length out ≡ length o → Writes (fitted_text w o) (Written n) out
 wrote-all {w} {o} f e = writes (fitted-long (length w) w o (omega (arith, f.count, front_long f))) (wrote f)

@@ -1,11 +1,11 @@
 // What is shown in a lent buffer, if the buffer has room for it; else 14.
 ghost use Rattle.plan.specs.Plan.{PlanData};
-ghost use Rattle.marks.specs.Marks.{markCount, allNumbers};
+ghost use Rattle.marks.specs.Marks.{mark_count, all_numbers};
 ghost use Rattle.marks.specs.inner.Asked.{AskedAll, DataOf};
-ghost use Rattle.report_numbers.specs.inner.Rooms.{reportBy};
+ghost use Rattle.report_numbers.specs.inner.Rooms.{report_by};
 ghost use Rattle.sheet.specs.Calls.{Writes};
-ghost use Rattle.sheet_fit.specs.inner.Fitted.{fitted, fittedText};
-ghost use Rattle.sheet_fit.specs.inner.Fit.{reportIn, FitsRoom, FitsRoomBy};
+ghost use Rattle.sheet_fit.specs.inner.Fitted.{fitted, fitted_text};
+ghost use Rattle.sheet_fit.specs.inner.Fit.{report_in, FitsRoom, FitsRoomBy};
 
 use marks::put::put_marks;
 use plan::data::Plan;
@@ -25,7 +25,7 @@ pub fn blank() -> [u8; MAX_REPORT] {
 
 // A text at the front of a lent buffer.
 pub fn fit(text: &[u8], out: &mut [u8]) -> LineAnswer
-    ensures { Writes (fittedText text.now out.old) result out.new }
+    ensures { Writes (fitted_text text.now out.old) result out.new }
 {
     if out.len() < text.len() {
         return LineAnswer::Refused(14);
@@ -48,7 +48,7 @@ pub fn fit_report(
     out: &mut [u8],
 ) -> LineAnswer
     requires { FitsRoom spacing sizes.now preliminary.now finals.now passes.now levels.now boxes.now vertices.now positions.now }
-    ensures { Writes (fittedText (reportIn spacing sizes.now preliminary.now finals.now
+    ensures { Writes (fitted_text (report_in spacing sizes.now preliminary.now finals.now
         passes.now levels.now boxes.now vertices.now positions.now)
         out.old) result out.new }
 {
@@ -97,7 +97,7 @@ pub fn fit_report_by(
     out: &mut [u8],
 ) -> LineAnswer
     requires { FitsRoomBy m.now spacing sizes.now preliminary.now finals.now passes.now levels.now boxes.now vertices.now positions.now }
-    ensures { Writes (fittedText (reportBy m.now spacing sizes.now preliminary.now finals.now
+    ensures { Writes (fitted_text (report_by m.now spacing sizes.now preliminary.now finals.now
         passes.now levels.now boxes.now vertices.now positions.now)
         out.old) result out.new }
 {
@@ -142,7 +142,7 @@ pub fn fit_marks(
 ) -> LineAnswer
     requires { AskedAll spacing sizes.now vias.now halves.now uppers.now lowers.now finals.now }
     ensures { (p : PlanData) → DataOf p spacing sizes.now vias.now halves.now uppers.now
-        lowers.now → Writes (fitted (markCount p) (allNumbers p finals.now) out.old) result out.new }
+        lowers.now → Writes (fitted (mark_count p) (all_numbers p finals.now) out.old) result out.new }
 {
     let n = vias.len() + uppers.len();
     if out.len() < 5 * n {

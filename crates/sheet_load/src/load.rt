@@ -1,10 +1,10 @@
 // The first way of loading.
 ghost use Rattle.std.specs.Prelude.{◌≡◌, ◌≤◌};
-ghost use Rattle.plan.specs.Limits.{maxVertices};
+ghost use Rattle.plan.specs.Limits.{max_vertices};
 ghost use Rattle.plan.specs.Plan.{numbers};
 ghost use Rattle.sheet.specs.Calls as spec;
 ghost use Rattle.sheet.specs.Calls.{Leaves};
-ghost use Rattle.sheet.specs.Sheet.{rememberedOf};
+ghost use Rattle.sheet.specs.Sheet.{remembered_of};
 
 use plan::data::Plan;
 use plan_untangle::order::count_up;
@@ -14,8 +14,8 @@ use text_read::{Answer as TextAnswer, read};
 
 // The numbers of v vertices that are numbered as in the text.
 fn own(v: usize) -> [u16; Plan::MAX_VERTICES]
-    requires { v ≤ maxVertices }
-    ensures { result ≡ rememberedOf (numbers 0 v) }
+    requires { v ≤ max_vertices }
+    ensures { result ≡ remembered_of (numbers 0 v) }
 {
     let mut remembered = [0u16; Plan::MAX_VERTICES];
     count_up(&mut remembered[..v]);

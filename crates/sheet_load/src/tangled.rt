@@ -9,7 +9,7 @@ use text_untangle::read_tangled;
 
 // "A second way of loading takes" tangled plans. Refused 1 to 5, it changes nothing.
 pub fn load_tangled(sheet: Sheet, text: &[u8]) -> Changed
-    ensures { Leaves (spec.loadTangled sheet text.now) result.answer result.sheet }
+    ensures { Leaves (spec.load_tangled sheet text.now) result.answer result.sheet }
 {
     let r = read_tangled(text);
     let answer = r.answer;

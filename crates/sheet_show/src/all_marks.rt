@@ -1,7 +1,7 @@
 // All marks in one call.
 ghost use Rattle.sheet_data.specs.inner.Parts.{Holds};
 ghost use Rattle.sheet.specs.Calls.{Writes, WritesMarks};
-ghost use Rattle.sheet_show.specs.inner.Shown.{marksFrom};
+ghost use Rattle.sheet_show.specs.inner.Shown.{marks_from};
 
 use plan::data::Plan;
 use plan::numbers::wide;
@@ -13,7 +13,7 @@ use sheet_fit::fit::fit_marks;
 // 14, and the marks.
 fn marks_of(plan: Plan, drawing: Drawing, counts: Counts, out: &mut [f64]) -> LineAnswer
     requires { Holds plan drawing counts }
-    ensures { Writes (marksFrom plan drawing counts out.old) result out.new }
+    ensures { Writes (marks_from plan drawing counts out.old) result out.new }
 {
     let v = counts.vertices;
     let e = counts.segments;

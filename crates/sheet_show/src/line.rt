@@ -1,9 +1,9 @@
 // Line.
 ghost use Rattle.std.specs.Prelude.{◌≡◌, true};
-ghost use Rattle.sheet_data.specs.inner.Parts.{Holds, areOwnWith};
+ghost use Rattle.sheet_data.specs.inner.Parts.{Holds, are_own_with};
 ghost use Rattle.sheet.specs.Calls as spec;
 ghost use Rattle.sheet.specs.Calls.{Writes};
-ghost use Rattle.sheet_show.specs.inner.Shown.{lineFrom};
+ghost use Rattle.sheet_show.specs.inner.Shown.{line_from};
 
 use plan::data::Plan;
 use report::data::{Counts, Drawing};
@@ -21,8 +21,8 @@ fn line_of(
     n: usize,
     out: &mut [u8],
 ) -> LineAnswer
-    requires { Holds plan drawing counts × (areOwnWith plan remembered counts ≡ true) }
-    ensures { Writes (lineFrom plan remembered drawing counts n out.old) result out.new }
+    requires { Holds plan drawing counts × (are_own_with plan remembered counts ≡ true) }
+    ensures { Writes (line_from plan remembered drawing counts n out.old) result out.new }
 {
     if n >= counts.vertices + counts.placings + 2 {
         return LineAnswer::Refused(7);

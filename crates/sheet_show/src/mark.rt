@@ -2,8 +2,8 @@
 ghost use Rattle.std.specs.Prelude.{◌≡◌};
 ghost use Rattle.sheet_data.specs.inner.Parts.{Holds};
 ghost use Rattle.sheet.specs.Calls.{GivesMark};
-ghost use Rattle.sheet.specs.Results.{markResultOf};
-ghost use Rattle.sheet_show.specs.inner.Shown.{markFrom};
+ghost use Rattle.sheet.specs.Results.{mark_result_of};
+ghost use Rattle.sheet_show.specs.inner.Shown.{mark_from};
 
 use plan::data::Plan;
 use report::data::{Counts, Drawing};
@@ -14,7 +14,7 @@ use sheet_data::marked::mark_with;
 // 7, and the mark.
 fn mark_of(plan: Plan, drawing: Drawing, counts: Counts, n: usize) -> MarkAnswer
     requires { Holds plan drawing counts }
-    ensures { markResultOf result ≡ markFrom plan drawing counts n }
+    ensures { mark_result_of result ≡ mark_from plan drawing counts n }
 {
     if n >= counts.vertices + counts.segments {
         return MarkAnswer::Refused(7);

@@ -1,9 +1,9 @@
 // All report lines in one call.
 ghost use Rattle.std.specs.Prelude.{◌≡◌, true};
-ghost use Rattle.sheet_data.specs.inner.Parts.{Holds, areOwnWith, reportWith};
+ghost use Rattle.sheet_data.specs.inner.Parts.{Holds, are_own_with, report_with};
 ghost use Rattle.sheet.specs.Calls as spec;
 ghost use Rattle.sheet.specs.Calls.{Writes};
-ghost use Rattle.sheet_fit.specs.inner.Fitted.{fittedText};
+ghost use Rattle.sheet_fit.specs.inner.Fitted.{fitted_text};
 
 use plan::data::Plan;
 use plan::numbers::wide;
@@ -20,8 +20,8 @@ fn report_of(
     counts: Counts,
     out: &mut [u8],
 ) -> LineAnswer
-    requires { Holds plan drawing counts × (areOwnWith plan remembered counts ≡ true) }
-    ensures { Writes (fittedText (reportWith plan remembered drawing counts) out.old) result out.new }
+    requires { Holds plan drawing counts × (are_own_with plan remembered counts ≡ true) }
+    ensures { Writes (fitted_text (report_with plan remembered drawing counts) out.old) result out.new }
 {
     let v = counts.vertices;
     let p = counts.placings;

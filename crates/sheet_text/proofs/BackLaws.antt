@@ -5,65 +5,65 @@ use Prim.Native.Nat.{ℕ, ◌≤◌}
 use native.Mathlib.Omega.{arith}
 use lib.Dec.{eqb}
 use lib.ListN.{length}
-use Rattle.ints.specs.Refusals.{firstRefusal}
+use Rattle.ints.specs.Refusals.{first_refusal}
 use Rattle.plan.specs.Plan.{PlanData}
-use Rattle.text.specs.Reading.{accepted, tangledReading}
+use Rattle.text.specs.Reading.{accepted, tangled_reading}
 use Rattle.text.proofs.Words.{never}
 use Rattle.text.proofs.RoundTrip.{limits-short, written-tangled, tangled-limits, tangled-through}
-use Rattle.text_write.specs.inner.Data.{maxText}
+use Rattle.text_write.specs.inner.Data.{max_text}
 use Rattle.sheet.specs.declared.types.Sheet.{Sheet}
 use Rattle.sheet.specs.declared.types.Answer.{Answer}
 use Rattle.sheet.specs.declared.types.Answer.TheVariants.{Accepted, Refused}
-use Rattle.sheet.specs.Sheet.{emptySheet}
+use Rattle.sheet.specs.Sheet.{empty_sheet}
 use Rattle.sheet.specs.Results.{Result, gives, refuses, result_of}
-use Rattle.sheet.specs.Tests.{wholeTextOf}
-use Rattle.sheet.specs.Calls.{TextOut, Leaves, loadTangled, wholeTextTests, wholeText}
+use Rattle.sheet.specs.Tests.{whole_text_of}
+use Rattle.sheet.specs.Calls.{TextOut, Leaves, load_tangled, whole_text_tests, whole_text}
 use Rattle.sheet.proofs.WhenRefused.{tangled-read, given}
 use Rattle.sheet.proofs.GivenBack.{written, just-loaded, text-again, given_back}
-use Rattle.sheet_text.specs.Back.{backOf, textBack}
+use Rattle.sheet_text.specs.Back.{back_of, text_back}
 
 -- ---- by the answer of the load
-module _ (text b : List ℕ) {a : Answer} {s : Sheet} (l : Leaves (loadTangled emptySheet text) a s) where
-  back_by : textBack text b ≡ backOf (result_of a) s b
-  unfolding textBack
+module _ (text b : List ℕ) {a : Answer} {s : Sheet} (l : Leaves (load_tangled empty_sheet text) a s) where
+  back_by : text_back text b ≡ back_of (result_of a) s b
+  unfolding text_back
   back_by = rw (l.answered, l.left)
 
-  pub back-accepted : a ≡ Accepted → textBack text b ≡ wholeText s b
-  back-accepted e = back_by ∙ ap (λ (x : Answer). backOf (result_of x) s b) e
+  pub back-accepted : a ≡ Accepted → text_back text b ≡ whole_text s b
+  back-accepted e = back_by ∙ ap (λ (x : Answer). back_of (result_of x) s b) e
 
-  pub back-refused : (n : ℕ) → a ≡ Refused n → textBack text b ≡ record { result = refuses n; buffer = b }
-  back-refused n e = back_by ∙ ap (λ (x : Answer). backOf (result_of x) s b) e
+  pub back-refused : (n : ℕ) → a ≡ Refused n → text_back text b ≡ record { result = refuses n; buffer = b }
+  back-refused n e = back_by ∙ ap (λ (x : Answer). back_of (result_of x) s b) e
 
-whole-given : (s : Sheet) (b : List ℕ) (n : ℕ) → (wholeText s b).result ≡ gives n → length (wholeTextOf s) ≡ n
-unfolding wholeText
-whole-given s b n e = given (eqb (firstRefusal (wholeTextTests s b)) 0) (firstRefusal (wholeTextTests s b)) (length (wholeTextOf s)) n e
+whole-given : (s : Sheet) (b : List ℕ) (n : ℕ) → (whole_text s b).result ≡ gives n → length (whole_text_of s) ≡ n
+unfolding whole_text
+whole-given s b n e = given (eqb (first_refusal (whole_text_tests s b)) 0) (first_refusal (whole_text_tests s b)) (length (whole_text_of s)) n e
 
 -- ---- "gives the input again, for every accepted plan"
-module _ (text : List ℕ) (p : PlanData) (e : tangledReading text ≡ accepted p) where
-  loaded : (loadTangled emptySheet text).result ≡ gives tt
-  loaded = (tangled-read emptySheet text).1 (p, e)
+module _ (text : List ℕ) (p : PlanData) (e : tangled_reading text ≡ accepted p) where
+  loaded : (load_tangled empty_sheet text).result ≡ gives tt
+  loaded = (tangled-read empty_sheet text).1 (p, e)
 
-  taken : (b : List ℕ) → textBack text b ≡ wholeText (loadTangled emptySheet text).sheet b
-  unfolding textBack
-  taken b = ap (λ (r : Result Unit). backOf r (loadTangled emptySheet text).sheet b) loaded
+  taken : (b : List ℕ) → text_back text b ≡ whole_text (load_tangled empty_sheet text).sheet b
+  unfolding text_back
+  taken b = ap (λ (r : Result Unit). back_of r (load_tangled empty_sheet text).sheet b) loaded
 
-  pub back-again : (b : List ℕ) → length text ≤ length b → textBack text b ≡ written text b
-  back-again b m = taken b ∙ given_back text p e emptySheet b m
+  pub back-again : (b : List ℕ) → length text ≤ length b → text_back text b ≡ written text b
+  back-again b m = taken b ∙ given_back text p e empty_sheet b m
 
   -- how long it is
-  short : length text ≤ maxText
+  short : length text ≤ max_text
   short = let c = tangled-through text p e in rw (written-tangled text p e) at (limits-short p (tangled-limits text p e) c.three)
 
-  pub taken-few : (b : List ℕ) (n : ℕ) → (textBack text b).result ≡ gives n → n ≤ maxText
+  pub taken-few : (b : List ℕ) (n : ℕ) → (text_back text b).result ≡ gives n → n ≤ max_text
   taken-few b n h =
-      let s = (loadTangled emptySheet text).sheet in
-      let f : (wholeText s b).result ≡ gives n = ap (λ (o : TextOut). o.result) (sym (taken b)) ∙ h in
-      omega (arith, whole-given s b n f, ap length (text-again text p e (just-loaded text p e emptySheet)), short)
+      let s = (load_tangled empty_sheet text).sheet in
+      let f : (whole_text s b).result ≡ gives n = ap (λ (o : TextOut). o.result) (sym (taken b)) ∙ h in
+      omega (arith, whole-given s b n f, ap length (text-again text p e (just-loaded text p e empty_sheet)), short)
 
-pub back-few : (text b : List ℕ) (n : ℕ) → (textBack text b).result ≡ gives n → n ≤ maxText
-unfolding textBack
-back-few text b n h = go (loadTangled emptySheet text).result refl
+pub back-few : (text b : List ℕ) (n : ℕ) → (text_back text b).result ≡ gives n → n ≤ max_text
+unfolding text_back
+back-few text b n h = go (load_tangled empty_sheet text).result refl
   where
-    go : (r : Result Unit) → (loadTangled emptySheet text).result ≡ r → n ≤ maxText
-    go (gives u) e = let r = (tangled-read emptySheet text).0 e in taken-few text r.0 r.1 b n h
-    go (refuses m) e = never (let f : refuses m ≡ gives n = ap (λ (x : Result Unit). (backOf x (loadTangled emptySheet text).sheet b).result) (sym e) ∙ h in cc)
+    go : (r : Result Unit) → (load_tangled empty_sheet text).result ≡ r → n ≤ max_text
+    go (gives u) e = let r = (tangled-read empty_sheet text).0 e in taken-few text r.0 r.1 b n h
+    go (refuses m) e = never (let f : refuses m ≡ gives n = ap (λ (x : Result Unit). (back_of x (load_tangled empty_sheet text).sheet b).result) (sym e) ∙ h in cc)

@@ -1,6 +1,6 @@
 // A text that may be tangled, loaded and given back.
 ghost use Rattle.sheet.specs.Calls.{Writes};
-ghost use Rattle.sheet_text.specs.Back.{textBack};
+ghost use Rattle.sheet_text.specs.Back.{text_back};
 
 use crate::whole::whole_text;
 use sheet::types::{Answer, LineAnswer, Sheet};
@@ -8,7 +8,7 @@ use sheet_load::tangled::load_tangled;
 
 // "Loading by E1 and then asking for all lines."
 pub fn text_back(text: &[u8], out: &mut [u8]) -> LineAnswer
-    ensures { Writes (textBack text.now out.old) result out.new }
+    ensures { Writes (text_back text.now out.old) result out.new }
 {
     let loaded = load_tangled(Sheet::empty(), text);
     let answer = loaded.answer;

@@ -1,9 +1,9 @@
 // A line of the text.
 ghost use Rattle.std.specs.Prelude.{◌≡◌, true};
-ghost use Rattle.sheet_data.specs.inner.Parts.{isPlanWith, areOwnWith};
+ghost use Rattle.sheet_data.specs.inner.Parts.{is_plan_with, are_own_with};
 ghost use Rattle.sheet.specs.Calls as spec;
 ghost use Rattle.sheet.specs.Calls.{Writes};
-ghost use Rattle.sheet_text.specs.inner.Shown.{textLineFrom};
+ghost use Rattle.sheet_text.specs.inner.Shown.{text_line_from};
 
 use crate::read::as_read;
 use crate::refusal::text_refusal;
@@ -26,8 +26,8 @@ fn text_line_of(
     n: usize,
     out: &mut [u8],
 ) -> LineAnswer
-    requires { (isPlanWith plan counts ≡ true) × (areOwnWith plan remembered counts ≡ true) }
-    ensures { Writes (textLineFrom plan remembered counts n out.old) result out.new }
+    requires { (is_plan_with plan counts ≡ true) × (are_own_with plan remembered counts ≡ true) }
+    ensures { Writes (text_line_from plan remembered counts n out.old) result out.new }
 {
     if n >= wide(plan.levels) + counts.segments + 2 {
         return LineAnswer::Refused(7);
@@ -40,7 +40,7 @@ fn text_line_of(
 
 // "line n of the plan text as it was read, byte for byte, drawn or not", in a lent buffer, with its length; later bytes stay.
 pub fn text_line(sheet: Sheet, n: usize, out: &mut [u8]) -> LineAnswer
-    ensures { Writes (spec.textLine sheet n out.old) result out.new }
+    ensures { Writes (spec.text_line sheet n out.old) result out.new }
 {
     let header = sheet.header;
     let stage = header.stage;

@@ -3,7 +3,7 @@ ghost use Rattle.std.specs.Prelude.{◌≡◌, true};
 ghost use Rattle.plan.specs.Plan.{PlanData};
 ghost use Rattle.plan_renumber.specs.Renumber.{inverse, renumbered};
 ghost use Rattle.plan_renumber.specs.inner.Words.{Lists};
-ghost use Rattle.sheet_data.specs.inner.Parts.{isPlanWith, areOwnWith};
+ghost use Rattle.sheet_data.specs.inner.Parts.{is_plan_with, are_own_with};
 ghost use Rattle.sheet_text.specs.inner.Read.{Numbered, AsRead};
 
 use plan::data::Plan;
@@ -48,7 +48,7 @@ fn number_back(
 
 // The plan as it was read, of a plan and remembered numbers that are not refused.
 pub fn as_read(plan: Plan, remembered: [u16; Plan::MAX_VERTICES], counts: Counts) -> Plan
-    requires { (isPlanWith plan counts ≡ true) × (areOwnWith plan remembered counts ≡ true) }
+    requires { (is_plan_with plan counts ≡ true) × (are_own_with plan remembered counts ≡ true) }
     ensures { AsRead plan remembered counts result }
 {
     let v = counts.vertices;

@@ -1,7 +1,7 @@
 // The refusals of a plan's text from the state: 11, 15 and 13.
 ghost use Rattle.std.specs.Prelude.{◌≡◌};
 ghost use Rattle.sheet.specs.Sheet.{is_empty};
-ghost use Rattle.sheet_text.specs.inner.Shown.{textRefusal};
+ghost use Rattle.sheet_text.specs.inner.Shown.{text_refusal};
 
 use plan::data::Plan;
 use sheet::refusals::draw_refusal;
@@ -24,7 +24,7 @@ pub fn text_refusal(
     plan: Plan,
     remembered: [u16; Plan::MAX_VERTICES],
 ) -> u32
-    ensures { result ≡ textRefusal stage tangled plan remembered }
+    ensures { result ≡ text_refusal stage tangled plan remembered }
 {
     if is_empty(stage) {
         return 11;

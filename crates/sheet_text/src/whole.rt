@@ -1,11 +1,11 @@
 // The whole text.
 ghost use Rattle.std.specs.Prelude.{◌≡◌, true};
 ghost use Rattle.text.specs.Writing.{text_of};
-ghost use Rattle.sheet_data.specs.inner.Parts.{isPlanWith, areOwnWith};
+ghost use Rattle.sheet_data.specs.inner.Parts.{is_plan_with, are_own_with};
 ghost use Rattle.sheet.specs.Calls as spec;
 ghost use Rattle.sheet.specs.Calls.{Writes};
-ghost use Rattle.sheet_fit.specs.inner.Fitted.{fittedText};
-ghost use Rattle.sheet_text.specs.inner.Read.{readWith};
+ghost use Rattle.sheet_fit.specs.inner.Fitted.{fitted_text};
+ghost use Rattle.sheet_text.specs.inner.Read.{read_with};
 
 use crate::read::as_read;
 use crate::refusal::text_refusal;
@@ -26,8 +26,8 @@ fn whole_text_of(
     counts: Counts,
     out: &mut [u8],
 ) -> LineAnswer
-    requires { (isPlanWith plan counts ≡ true) × (areOwnWith plan remembered counts ≡ true) }
-    ensures { Writes (fittedText (text_of (readWith plan remembered counts)) out.old) result out.new }
+    requires { (is_plan_with plan counts ≡ true) × (are_own_with plan remembered counts ≡ true) }
+    ensures { Writes (fitted_text (text_of (read_with plan remembered counts)) out.old) result out.new }
 {
     let read = as_read(plan, remembered, counts);
     let mut room = [0u8; MAX_TEXT];
@@ -37,7 +37,7 @@ fn whole_text_of(
 
 // All its lines one after another in a lent buffer, with their length; later bytes stay.
 pub fn whole_text(sheet: Sheet, out: &mut [u8]) -> LineAnswer
-    ensures { Writes (spec.wholeText sheet out.old) result out.new }
+    ensures { Writes (spec.whole_text sheet out.old) result out.new }
 {
     let header = sheet.header;
     let stage = header.stage;

@@ -37,8 +37,8 @@ via = do
   give (record { via = true; half = 0 })
 
 -- "(level (box 3) (via))": "its vertices left to right, at least one". n is at least the number of vertices.
-unfoldable pub levelLine : ℕ → Rule (List Vertex)
-levelLine n = do
+unfoldable pub level_line : ℕ → Rule (List Vertex)
+level_line n = do
   word (bytes "(level")
   v ← either box via
   vs ← many n (either box via)
@@ -53,8 +53,8 @@ rating = do
   give (some w)
 
 -- "(seg A B)" and "(seg A B W)"
-unfoldable pub segmentLine : Rule SegmentLine
-segmentLine = do
+unfoldable pub segment_line : Rule SegmentLine
+segment_line = do
   word (bytes "(seg ")
   a ← number
   word (bytes " ")
@@ -64,8 +64,8 @@ segmentLine = do
   give (record { segment = record { upper = a; lower = b }; rating = w })
 
 -- "(plan K G S)", the level lines, the segments, "(end)". n is at least the length of the text.
-unfoldable pub planText : ℕ → Rule Lines
-planText n = do
+unfoldable pub plan_text : ℕ → Rule Lines
+plan_text n = do
   word (bytes "(plan ")
   k ← number
   word (bytes " ")
@@ -73,8 +73,8 @@ planText n = do
   word (bytes " ")
   s ← number
   word (bytes ")\n")
-  ls ← many n (levelLine n)
-  ss ← many n segmentLine
+  ls ← many n (level_line n)
+  ss ← many n segment_line
   word (bytes "(end)\n")
   give (record { levels = k; gap = g; spacing = s; rows = ls; segments = ss })
 
@@ -85,4 +85,4 @@ whole (got l (b ∷ s)) = none
 whole nothing = none
 
 unfoldable pub form_of : List ℕ → Option Lines
-form_of s = whole (planText (length s) s)
+form_of s = whole (plan_text (length s) s)

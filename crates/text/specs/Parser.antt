@@ -50,20 +50,20 @@ many zero r s = got [] s
 many (suc n) r s = again (r s) s (λ t. many n r t)
 
 -- "Numbers are decimal, one to five digits, no leading zero except 0 itself."
-abbrev pub isDigit : ℕ → Bool
-isDigit b = leb 48 b && leb b 57
+abbrev pub is_digit : ℕ → Bool
+is_digit b = leb 48 b && leb b 57
 
 -- At most n digits more, after digits of the value v.
-unfoldable pub digitsAfter : ℕ → ℕ → Rule ℕ
-digitsAfter zero v s = got v s
-digitsAfter (suc n) v [] = got v []
-digitsAfter (suc n) v (b ∷ s) =
-    let more = digitsAfter n (v * 10 + (b - 48)) s in
-    cond (isDigit b) more (got v (b ∷ s))
+unfoldable pub digits_after : ℕ → ℕ → Rule ℕ
+digits_after zero v s = got v s
+digits_after (suc n) v [] = got v []
+digits_after (suc n) v (b ∷ s) =
+    let more = digits_after n (v * 10 + (b - 48)) s in
+    cond (is_digit b) more (got v (b ∷ s))
 
 unfoldable pub number : Rule ℕ
 number [] = nothing
 number (b ∷ s) =
-    let more = digitsAfter 4 (b - 48) s in
+    let more = digits_after 4 (b - 48) s in
     let some = cond (eqb b 48) (got 0 s) more in
-    cond (isDigit b) some nothing
+    cond (is_digit b) some nothing

@@ -2,40 +2,40 @@
 use Rattle.std.specs.Prelude.{Bool, true, false, cond, ◌&&◌, List, [], ◌∷◌, map, ℕ, leb, eqb, length}
 use Rattle.std.proofs.Math.Option.{Option, none, some}
 use Rattle.ints.specs.Lists.{sum, concat}
-use Rattle.ints.specs.Ratings.{maxRating}
-use Rattle.ints.specs.Refusals.{Test, check, firstRefusal}
+use Rattle.ints.specs.Ratings.{max_rating}
+use Rattle.ints.specs.Refusals.{Test, check, first_refusal}
 use Rattle.plan.specs.Plan.{PlanData, data_of}
-use Rattle.plan.specs.Limits.{within, maxLevels, maxGap, maxSpacing, maxHalfWidth, maxOnLevel, maxVertices, maxSegments}
-use Rattle.plan.specs.Checks.{every, checksOf, tangledChecksOf}
+use Rattle.plan.specs.Limits.{within, max_levels, max_gap, max_spacing, max_half_width, max_on_level, max_vertices, max_segments}
+use Rattle.plan.specs.Checks.{every, checks_of, tangled_checks_of}
 use Rattle.text.specs.Form.{Vertex, Lines, form_of}
 
 -- 1: "Not in the text's form, or over 65,536 bytes."
-abbrev pub maxBytes : ℕ
-maxBytes = 65536
+abbrev pub max_bytes : ℕ
+max_bytes = 65536
 
 -- 2: "A number or count outside its limit, or level lines not K."
-abbrev pub halfInLimit : Vertex → Bool
-halfInLimit v = cond v.via true (within 1 maxHalfWidth v.half)
+abbrev pub half_in_limit : Vertex → Bool
+half_in_limit v = cond v.via true (within 1 max_half_width v.half)
 
-abbrev pub rowInLimit : List Vertex → Bool
-rowInLimit vs = leb (length vs) maxOnLevel && every halfInLimit vs
+abbrev pub row_in_limit : List Vertex → Bool
+row_in_limit vs = leb (length vs) max_on_level && every half_in_limit vs
 
 -- "with W from 2 to 100; without one it has rating 1, never written. Outside the range check 2 applies." (document 02, E5)
-abbrev pub ratingInLimit : Option ℕ → Bool
-ratingInLimit none = true
-ratingInLimit (some w) = within 2 maxRating w
+abbrev pub rating_in_limit : Option ℕ → Bool
+rating_in_limit none = true
+rating_in_limit (some w) = within 2 max_rating w
 
-abbrev pub ratingOf : Option ℕ → ℕ
-ratingOf none = 1
-ratingOf (some w) = w
+abbrev pub rating_of : Option ℕ → ℕ
+rating_of none = 1
+rating_of (some w) = w
 
 unfoldable pub check2 : Lines → Bool
 check2 l =
-    let rows = every rowInLimit l.rows in
-    let ratings = every (λ s. ratingInLimit s.rating) l.segments in
-    within 1 maxLevels l.levels && within 1 maxGap l.gap && within 1 maxSpacing l.spacing
+    let rows = every row_in_limit l.rows in
+    let ratings = every (λ s. rating_in_limit s.rating) l.segments in
+    within 1 max_levels l.levels && within 1 max_gap l.gap && within 1 max_spacing l.spacing
     && eqb (length l.rows) l.levels && rows
-    && leb (sum (map length l.rows)) maxVertices && leb (length l.segments) maxSegments
+    && leb (sum (map length l.rows)) max_vertices && leb (length l.segments) max_segments
     && ratings
 
 -- What is stored of a text within the limits, its vertices in reading order.
@@ -44,18 +44,18 @@ stored l =
     data_of l.levels l.gap l.spacing
     (map length l.rows) (map (λ v. v.via) (concat l.rows)) (map (λ v. v.half) (concat l.rows))
     (map (λ s. s.segment.upper) l.segments) (map (λ s. s.segment.lower) l.segments)
-    (map (λ s. ratingOf s.rating) l.segments)
+    (map (λ s. rating_of s.rating) l.segments)
 
 -- The checks of a text in their order; from 2 on they are asked of what its lines say, from 3 on by the checks of a plan.
-unfoldable pub testsBy : (PlanData → List Test) → List ℕ → Option Lines → List Test
-testsBy checks s none = check 1 false ∷ []
-testsBy checks s (some l) = check 1 (leb (length s) maxBytes) ∷ check 2 (check2 l) ∷ checks (stored l)
+unfoldable pub tests_by : (PlanData → List Test) → List ℕ → Option Lines → List Test
+tests_by checks s none = check 1 false ∷ []
+tests_by checks s (some l) = check 1 (leb (length s) max_bytes) ∷ check 2 (check2 l) ∷ checks (stored l)
 
-abbrev pub testsOf : List ℕ → Option Lines → List Test
-testsOf = testsBy checksOf
+abbrev pub tests_of : List ℕ → Option Lines → List Test
+tests_of = tests_by checks_of
 
-abbrev pub textTests : List ℕ → List Test
-textTests s = testsOf s (form_of s)
+abbrev pub text_tests : List ℕ → List Test
+text_tests s = tests_of s (form_of s)
 
 -- What reading gives: a plan, or the number of the first check that fails.
 pub data Reading : Type 0 where
@@ -63,18 +63,18 @@ pub data Reading : Type 0 where
   refused : ℕ → Reading
 
 -- What is read of a text whose checks came out as n.
-abbrev pub readAs : ℕ → Option Lines → Reading
-readAs n none = refused n
-readAs n (some l) = cond (eqb n 0) (accepted (stored l)) (refused n)
+abbrev pub read_as : ℕ → Option Lines → Reading
+read_as n none = refused n
+read_as n (some l) = cond (eqb n 0) (accepted (stored l)) (refused n)
 
-abbrev pub readingBy : (PlanData → List Test) → List ℕ → Reading
-readingBy checks s =
+abbrev pub reading_by : (PlanData → List Test) → List ℕ → Reading
+reading_by checks s =
     let lines = form_of s in
-    readAs (firstRefusal (testsBy checks s lines)) lines
+    read_as (first_refusal (tests_by checks s lines)) lines
 
 unfoldable pub reading : List ℕ → Reading
-reading s = readingBy checksOf s
+reading s = reading_by checks_of s
 
 -- The second way: the plan as the text has it, its inner segments crossed or not.
-unfoldable pub tangledReading : List ℕ → Reading
-tangledReading s = readingBy tangledChecksOf s
+unfoldable pub tangled_reading : List ℕ → Reading
+tangled_reading s = reading_by tangled_checks_of s

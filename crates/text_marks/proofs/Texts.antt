@@ -6,62 +6,62 @@ use native.Mathlib.Omega.{arith}
 use lib.Dec.{eqb}
 use lib.IntN.{ℤ}
 use lib.Ieee.{Float}
-use Rattle.ints.specs.Refusals.{firstRefusal}
-use Rattle.plan.specs.Plan.{PlanData, vertexCount}
+use Rattle.ints.specs.Refusals.{first_refusal}
+use Rattle.plan.specs.Plan.{PlanData, vertex_count}
 use Rattle.plan.proofs.Sound.{sound}
 use Rattle.text.specs.Reading.{Reading, accepted, refused, reading}
 use Rattle.text.proofs.RoundTrip.{read-acceptable}
 use Rattle.text.proofs.Words.{never}
-use Rattle.passes.specs.Drawing.{drawingOf}
-use Rattle.marks.specs.Marks.{markCount, allNumbers}
+use Rattle.passes.specs.Drawing.{drawing_of}
+use Rattle.marks.specs.Marks.{mark_count, all_numbers}
 use Rattle.sheet.specs.declared.types.LineAnswer.TheVariants.{Refused}
 use Rattle.sheet.specs.Results.{gives}
 use Rattle.sheet.specs.Tests.{test14}
 use Rattle.sheet.specs.Calls.{Writes}
 use Rattle.sheet.proofs.WhenRefused.{given}
 use Rattle.sheet_fit.specs.inner.Fitted.{fitted}
-use Rattle.text_marks.specs.Marks.{marksOf}
-use Rattle.text_marks.specs.Positions.{bothOf, positionsOf}
+use Rattle.text_marks.specs.Marks.{marks_of}
+use Rattle.text_marks.specs.Positions.{both_of, positions_of}
 
 -- ---- a text that is accepted, and one that is refused
 module _ (p : PlanData) where
-  pub marks-of : (b : List Float) → marksOf (accepted p) b ≡ fitted (markCount p) (allNumbers p (drawingOf p).final) b
-  unfolding marksOf
+  pub marks-of : (b : List Float) → marks_of (accepted p) b ≡ fitted (mark_count p) (all_numbers p (drawing_of p).final) b
+  unfolding marks_of
   marks-of b = refl
 
-  pub positions-of : (b : List ℤ) → positionsOf (accepted p) b ≡ fitted (vertexCount p) (bothOf p) b
-  unfolding positionsOf
+  pub positions-of : (b : List ℤ) → positions_of (accepted p) b ≡ fitted (vertex_count p) (both_of p) b
+  unfolding positions_of
   positions-of b = refl
 
 module _ (n : ℕ) where
-  pub marks-not : (b : List Float) → Writes (marksOf (refused n) b) (Refused n) b
-  unfolding marksOf
+  pub marks-not : (b : List Float) → Writes (marks_of (refused n) b) (Refused n) b
+  unfolding marks_of
   marks-not b = record { answered = refl; left = refl }
 
-  pub positions-not : (b : List ℤ) → Writes (positionsOf (refused n) b) (Refused n) b
-  unfolding positionsOf
+  pub positions-not : (b : List ℤ) → Writes (positions_of (refused n) b) (Refused n) b
+  unfolding positions_of
   positions-not b = record { answered = refl; left = refl }
 
 -- ---- how many at most
 module _ (text : List ℕ) where
-  pub marks-few : (b : List Float) (n : ℕ) → (marksOf (reading text) b).result ≡ gives n → n ≤ 3072
-  unfolding marksOf
+  pub marks-few : (b : List Float) (n : ℕ) → (marks_of (reading text) b).result ≡ gives n → n ≤ 3072
+  unfolding marks_of
   marks-few b n = go (reading text) refl
     where
-      go : (g : Reading) → reading text ≡ g → (marksOf g b).result ≡ gives n → n ≤ 3072
+      go : (g : Reading) → reading text ≡ g → (marks_of g b).result ≡ gives n → n ≤ 3072
       go (accepted p) e h =
           let l = (sound p (read-acceptable text p e)).limits in
-          let r = firstRefusal (test14 (allNumbers p (drawingOf p).final) b ∷ []) in
-          omega (arith, l.vertices, l.segments, given (eqb r 0) r (markCount p) n h)
+          let r = first_refusal (test14 (all_numbers p (drawing_of p).final) b ∷ []) in
+          omega (arith, l.vertices, l.segments, given (eqb r 0) r (mark_count p) n h)
       go (refused k) e h = never (cc)
 
-  pub positions-few : (b : List ℤ) (n : ℕ) → (positionsOf (reading text) b).result ≡ gives n → n ≤ 1024
-  unfolding positionsOf
+  pub positions-few : (b : List ℤ) (n : ℕ) → (positions_of (reading text) b).result ≡ gives n → n ≤ 1024
+  unfolding positions_of
   positions-few b n = go (reading text) refl
     where
-      go : (g : Reading) → reading text ≡ g → (positionsOf g b).result ≡ gives n → n ≤ 1024
+      go : (g : Reading) → reading text ≡ g → (positions_of g b).result ≡ gives n → n ≤ 1024
       go (accepted p) e h =
           let l = (sound p (read-acceptable text p e)).limits in
-          let r = firstRefusal (test14 (bothOf p) b ∷ []) in
-          omega (arith, l.vertices, given (eqb r 0) r (vertexCount p) n h)
+          let r = first_refusal (test14 (both_of p) b ∷ []) in
+          omega (arith, l.vertices, given (eqb r 0) r (vertex_count p) n h)
       go (refused k) e h = never (cc)

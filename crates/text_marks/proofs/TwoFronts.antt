@@ -9,8 +9,8 @@ use lib.Seq.{take_at, drop_at, drop-drop, length-take-le}
 use lib.IntN.{ℤ}
 use Rattle.ints.specs.Lists.{over}
 use Rattle.plan.specs.Plan.{PlanData}
-use Rattle.passes.specs.Drawing.{drawingOf}
-use Rattle.text_marks.specs.Positions.{bothOf}
+use Rattle.passes.specs.Drawing.{drawing_of}
+use Rattle.text_marks.specs.Positions.{both_of}
 
 -- v numbers at the front, and as many right after them
 two-fronts : (xs ys o : List ℤ) (v : ℕ) → length xs ≡ v → length ys ≡ v → put_mid v (v + v - v) (xs ++ drop v o) ys ≡ over (xs ++ ys) o
@@ -26,7 +26,7 @@ second-long xs o v e h =
     rw (n, drop_at xs (drop v o) v e) (length-take-le v (drop v o) (omega (arith, length-drop v o)))
 
 -- a plan's positions, the final ones copied
-pub two-written : (xs ys zs o : List ℤ) (v : ℕ) (p : PlanData) → length xs ≡ v → length ys ≡ v → zs ≡ ys → xs ≡ (drawingOf p).preliminary → ys ≡ (drawingOf p).final
-    → put_mid v (v + v - v) (xs ++ drop v o) zs ≡ over (bothOf p) o
+pub two-written : (xs ys zs o : List ℤ) (v : ℕ) (p : PlanData) → length xs ≡ v → length ys ≡ v → zs ≡ ys → xs ≡ (drawing_of p).preliminary → ys ≡ (drawing_of p).final
+    → put_mid v (v + v - v) (xs ++ drop v o) zs ≡ over (both_of p) o
 two-written xs ys zs o v p e f z a b =
-    two-fronts xs zs o v e (ap length z ∙ f) ∙ ap (λ (l : List ℤ). over l o) (ap (λ (l : List ℤ). l ++ zs) a ∙ ap (λ (l : List ℤ). (drawingOf p).preliminary ++ l) (z ∙ b))
+    two-fronts xs zs o v e (ap length z ∙ f) ∙ ap (λ (l : List ℤ). over l o) (ap (λ (l : List ℤ). l ++ zs) a ∙ ap (λ (l : List ℤ). (drawing_of p).preliminary ++ l) (z ∙ b))

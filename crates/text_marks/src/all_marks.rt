@@ -1,10 +1,10 @@
 // The marks of a text.
 ghost use Rattle.std.specs.Prelude.{◌≡◌, true};
 ghost use Rattle.plan.specs.Acceptable.{acceptable};
-ghost use Rattle.plan.specs.inner.Held.{heldPlan};
+ghost use Rattle.plan.specs.inner.Held.{held_plan};
 ghost use Rattle.text.specs.Reading.{accepted, reading};
 ghost use Rattle.sheet.specs.Calls.{Writes};
-ghost use Rattle.text_marks.specs.Marks.{marksOf};
+ghost use Rattle.text_marks.specs.Marks.{marks_of};
 
 use crate::drawn::draw_positions;
 use plan::data::Plan;
@@ -25,8 +25,8 @@ fn marks_plan(
     ratings: &[u32],
     out: &mut [f64],
 ) -> LineAnswer
-    requires { acceptable (heldPlan gap spacing sizes.now vias.now halves.now uppers.now lowers.now ratings.now) ≡ true }
-    ensures { Writes (marksOf (accepted (heldPlan gap spacing sizes.now vias.now halves.now uppers.now
+    requires { acceptable (held_plan gap spacing sizes.now vias.now halves.now uppers.now lowers.now ratings.now) ≡ true }
+    ensures { Writes (marks_of (accepted (held_plan gap spacing sizes.now vias.now halves.now uppers.now
         lowers.now ratings.now)) out.old) result out.new }
 {
     let v = vias.len();
@@ -58,7 +58,7 @@ fn marks_plan(
 // All marks of the text's plan in a lent buffer, five numbers each, with how many there are; later numbers stay. Refused 1 to 6 or
 // 14, the buffer stays as it is.
 pub fn marks_text(text: &[u8], out: &mut [f64]) -> LineAnswer
-    ensures { Writes (marksOf (reading text.now) out.old) result out.new }
+    ensures { Writes (marks_of (reading text.now) out.old) result out.new }
 {
     let mut sizes = [0u16; Plan::MAX_LEVELS];
     let mut vias = [false; Plan::MAX_VERTICES];

@@ -3,7 +3,7 @@ ghost use Rattle.plan.specs.Plan.{PlanData};
 ghost use Rattle.pass_draw.specs.inner.Made.{HoldsRated, SomeRated};
 ghost use Rattle.text.specs.Reading.{accepted, reading};
 ghost use Rattle.sheet.specs.Calls.{Writes};
-ghost use Rattle.text_marks.specs.Positions.{positionsOf};
+ghost use Rattle.text_marks.specs.Positions.{positions_of};
 
 use crate::drawn::draw_positions;
 use pass_draw::draw::copy_positions;
@@ -25,7 +25,7 @@ fn positions_plan(
 ) -> LineAnswer
     requires { SomeRated gap sizes.now vias.now halves.now uppers.now lowers.now ratings.now }
     ensures { (p : PlanData) → HoldsRated p gap sizes.now vias.now halves.now uppers.now lowers.now ratings.now
-        → Writes (positionsOf (accepted p) out.old) result out.new }
+        → Writes (positions_of (accepted p) out.old) result out.new }
 {
     let v = vias.len();
     if out.len() < v + v {
@@ -50,7 +50,7 @@ fn positions_plan(
 // Preliminary positions and then final ones of the text's plan in a lent buffer, with how many vertices it has; later numbers stay.
 // Refused 1 to 6 or 14, the buffer stays as it is.
 pub fn positions_text(text: &[u8], out: &mut [i64]) -> LineAnswer
-    ensures { Writes (positionsOf (reading text.now) out.old) result out.new }
+    ensures { Writes (positions_of (reading text.now) out.old) result out.new }
 {
     let mut sizes = [0u16; Plan::MAX_LEVELS];
     let mut vias = [false; Plan::MAX_VERTICES];

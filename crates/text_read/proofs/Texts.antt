@@ -10,15 +10,15 @@ use lib.Dec.{leb}
 use lib.ListN.{length, drop, length-map}
 use Rattle.ints.specs.Lists.{concat}
 use Rattle.ints.proofs.Lists.{concat-length}
-use Rattle.plan.specs.Limits.{maxLevels, maxVertices, maxSegments}
+use Rattle.plan.specs.Limits.{max_levels, max_vertices, max_segments}
 use Rattle.plan.specs.Checks.{every}
 use Rattle.ints.proofs.Tests.{and_right}
 use Rattle.text.specs.Bytes.{bytes}
 use Rattle.text.specs.Parser.{got, nothing, Rule, then, word, many, number}
-use Rattle.text.specs.Form.{Vertex, SegmentLine, Lines, levelLine, segmentLine, planText, form_of}
-use Rattle.text.specs.Reading.{rowInLimit, ratingInLimit, ratingOf, check2, stored}
-use Rattle.text_scan.specs.inner.Scanned.{numberThen, Header, planLine, Ends}
-use Rattle.text_read.specs.inner.Filled.{FindsRows, FindsSegments, Kept, Scans, inLimits}
+use Rattle.text.specs.Form.{Vertex, SegmentLine, Lines, level_line, segment_line, plan_text, form_of}
+use Rattle.text.specs.Reading.{row_in_limit, rating_in_limit, rating_of, check2, stored}
+use Rattle.text_scan.specs.inner.Scanned.{number_then, Header, plan_line, Ends}
+use Rattle.text_read.specs.inner.Filled.{FindsRows, FindsSegments, Kept, Scans, in_limits}
 use Rattle.text_scan.specs.declared.scanners.FoundHeader.{FoundHeader}
 use Rattle.text_read.specs.declared.form.Rows.{Rows}
 use Rattle.text_read.specs.declared.form.Segments.{Segments}
@@ -36,32 +36,32 @@ lines_of h rows segments = record { levels = h.levels; gap = h.gap; spacing = h.
 
 -- what follows the plan line
 abbrev body : ℕ → Header → Rule Lines
-body n h t = then (many n (levelLine n) t) (λ ls u. then (many n segmentLine u) (λ ss v. then (word (bytes "(end)\n") v) (λ _ w. got (lines_of h ls ss) w)))
+body n h t = then (many n (level_line n) t) (λ ls u. then (many n segment_line u) (λ ss v. then (word (bytes "(end)\n") v) (λ _ w. got (lines_of h ls ss) w)))
 
-plan-text : (n : ℕ) (s : List ℕ) → planText n s ≡ then (planLine s) (body n)
-unfolding planText planLine
+plan-text : (n : ℕ) (s : List ℕ) → plan_text n s ≡ then (plan_line s) (body n)
+unfolding plan_text plan_line
 plan-text n s =
     let hd : ℕ → ℕ → ℕ → Header = λ k g d. record { levels = k; gap = g; spacing = d } in
     let f3 : ℕ → ℕ → ℕ → Rule Lines = λ k g d t. body n (hd k g d) t in
     let f2 : ℕ → ℕ → Rule Lines = λ k g t. then (number t) (λ d u. then (word (bytes ")\n") u) (λ _ v. f3 k g d v)) in
     let f1 : ℕ → Rule Lines = λ k t. then (number t) (λ g u. then (word (bytes " ") u) (λ _ v. f2 k g v)) in
-    let h2 : ℕ → ℕ → Rule Header = λ k g t. then (numberThen (bytes ")\n") t) (λ d v. got (hd k g d) v) in
-    let h1 : ℕ → Rule Header = λ k t. then (numberThen (bytes " ") t) (h2 k) in
-    let h0 : Rule Header = λ t. then (numberThen (bytes " ") t) h1 in
+    let h2 : ℕ → ℕ → Rule Header = λ k g t. then (number_then (bytes ")\n") t) (λ d v. got (hd k g d) v) in
+    let h1 : ℕ → Rule Header = λ k t. then (number_then (bytes " ") t) (h2 k) in
+    let h0 : Rule Header = λ t. then (number_then (bytes " ") t) h1 in
     let e2 : (k g : ℕ) (t : List ℕ) → f2 k g t ≡ then (h2 k g t) (body n) = λ k g t.
-    number-then (bytes ")\n") t (f3 k g) ∙ sym (then-then (numberThen (bytes ")\n") t) (λ d v. got (hd k g d) v) (body n)) in
+    number-then (bytes ")\n") t (f3 k g) ∙ sym (then-then (number_then (bytes ")\n") t) (λ d v. got (hd k g d) v) (body n)) in
     let e1 : (k : ℕ) (t : List ℕ) → f1 k t ≡ then (h1 k t) (body n) = λ k t.
-    number-then (bytes " ") t (f2 k) ∙ then_same (numberThen (bytes " ") t) (f2 k) (λ g v. then (h2 k g v) (body n)) (e2 k)
-    ∙ sym (then-then (numberThen (bytes " ") t) (h2 k) (body n)) in
+    number-then (bytes " ") t (f2 k) ∙ then_same (number_then (bytes " ") t) (f2 k) (λ g v. then (h2 k g v) (body n)) (e2 k)
+    ∙ sym (then-then (number_then (bytes " ") t) (h2 k) (body n)) in
     let e0 : (t : List ℕ) → then (number t) (λ k u. then (word (bytes " ") u) (λ _ v. f1 k v)) ≡ then (h0 t) (body n) = λ t.
-    number-then (bytes " ") t f1 ∙ then_same (numberThen (bytes " ") t) f1 (λ k v. then (h1 k v) (body n)) e1
-    ∙ sym (then-then (numberThen (bytes " ") t) h1 (body n)) in
+    number-then (bytes " ") t f1 ∙ then_same (number_then (bytes " ") t) f1 (λ k v. then (h1 k v) (body n)) e1
+    ∙ sym (then-then (number_then (bytes " ") t) h1 (body n)) in
     then_same (word (bytes "(plan ") s) (λ _ t. then (number t) (λ k u. then (word (bytes " ") u) (λ _ v. f1 k v))) (λ _ t. then (h0 t) (body n)) (λ _ t. e0 t)
     ∙ sym (then-then (word (bytes "(plan ") s) (λ _ t. h0 t) (body n))
 
 -- a line that begins as a level line is no segment line and no end
-level-no-segment : (s t : List ℕ) → word (bytes "(level") s ≡ got tt t → segmentLine s ≡ nothing
-unfolding segmentLine word
+level-no-segment : (s t : List ℕ) → word (bytes "(level") s ≡ got tt t → segment_line s ≡ nothing
+unfolding segment_line word
 level-no-segment s t e = rw (word-is (bytes "(level") s t e)
 
 level-no-end : (s t : List ℕ) → word (bytes "(level") s ≡ got tt t → word (bytes "(end)\n") s ≡ nothing
@@ -69,23 +69,23 @@ unfolding word
 level-no-end s t e = rw (word-is (bytes "(level") s t e)
 
 module _ (s : List ℕ) where
-  pub form-none : planLine s ≡ nothing → form_of s ≡ none
+  pub form-none : plan_line s ≡ nothing → form_of s ≡ none
   unfolding form_of
   form-none e = rw (plan-text (length s) s, e)
 
-  module _ (h : Header) (t u : List ℕ) (rows : List (List Vertex)) (p : planLine s ≡ got h t) (q : many (length s) (levelLine (length s)) t ≡ got rows u) where
+  module _ (h : Header) (t u : List ℕ) (rows : List (List Vertex)) (p : plan_line s ≡ got h t) (q : many (length s) (level_line (length s)) t ≡ got rows u) where
     pub form-broken : (v : List ℕ) → word (bytes "(level") u ≡ got tt v → form_of s ≡ none
     unfolding form_of
-    form-broken v e = rw (plan-text (length s) s, p, q, many-done segmentLine (length s) u (level-no-segment u v e), level-no-end u v e)
+    form-broken v e = rw (plan-text (length s) s, p, q, many-done segment_line (length s) u (level-no-segment u v e), level-no-end u v e)
 
-    pub form-ends : (segments : List SegmentLine) (at : ℕ) (b : Bool) → many (length s) segmentLine u ≡ got segments (drop at s) → Ends s at b → form_of s ≡ cond b (some (lines_of h rows segments)) none
+    pub form-ends : (segments : List SegmentLine) (at : ℕ) (b : Bool) → many (length s) segment_line u ≡ got segments (drop at s) → Ends s at b → form_of s ≡ cond b (some (lines_of h rows segments)) none
     unfolding form_of
     form-ends segments at b e f = rw (plan-text (length s) s, p, q, e) (f.gives (lines_of h rows segments))
 
 -- ---- the limits
-limits-is : (h : FoundHeader) (r : Rows) (e : Segments) (rows : List (List Vertex)) (segments : List SegmentLine) → r.levels ≡ length rows → r.fit ≡ every rowInLimit rows
-    → r.vertices ≡ length (concat rows) → e.count ≡ length segments → e.fit ≡ every (λ s. ratingInLimit s.rating) segments
-    → inLimits h r e ≡ check2 (record { levels = h.levels; gap = h.gap; spacing = h.spacing; rows = rows; segments = segments })
+limits-is : (h : FoundHeader) (r : Rows) (e : Segments) (rows : List (List Vertex)) (segments : List SegmentLine) → r.levels ≡ length rows → r.fit ≡ every row_in_limit rows
+    → r.vertices ≡ length (concat rows) → e.count ≡ length segments → e.fit ≡ every (λ s. rating_in_limit s.rating) segments
+    → in_limits h r e ≡ check2 (record { levels = h.levels; gap = h.gap; spacing = h.spacing; rows = rows; segments = segments })
 unfolding check2
 limits-is h r e rows segments a b c d f = rw (a, b, c, d, f, concat-length rows)
 
@@ -99,8 +99,8 @@ module _ (s : List ℕ) (sizes : List ℕ) (vias : List Bool) (halves uppers low
 
   module _ (h : FoundHeader) (at next : ℕ) (r : Rows) (e : Segments)
       (R : FindsRows s at r sizes vias halves sizes' vias' halves') (S : FindsSegments s next e uppers lowers ratings uppers' lowers' ratings') (f : r.form ≡ true)
-      (n : maxLevels ≤ length sizes) (i : maxVertices ≤ length vias) (j : maxVertices ≤ length halves) (k : maxSegments ≤ length uppers) (m : maxSegments ≤ length lowers)
-      (w : maxSegments ≤ length ratings) where
+      (n : max_levels ≤ length sizes) (i : max_vertices ≤ length vias) (j : max_vertices ≤ length halves) (k : max_segments ≤ length uppers) (m : max_segments ≤ length lowers)
+      (w : max_segments ≤ length ratings) where
     abbrev found-lines : Lines
     found-lines = record { levels = h.levels; gap = h.gap; spacing = h.spacing; rows = R.rows; segments = S.segments }
 
@@ -109,7 +109,7 @@ module _ (s : List ℕ) (sizes : List ℕ) (vias : List Bool) (halves uppers low
     unfolding stored
     lines-kept o a b c d g t =
         let F = check2-of found-lines t in
-        let top = leb-true h.levels maxLevels (and_right (leb 1 h.levels) (leb h.levels maxLevels) F.levels) in
+        let top = leb-true h.levels max_levels (and_right (leb 1 h.levels) (leb h.levels max_levels) F.levels) in
         let all = concat-length R.rows in
         record {
           levels = a;
@@ -120,15 +120,15 @@ module _ (s : List ℕ) (sizes : List ℕ) (vias : List Bool) (halves uppers low
           segments = rw length-map (g ∙ S.counted);
           lower-ends = rw length-map (g ∙ S.counted);
           rated = rw length-map (g ∙ S.counted);
-          sizes-kept = R.sizes-stored f ∙ sets_over sizes (map length R.rows) (rw length-map (omega (arith, F.counted, top)));
-          vias-kept = R.vias-stored f ∙ sets_over vias (map (λ v. v.via) (concat R.rows)) (rw length-map (omega (arith, F.vertices, all)));
-          halves-kept = R.halves-stored f (R.fit ∙ F.rows) ∙ sets_over halves (map (λ v. v.half) (concat R.rows)) (rw length-map (omega (arith, F.vertices, all)));
-          uppers-kept = S.uppers-stored ∙ sets_over uppers (map (λ x. x.segment.upper) S.segments) (rw length-map (omega (arith, F.segments)));
-          lowers-kept = S.lowers-stored ∙ sets_over lowers (map (λ x. x.segment.lower) S.segments) (rw length-map (omega (arith, F.segments)));
-          ratings-kept = S.ratings-stored ∙ sets_over ratings (map (λ x. ratingOf x.rating) S.segments) (rw length-map (omega (arith, F.segments)));
+          sizes-kept = R.sizes_stored f ∙ sets_over sizes (map length R.rows) (rw length-map (omega (arith, F.counted, top)));
+          vias-kept = R.vias_stored f ∙ sets_over vias (map (λ v. v.via) (concat R.rows)) (rw length-map (omega (arith, F.vertices, all)));
+          halves-kept = R.halves_stored f (R.fit ∙ F.rows) ∙ sets_over halves (map (λ v. v.half) (concat R.rows)) (rw length-map (omega (arith, F.vertices, all)));
+          uppers-kept = S.uppers_stored ∙ sets_over uppers (map (λ x. x.segment.upper) S.segments) (rw length-map (omega (arith, F.segments)));
+          lowers-kept = S.lowers_stored ∙ sets_over lowers (map (λ x. x.segment.lower) S.segments) (rw length-map (omega (arith, F.segments)));
+          ratings-kept = S.ratings_stored ∙ sets_over ratings (map (λ x. rating_of x.rating) S.segments) (rw length-map (omega (arith, F.segments)));
         }
 
-    pub scans-lines : (b : Bool) → b ≡ inLimits h r e → form_of s ≡ some found-lines
+    pub scans-lines : (b : Bool) → b ≡ in_limits h r e → form_of s ≡ some found-lines
         → Scans s (record { form = true; limits = b; levels = h.levels; gap = h.gap; spacing = h.spacing; vertices = r.vertices; segments = e.count }) sizes vias halves uppers lowers ratings sizes' vias' halves' uppers' lowers' ratings'
     scans-lines b q p = record {
       form = rw p;

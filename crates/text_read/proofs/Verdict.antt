@@ -10,17 +10,17 @@ use lib.Dec.{leb}
 use lib.ListN.{length, take, replicate, length-append}
 use lib.Seq.{take_at}
 use Rattle.ints.specs.Lists.{over}
-use Rattle.ints.specs.Refusals.{Test, check, firstRefusal}
+use Rattle.ints.specs.Refusals.{Test, check, first_refusal}
 use Rattle.plan.specs.Plan.{PlanData}
-use Rattle.plan.specs.Stored.{storedPlan}
-use Rattle.plan.specs.Checks.{checksOf, tangledChecksOf}
+use Rattle.plan.specs.Stored.{stored_plan}
+use Rattle.plan.specs.Checks.{checks_of, tangled_checks_of}
 use Rattle.plan.specs.Acceptable.{acceptable}
 use Rattle.plan.specs.inner.Graph.{graph_of}
 use Rattle.plan.proofs.GraphLaws.{same-checks}
 use Rattle.plan.proofs.LimitLaws.{Limits}
 use Rattle.plan.proofs.Sound.{sound}
 use Rattle.text.specs.Form.{Lines, form_of}
-use Rattle.text.specs.Reading.{maxBytes, check2, stored, testsBy, testsOf, accepted, refused, readAs, reading, tangledReading}
+use Rattle.text.specs.Reading.{max_bytes, check2, stored, tests_by, tests_of, accepted, refused, read_as, reading, tangled_reading}
 use Rattle.text_read.specs.inner.Filled.{is_some, Kept, Scans}
 use Rattle.text_read.specs.declared.form.Scanned.{Scanned}
 use Rattle.text.proofs.Words.{never}
@@ -28,34 +28,34 @@ use Rattle.text.proofs.RoundTrip.{Formed, formed-of, read-acceptable}
 use Rattle.text.proofs.WhenRefused.{tangled-passed}
 use Rattle.ints.proofs.Tests.{test}
 use Rattle.text_read.specs.Answer.{plan_of, answer_of}
-use Rattle.text_read.specs.inner.Failed.{Fronts, checksIn}
+use Rattle.text_read.specs.inner.Failed.{Fronts, checks_in}
 use Rattle.text_read.specs.inner.Taken.{InFronts, Accepts}
 use Rattle.text_read.specs.declared.Answer.TheVariants.{Accepted}
 use Rattle.text_read.specs.declared.ReadText.{ReadText}
 
 -- ---- the same first refusal: the same outcome of checks 1 and 2, and the same later checks where they are asked
 agree : {xs ys : List Test} (a b c d : Bool) → a ≡ b → c ≡ d → (c ≡ true → xs ≡ ys)
-    → firstRefusal (check 1 a ∷ check 2 c ∷ xs) ≡ firstRefusal (check 1 b ∷ check 2 d ∷ ys)
-unfolding firstRefusal
+    → first_refusal (check 1 a ∷ check 2 c ∷ xs) ≡ first_refusal (check 1 b ∷ check 2 d ∷ ys)
+unfolding first_refusal
 agree {xs} {ys} a b c d e f g = rw (e, ← f) (by c g)
   where
-    by : (c : Bool) → (c ≡ true → xs ≡ ys) → firstRefusal (check 1 b ∷ check 2 c ∷ xs) ≡ firstRefusal (check 1 b ∷ check 2 c ∷ ys)
+    by : (c : Bool) → (c ≡ true → xs ≡ ys) → first_refusal (check 1 b ∷ check 2 c ∷ xs) ≡ first_refusal (check 1 b ∷ check 2 c ∷ ys)
     by true g = rw (g refl)
     by false g = refl
 
 -- ---- a text by its form and its checks
 module _ (s : List ℕ) where
-  long-reads : maxBytes < length s → (o : Option Lines) → readAs (firstRefusal (testsOf s o)) o ≡ refused 1
-  unfolding testsBy firstRefusal
+  long-reads : max_bytes < length s → (o : Option Lines) → read_as (first_refusal (tests_of s o)) o ≡ refused 1
+  unfolding tests_by first_refusal
   long-reads h none = refl
-  long-reads h (some l) = rw (lt-leb (length s) maxBytes h)
+  long-reads h (some l) = rw (lt-leb (length s) max_bytes h)
 
-  pub reads-long : maxBytes < length s → reading s ≡ refused 1
+  pub reads-long : max_bytes < length s → reading s ≡ refused 1
   unfolding reading
   reads-long h = long-reads h (form_of s)
 
-  none_reads : (o : Option Lines) → is_some o ≡ false → readAs (firstRefusal (testsOf s o)) o ≡ refused 1
-  unfolding testsBy firstRefusal
+  none_reads : (o : Option Lines) → is_some o ≡ false → read_as (first_refusal (tests_of s o)) o ≡ refused 1
+  unfolding tests_by first_refusal
   none_reads none e = refl
   none_reads (some l) e = never (sym e)
 
@@ -63,7 +63,7 @@ module _ (s : List ℕ) where
   unfolding reading
   reads-no-form e = none_reads (form_of s) e
 
-  module _ (l : Lines) (e : form_of s ≡ some l) (n : ℕ) (h : n ≡ firstRefusal (testsOf s (some l))) where
+  module _ (l : Lines) (e : form_of s ≡ some l) (n : ℕ) (h : n ≡ first_refusal (tests_of s (some l))) where
     reads-failed : (n ≡ 0 → ⊥) → reading s ≡ refused n
     unfolding reading
     reads-failed z = rw (e, ← h, ne_eqb n 0 z)
@@ -73,10 +73,10 @@ module _ (s : List ℕ) where
     reads-passed z = rw (e, ← h, eq-eqb n 0 z)
 
 -- a text that passes checks 1 to 5 is not too long
-formed : (s : List ℕ) (p : PlanData) → tangledReading s ≡ accepted p → Formed s p
-formed s p e = (formed-of tangledChecksOf s p ((tangled-passed s p).0 e)).0
+formed : (s : List ℕ) (p : PlanData) → tangled_reading s ≡ accepted p → Formed s p
+formed s p e = (formed-of tangled_checks_of s p ((tangled-passed s p).0 e)).0
 
-pub not-long : {A : Type 0} (s : List ℕ) (p : PlanData) → maxBytes < length s → tangledReading s ≡ accepted p → A
+pub not-long : {A : Type 0} (s : List ℕ) (p : PlanData) → max_bytes < length s → tangled_reading s ≡ accepted p → A
 not-long s p h e = absurd (omega (arith, (formed s p e).short))
 
 -- the lines of a text in the form
@@ -113,15 +113,15 @@ module _ (p : PlanData) (r : Scanned) (sizes : List ℕ) (vias : List Bool) (hal
   kept-fronts a b c = record {
     levels = omega (arith, K.level-lines, within p.sizes sizes sizes' K.sizes-kept);
     vertices = omega (arith, K.vertices, within p.vias vias vias' K.vias-kept);
-    uppers-reach = omega (arith, K.segments, within p.uppers uppers uppers' K.uppers-kept);
-    lowers-reach = omega (arith, K.lower-ends, within p.lowers lowers lowers' K.lowers-kept);
-    few-levels = omega arith;
-    few-vertices = omega arith;
-    few-segments = omega arith;
+    uppers_reach = omega (arith, K.segments, within p.uppers uppers uppers' K.uppers-kept);
+    lowers_reach = omega (arith, K.lower-ends, within p.lowers lowers lowers' K.lowers-kept);
+    few_levels = omega arith;
+    few_vertices = omega arith;
+    few_segments = omega arith;
   }
 
-  kept-checks : checksOf (graph_of (take r.levels sizes') (take r.vertices vias') (take r.segments uppers') (take r.segments lowers')) ≡ checksOf p
-  kept-checks = (λ i. checksOf (graph_of (sizes-front i) (vias-front i) (uppers-front i) (lowers-front i))) ∙ sym (same-checks p)
+  kept-checks : checks_of (graph_of (take r.levels sizes') (take r.vertices vias') (take r.segments uppers') (take r.segments lowers')) ≡ checks_of p
+  kept-checks = (λ i. checks_of (graph_of (sizes-front i) (vias-front i) (uppers-front i) (lowers-front i))) ∙ sym (same-checks p)
 
   halves-count : Limits p → r.vertices ≡ length p.halves
   halves-count l = K.vertices ∙ sym l.halves_long
@@ -134,23 +134,23 @@ module _ (p : PlanData) (r : Scanned) (sizes : List ℕ) (vias : List Bool) (hal
       let l = (sound p ok).limits in
       record {
         lists = record {
-          levelsAre = sym (ap length sizes-front ∙ l.sizes-long);
-          gapIs = sym K.gap;
-          sizesAre = sym sizes-front;
-          viasAre = sym vias-front;
-          halvesAre = sym (halves-front l);
-          uppersAre = sym uppers-front;
-          lowersAre = sym lowers-front;
+          levels_are = sym (ap length sizes-front ∙ l.sizes_long);
+          gap_is = sym K.gap;
+          sizes_are = sym sizes-front;
+          vias_are = sym vias-front;
+          halves_are = sym (halves-front l);
+          uppers_are = sym uppers-front;
+          lowers_are = sym lowers-front;
           ok = ok;
         };
         spaced = sym K.spacing;
         rated = sym ratings-front;
-        sizes-reach = omega (arith, K.level-lines, within p.sizes sizes sizes' K.sizes-kept);
-        vias-reach = omega (arith, K.vertices, within p.vias vias vias' K.vias-kept);
-        halves-reach = omega (arith, halves-count l, within p.halves halves halves' K.halves-kept);
-        uppers-reach = omega (arith, K.segments, within p.uppers uppers uppers' K.uppers-kept);
-        lowers-reach = omega (arith, K.lower-ends, within p.lowers lowers lowers' K.lowers-kept);
-        ratings-reach = omega (arith, K.rated, within p.ratings ratings ratings' K.ratings-kept);
+        sizes_reach = omega (arith, K.level-lines, within p.sizes sizes sizes' K.sizes-kept);
+        vias_reach = omega (arith, K.vertices, within p.vias vias vias' K.vias-kept);
+        halves_reach = omega (arith, halves-count l, within p.halves halves halves' K.halves-kept);
+        uppers_reach = omega (arith, K.segments, within p.uppers uppers uppers' K.uppers-kept);
+        lowers_reach = omega (arith, K.lower-ends, within p.lowers lowers lowers' K.lowers-kept);
+        ratings_reach = omega (arith, K.rated, within p.ratings ratings ratings' K.ratings-kept);
       }
 
 -- what is answered of the data, from arrays that were 0
@@ -159,19 +159,19 @@ module _ (p : PlanData) (r : Scanned) (sizes' : List ℕ) (vias' : List Bool) (h
   pub kept-answer : ◌≡◌ {A = ReadText}
       (record {
         answer = Accepted r.vertices r.segments;
-        plan = storedPlan r.levels r.gap r.spacing sizes' vias' halves' uppers' lowers' ratings';
+        plan = stored_plan r.levels r.gap r.spacing sizes' vias' halves' uppers' lowers' ratings';
       })
       (answer_of (accepted p))
   unfolding answer_of plan_of
   kept-answer = λ i. record {
     answer = Accepted (K.vertices i) (K.segments i);
-    plan = storedPlan (K.levels i) (K.gap i) (K.spacing i) (K.sizes-kept i) (K.vias-kept i) (K.halves-kept i) (K.uppers-kept i) (K.lowers-kept i) (K.ratings-kept i);
+    plan = stored_plan (K.levels i) (K.gap i) (K.spacing i) (K.sizes-kept i) (K.vias-kept i) (K.halves-kept i) (K.uppers-kept i) (K.lowers-kept i) (K.ratings-kept i);
   }
 
 -- ---- a scanned text, and what the program answers of it
 module _ (s : List ℕ) (r : Scanned) (sizes : List ℕ) (vias : List Bool) (halves uppers lowers ratings sizes' : List ℕ) (vias' : List Bool) (halves' uppers' lowers' ratings' : List ℕ)
-    (S : Scans s r sizes vias halves uppers lowers ratings sizes' vias' halves' uppers' lowers' ratings') (short : length s ≤ maxBytes) where
-  pub reads_kept : (p : PlanData) → tangledReading s ≡ accepted p → Kept p r sizes vias halves uppers lowers ratings sizes' vias' halves' uppers' lowers' ratings'
+    (S : Scans s r sizes vias halves uppers lowers ratings sizes' vias' halves' uppers' lowers' ratings') (short : length s ≤ max_bytes) where
+  pub reads_kept : (p : PlanData) → tangled_reading s ≡ accepted p → Kept p r sizes vias halves uppers lowers ratings sizes' vias' halves' uppers' lowers' ratings'
   reads_kept p e = let f = formed s p e in rw f.stores at (S.kept f.lines f.form f.two)
 
   no-form : r.form ≡ false → reading s ≡ refused 1
@@ -193,22 +193,22 @@ module _ (s : List ℕ) (r : Scanned) (sizes : List ℕ) (vias : List Bool) (hal
       the-fronts = kept-fronts (stored the-lines) r sizes vias halves uppers lowers ratings sizes' vias' halves' uppers' lowers' ratings' the_kept
 
     -- what the program found is what the definition finds
-    same_first : firstRefusal (checksIn r sizes' vias' uppers' lowers') ≡ firstRefusal (testsOf s (some the-lines))
-    unfolding testsBy
-    same_first = agree r.form (leb (length s) maxBytes) r.limits (check2 the-lines) (f ∙ sym (le-leb (length s) maxBytes short))
+    same_first : first_refusal (checks_in r sizes' vias' uppers' lowers') ≡ first_refusal (tests_of s (some the-lines))
+    unfolding tests_by
+    same_first = agree r.form (leb (length s) max_bytes) r.limits (check2 the-lines) (f ∙ sym (le-leb (length s) max_bytes short))
         (S.limits the-lines the_form)
         (λ g. kept-checks (stored the-lines) r sizes vias halves uppers lowers ratings sizes' vias' halves' uppers' lowers' ratings' (the_kept g))
 
   -- the number n that the program finds is that of the refusal, and 0 means that there is none
-  module _ (n : ℕ) (h : n ≡ firstRefusal (checksIn r sizes' vias' uppers' lowers')) where
+  module _ (n : ℕ) (h : n ≡ first_refusal (checks_in r sizes' vias' uppers' lowers')) where
     pub check-fails : (n ≡ 0 → ⊥) → reading s ≡ refused n
-    unfolding firstRefusal
+    unfolding first_refusal
     check-fails z = test r.form
         (λ f. reads-failed s (the-lines f) (the_form f) n (h ∙ same_first f) z)
         (λ f. no-form f ∙ ap refused (sym (rw f at h)))
 
     pub all_pass : n ≡ 0 → Accepts s r sizes vias halves uppers lowers ratings sizes' vias' halves' uppers' lowers' ratings'
-    unfolding firstRefusal
+    unfolding first_refusal
     all_pass z = test r.form
         (λ f. test r.limits
         (λ g.

@@ -1,8 +1,8 @@
 // A plan text's form, line by line. What is read goes into lent arrays where it has a place; counts go on, so that the limits
 // are asked once the whole text was read.
 ghost use Rattle.std.specs.Prelude.{◌≡◌, true, ◌+◌, ◌≤◌, ◌<◌, length, set};
-ghost use Rattle.text.specs.Reading.{maxBytes};
-ghost use Rattle.text_read.specs.inner.Filled.{FindsRow, FindsLevel, FindsRows, FindsSegments, inLimits, LongEnough, Scans};
+ghost use Rattle.text.specs.Reading.{max_bytes};
+ghost use Rattle.text_read.specs.inner.Filled.{FindsRow, FindsLevel, FindsRows, FindsSegments, in_limits, LongEnough, Scans};
 
 use plan::data::Plan;
 use plan::limits::row_fits;
@@ -139,7 +139,7 @@ fn level_lines(
     vias: &mut [bool],
     halves: &mut [u16],
 ) -> Rows
-    requires { (from ≤ length text.now) × (length text.now ≤ maxBytes) }
+    requires { (from ≤ length text.now) × (length text.now ≤ max_bytes) }
     ensures { FindsRows text.now from result sizes.old vias.old halves.old sizes.new vias.new halves.new }
 {
     let mut at = from;
@@ -209,7 +209,7 @@ fn segment_lines(
 
 // 2: each number and count within its limit, and K level lines.
 fn in_limits(h: FoundHeader, r: Rows, s: Segments) -> bool
-    ensures { result ≡ inLimits h r s }
+    ensures { result ≡ in_limits h r s }
 {
     let f = both(header_fits(h, r.levels), r.fit);
     let v = both(f, r.vertices <= Plan::MAX_VERTICES);

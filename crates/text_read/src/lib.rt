@@ -2,11 +2,11 @@
 pub mod form;
 
 ghost use Rattle.std.specs.Prelude.{◌≡◌, true};
-ghost use Rattle.ints.specs.Refusals.{firstRefusal};
+ghost use Rattle.ints.specs.Refusals.{first_refusal};
 ghost use Rattle.text.specs.Reading.{refused, reading};
 ghost use Rattle.text_read.specs.Answer.{answer_of};
-ghost use Rattle.text_read.specs.inner.Failed.{Fronts, checksIn};
-ghost use Rattle.text_read.specs.inner.Taken.{Arrays, Finds, refusesBoth};
+ghost use Rattle.text_read.specs.inner.Failed.{Fronts, checks_in};
+ghost use Rattle.text_read.specs.inner.Taken.{Arrays, Finds, refuses_both};
 
 use crate::form::{Scanned, scan};
 use plan::data::Plan;
@@ -50,7 +50,7 @@ fn refuse(n: u32) -> ReadText
 // The number of the first check that a scanned text fails, 0 if it fails none.
 fn first_failed(s: Scanned, sizes: &[u16], vias: &[bool], uppers: &[u32], lowers: &[u32]) -> u32
     requires { s.form ≡ true → s.limits ≡ true → Fronts s sizes.now vias.now uppers.now lowers.now }
-    ensures { result ≡ firstRefusal (checksIn s sizes.now vias.now uppers.now lowers.now) }
+    ensures { result ≡ first_refusal (checks_in s sizes.now vias.now uppers.now lowers.now) }
 {
     let failed = first_of(1, s.form, 2, s.limits);
     if failed != 0 {
@@ -98,7 +98,7 @@ pub fn read_into(
 
 // Whether a text is refused by a check other than 6.
 pub fn refuses_both(failed: u32) -> bool
-    ensures { result ≡ refusesBoth failed }
+    ensures { result ≡ refuses_both failed }
 {
     if failed == 0 {
         return false;

@@ -6,25 +6,25 @@ use native.Mathlib.Omega.{arith}
 use lib.Dec.{eqb}
 use lib.ListN.{length}
 use Rattle.ints.specs.Lists.{concat, over}
-use Rattle.ints.specs.Refusals.{firstRefusal}
+use Rattle.ints.specs.Refusals.{first_refusal}
 use Rattle.plan.specs.Plan.{PlanData}
 use Rattle.plan.proofs.Sound.{sound}
 use Rattle.plan_renumber.proofs.Own.{own}
 use Rattle.plan_untangle.specs.Order.{order, untangled}
 use Rattle.plan_untangle.proofs.Untangled.{order_is, untangled-stays, untangled-own}
-use Rattle.text.specs.Reading.{Reading, accepted, refused, reading, tangledReading}
+use Rattle.text.specs.Reading.{Reading, accepted, refused, reading, tangled_reading}
 use Rattle.text.proofs.BothWays.{taken-both}
 use Rattle.text.proofs.RoundTrip.{read-acceptable}
 use Rattle.text.proofs.Words.{never}
 use Rattle.text_untangle.proofs.ArrayLaws.{untangled-ok}
-use Rattle.text_write.specs.Again.{refusedLine}
+use Rattle.text_write.specs.Again.{refused_line}
 use Rattle.text_write.specs.inner.Written.{Fronts}
-use Rattle.passes.specs.Drawing.{Drawing, drawingOf}
-use Rattle.report.specs.Lines.{reportLines}
+use Rattle.passes.specs.Drawing.{Drawing, drawing_of}
+use Rattle.report.specs.Lines.{report_lines}
 use Rattle.report.specs.Printed as report
-use Rattle.report.specs.Printed.{printedOf, printed}
+use Rattle.report.specs.Printed.{printed_of, printed}
 use Rattle.report_validity.proofs.Drawn.{drawn-valid}
-use Rattle.report_lines.specs.inner.Stored.{maxReport}
+use Rattle.report_lines.specs.inner.Stored.{max_report}
 use Rattle.report_lines.proofs.Lengths.{report-short}
 use Rattle.report_lines.proofs.Printable.{printable, printable-by, stays_by}
 use Rattle.sheet_data.proofs.ReadBack.{preliminary-long, final-long}
@@ -35,103 +35,103 @@ use Rattle.sheet.specs.Tests.{test14}
 use Rattle.sheet.specs.Calls.{TextOut, Writes}
 use Rattle.sheet.specs.inner.Printed.{Prints}
 use Rattle.sheet.proofs.WhenRefused.{given}
-use Rattle.sheet_fit.specs.inner.Fitted.{fittedText}
+use Rattle.sheet_fit.specs.inner.Fitted.{fitted_text}
 use Rattle.sheet_fit.proofs.FitLaws.{fitted-long}
-use Rattle.text_report.specs.Texts.{reportOf}
-use Rattle.text_report.specs.Tangled.{tangledReportOf}
-use Rattle.text_report.specs.inner.Numbered.{reportNumbered}
+use Rattle.text_report.specs.Texts.{report_of}
+use Rattle.text_report.specs.Tangled.{tangled_report_of}
+use Rattle.text_report.specs.inner.Numbered.{report_numbered}
 
 -- ---- a text that is accepted, and one that is refused
 module _ (p : PlanData) where
-  pub report-of : (b : List ℕ) → reportOf (accepted p) b ≡ fittedText (concat (reportLines p (drawingOf p))) b
-  unfolding reportOf
+  pub report-of : (b : List ℕ) → report_of (accepted p) b ≡ fitted_text (concat (report_lines p (drawing_of p))) b
+  unfolding report_of
   report-of b = refl
 
-  pub tangled-of : (b : List ℕ) → tangledReportOf (accepted p) b ≡ fittedText (reportNumbered (untangled p) (order p)) b
-  unfolding tangledReportOf
+  pub tangled-of : (b : List ℕ) → tangled_report_of (accepted p) b ≡ fitted_text (report_numbered (untangled p) (order p)) b
+  unfolding tangled_report_of
   tangled-of b = refl
 
 module _ (n : ℕ) where
-  pub report-not : (b : List ℕ) → Writes (reportOf (refused n) b) (Refused n) b
-  unfolding reportOf
+  pub report-not : (b : List ℕ) → Writes (report_of (refused n) b) (Refused n) b
+  unfolding report_of
   report-not b = record { answered = refl; left = refl }
 
-  pub tangled-not : (b : List ℕ) → Writes (tangledReportOf (refused n) b) (Refused n) b
-  unfolding tangledReportOf
+  pub tangled-not : (b : List ℕ) → Writes (tangled_report_of (refused n) b) (Refused n) b
+  unfolding tangled_report_of
   tangled-not b = record { answered = refl; left = refl }
 
 -- ---- a text that the first way takes has the same report both ways
-pub tangled-same : (s : List ℕ) (p : PlanData) → reading s ≡ accepted p → (b : List ℕ) → tangledReportOf (tangledReading s) b ≡ reportOf (reading s) b
+pub tangled-same : (s : List ℕ) (p : PlanData) → reading s ≡ accepted p → (b : List ℕ) → tangled_report_of (tangled_reading s) b ≡ report_of (reading s) b
 tangled-same s p e b =
     let ok = read-acceptable s p e in
-    let d = drawingOf p in
-    ap (λ g. tangledReportOf g b) (taken-both s p e) ∙ tangled-of p b ∙ ap (λ (q : PlanData). fittedText (reportNumbered q (order p)) b) (untangled-stays p ok)
-    ∙ ap (λ m. fittedText (reportNumbered p m) b) (order_is p ok)
-    ∙ ap (λ (c : Drawing). fittedText (concat (reportLines p c)) b) (stays_by p d (printable p d ok (drawn-valid p ok)) (preliminary-long p ok) (final-long p ok))
-    ∙ sym (report-of p b) ∙ ap (λ g. reportOf g b) (sym e)
+    let d = drawing_of p in
+    ap (λ g. tangled_report_of g b) (taken-both s p e) ∙ tangled-of p b ∙ ap (λ (q : PlanData). fitted_text (report_numbered q (order p)) b) (untangled-stays p ok)
+    ∙ ap (λ m. fitted_text (report_numbered p m) b) (order_is p ok)
+    ∙ ap (λ (c : Drawing). fitted_text (concat (report_lines p c)) b) (stays_by p d (printable p d ok (drawn-valid p ok)) (preliminary-long p ok) (final-long p ok))
+    ∙ sym (report-of p b) ∙ ap (λ g. report_of g b) (sym e)
 
 -- ---- how much it has at most
 module _ (text : List ℕ) where
-  short : (p : PlanData) → reading text ≡ accepted p → length (concat (reportLines p (drawingOf p))) ≤ maxReport
-  short p e = let a = read-acceptable text p e in report-short (printable p (drawingOf p) a (drawn-valid p a))
+  short : (p : PlanData) → reading text ≡ accepted p → length (concat (report_lines p (drawing_of p))) ≤ max_report
+  short p e = let a = read-acceptable text p e in report-short (printable p (drawing_of p) a (drawn-valid p a))
 
-  pub report-few : (b : List ℕ) (n : ℕ) → (reportOf (reading text) b).result ≡ gives n → n ≤ maxReport
-  unfolding reportOf
+  pub report-few : (b : List ℕ) (n : ℕ) → (report_of (reading text) b).result ≡ gives n → n ≤ max_report
+  unfolding report_of
   report-few b n = go (reading text) refl
     where
-      go : (g : Reading) → reading text ≡ g → (reportOf g b).result ≡ gives n → n ≤ maxReport
+      go : (g : Reading) → reading text ≡ g → (report_of g b).result ≡ gives n → n ≤ max_report
       go (accepted p) e h =
-          let w = concat (reportLines p (drawingOf p)) in
-          let r = firstRefusal (test14 w b ∷ []) in
+          let w = concat (report_lines p (drawing_of p)) in
+          let r = first_refusal (test14 w b ∷ []) in
           omega (arith, short p e, given (eqb r 0) r (length w) n h)
       go (refused k) e h = never (cc)
 
-  pub tangled-few : (b : List ℕ) (n : ℕ) → (tangledReportOf (tangledReading text) b).result ≡ gives n → n ≤ maxReport
-  unfolding tangledReportOf
-  tangled-few b n = go (tangledReading text) refl
+  pub tangled-few : (b : List ℕ) (n : ℕ) → (tangled_report_of (tangled_reading text) b).result ≡ gives n → n ≤ max_report
+  unfolding tangled_report_of
+  tangled-few b n = go (tangled_reading text) refl
     where
-      go : (g : Reading) → tangledReading text ≡ g → (tangledReportOf g b).result ≡ gives n → n ≤ maxReport
+      go : (g : Reading) → tangled_reading text ≡ g → (tangled_report_of g b).result ≡ gives n → n ≤ max_report
       go (accepted p) e h =
           let q = untangled p in
           let a = untangled-ok text p e in
-          let w = reportNumbered q (order p) in
-          let o = own q (order p) (sound q a).limits.sizes-sum (untangled-own p) in
-          let s = report-short (printable-by o.once (printable q (drawingOf q) a (drawn-valid q a))) in
-          let r = firstRefusal (test14 w b ∷ []) in
+          let w = report_numbered q (order p) in
+          let o = own q (order p) (sound q a).limits.sizes_sum (untangled-own p) in
+          let s = report-short (printable-by o.once (printable q (drawing_of q) a (drawn-valid q a))) in
+          let r = first_refusal (test14 w b ∷ []) in
           omega (arith, s, given (eqb r 0) r (length w) n h)
       go (refused k) e h = never (cc)
 
 -- ---- what is printed, by what the report answers in a buffer that has room for every report
-module _ (text b out : List ℕ) (m : maxReport ≤ length b) where
+module _ (text b out : List ℕ) (m : max_report ≤ length b) where
   fits : (p : PlanData) → reading text ≡ accepted p
-      → reportOf (accepted p) b ≡ record { result = gives (length (concat (reportLines p (drawingOf p)))); buffer = over (concat (reportLines p (drawingOf p))) b }
-  unfolding reportOf
-  fits p e = let w = concat (reportLines p (drawingOf p)) in fitted-long (length w) w b (omega (arith, short text p e))
+      → report_of (accepted p) b ≡ record { result = gives (length (concat (report_lines p (drawing_of p)))); buffer = over (concat (report_lines p (drawing_of p))) b }
+  unfolding report_of
+  fits p e = let w = concat (report_lines p (drawing_of p)) in fitted-long (length w) w b (omega (arith, short text p e))
 
-  prints-report : (n : ℕ) → Writes (reportOf (reading text) b) (Written n) out → Fronts (printed text) b n out
-  unfolding printed printedOf reportOf
+  prints-report : (n : ℕ) → Writes (report_of (reading text) b) (Written n) out → Fronts (printed text) b n out
+  unfolding printed printed_of report_of
   prints-report n = go (reading text) refl
     where
-      go : (g : Reading) → reading text ≡ g → Writes (reportOf g b) (Written n) out → Fronts (printedOf g) b n out
+      go : (g : Reading) → reading text ≡ g → Writes (report_of g b) (Written n) out → Fronts (printed_of g) b n out
       go (accepted p) e w =
-          let told : gives n ≡ gives (length (concat (reportLines p (drawingOf p)))) = w.answered ∙ ap (λ (o : TextOut). o.result) (fits p e) in
+          let told : gives n ≡ gives (length (concat (report_lines p (drawing_of p)))) = w.answered ∙ ap (λ (o : TextOut). o.result) (fits p e) in
           record { count = cc told; bytes = w.left ∙ ap (λ (o : TextOut). o.buffer) (fits p e) }
       go (refused k) e w = let told : gives n ≡ refuses k = w.answered in never (cc)
 
   -- the line that says so is written after the report was refused
-  prints-refused : (n : ℕ) {r : ℕ} {after : List ℕ} → Writes (reportOf (reading text) b) (Refused n) out → Fronts (refusedLine n) out r after → Fronts (printed text) b r after
-  unfolding printed printedOf reportOf refusedLine report.refusedLine
+  prints-refused : (n : ℕ) {r : ℕ} {after : List ℕ} → Writes (report_of (reading text) b) (Refused n) out → Fronts (refused_line n) out r after → Fronts (printed text) b r after
+  unfolding printed printed_of report_of refused_line report.refused_line
   prints-refused n {r} {after} w f = go (reading text) refl w
     where
-      go : (g : Reading) → reading text ≡ g → Writes (reportOf g b) (Refused n) out → Fronts (printedOf g) b r after
+      go : (g : Reading) → reading text ≡ g → Writes (report_of g b) (Refused n) out → Fronts (printed_of g) b r after
       go (accepted p) e w =
-          let told : refuses n ≡ gives (length (concat (reportLines p (drawingOf p)))) = w.answered ∙ ap (λ (o : TextOut). o.result) (fits p e) in
+          let told : refuses n ≡ gives (length (concat (report_lines p (drawing_of p)))) = w.answered ∙ ap (λ (o : TextOut). o.result) (fits p e) in
           never (cc)
       go (refused k) e w =
           let told : refuses n ≡ refuses k = w.answered in
           let same : n ≡ k = cc told in
           rw (same, w.left) at f
 
-  pub prints : (a : LineAnswer) {r : ℕ} {after : List ℕ} → Writes (reportOf (reading text) b) a out → Prints a out r after → Fronts (printed text) b r after
+  pub prints : (a : LineAnswer) {r : ℕ} {after : List ℕ} → Writes (report_of (reading text) b) a out → Prints a out r after → Fronts (printed text) b r after
   prints (Written n) w h = rw (h.0, h.1) (prints-report n w)
   prints (Refused n) w h = prints-refused n w h

@@ -1,10 +1,10 @@
 // The report of a text that may be tangled.
-ghost use Rattle.plan.specs.inner.Held.{heldPlan};
-ghost use Rattle.text.specs.Reading.{tangledReading};
+ghost use Rattle.plan.specs.inner.Held.{held_plan};
+ghost use Rattle.text.specs.Reading.{tangled_reading};
 ghost use Rattle.sheet.specs.Calls.{Writes};
-ghost use Rattle.sheet_fit.specs.inner.Fitted.{fittedText};
-ghost use Rattle.text_report.specs.Tangled.{tangledReportOf};
-ghost use Rattle.text_report.specs.inner.Numbered.{Remembers, reportNumbered};
+ghost use Rattle.sheet_fit.specs.inner.Fitted.{fitted_text};
+ghost use Rattle.text_report.specs.Tangled.{tangled_report_of};
+ghost use Rattle.text_report.specs.inner.Numbered.{Remembers, report_numbered};
 
 use pass_draw::draw::draw;
 use plan::data::Plan;
@@ -27,8 +27,8 @@ fn report_untangled(
     numbers: &[u16],
     out: &mut [u8],
 ) -> LineAnswer
-    requires { Remembers (heldPlan gap spacing sizes.now vias.now halves.now uppers.now lowers.now ratings.now) numbers.now }
-    ensures { Writes (fittedText (reportNumbered (heldPlan gap spacing sizes.now vias.now halves.now uppers.now
+    requires { Remembers (held_plan gap spacing sizes.now vias.now halves.now uppers.now lowers.now ratings.now) numbers.now }
+    ensures { Writes (fitted_text (report_numbered (held_plan gap spacing sizes.now vias.now halves.now uppers.now
         lowers.now ratings.now) numbers.now) out.old) result out.new }
 {
     let v = vias.len();
@@ -73,7 +73,7 @@ fn report_untangled(
 // All report lines of a text that may be tangled in a lent buffer, with their length; later bytes stay. Refused 1 to 5 or 14, the buffer
 // stays as it is.
 pub fn report_tangled_text(text: &[u8], out: &mut [u8]) -> LineAnswer
-    ensures { Writes (tangledReportOf (tangledReading text.now) out.old) result out.new }
+    ensures { Writes (tangled_report_of (tangled_reading text.now) out.old) result out.new }
 {
     let mut sizes = [0u16; Plan::MAX_LEVELS];
     let mut vias = [false; Plan::MAX_VERTICES];

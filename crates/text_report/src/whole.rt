@@ -1,10 +1,10 @@
 // The report of a text.
 ghost use Rattle.std.specs.Prelude.{◌≡◌, true};
 ghost use Rattle.plan.specs.Acceptable.{acceptable};
-ghost use Rattle.plan.specs.inner.Held.{heldPlan};
+ghost use Rattle.plan.specs.inner.Held.{held_plan};
 ghost use Rattle.text.specs.Reading.{accepted, reading};
 ghost use Rattle.sheet.specs.Calls.{Writes};
-ghost use Rattle.text_report.specs.Texts.{reportOf};
+ghost use Rattle.text_report.specs.Texts.{report_of};
 
 use pass_draw::draw::draw;
 use plan::data::Plan;
@@ -26,8 +26,8 @@ fn report_plan(
     ratings: &[u32],
     out: &mut [u8],
 ) -> LineAnswer
-    requires { acceptable (heldPlan gap spacing sizes.now vias.now halves.now uppers.now lowers.now ratings.now) ≡ true }
-    ensures { Writes (reportOf (accepted (heldPlan gap spacing sizes.now vias.now halves.now uppers.now
+    requires { acceptable (held_plan gap spacing sizes.now vias.now halves.now uppers.now lowers.now ratings.now) ≡ true }
+    ensures { Writes (report_of (accepted (held_plan gap spacing sizes.now vias.now halves.now uppers.now
         lowers.now ratings.now)) out.old) result out.new }
 {
     let v = vias.len();
@@ -71,7 +71,7 @@ fn report_plan(
 // All report lines of the text's plan in a lent buffer, with their length; later bytes stay. Refused 1 to 6 or 14, the buffer stays
 // as it is.
 pub fn report_text(text: &[u8], out: &mut [u8]) -> LineAnswer
-    ensures { Writes (reportOf (reading text.now) out.old) result out.new }
+    ensures { Writes (report_of (reading text.now) out.old) result out.new }
 {
     let mut sizes = [0u16; Plan::MAX_LEVELS];
     let mut vias = [false; Plan::MAX_VERTICES];

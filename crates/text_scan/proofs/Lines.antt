@@ -7,8 +7,8 @@ use Prim.Native.Nat.{ℕ, ◌+◌, ◌<◌}
 use lib.ListN.{length, drop, drop_of_length-le}
 use Rattle.text.specs.Bytes.{bytes}
 use Rattle.text.specs.Parser.{Got, got, nothing, Rule, give, then, either, word, number}
-use Rattle.text.specs.Form.{Vertex, SegmentLine, box, via, rating, segmentLine}
-use Rattle.text_scan.specs.inner.Scanned.{Finds, HasWord, numberThen, vertex, planLine, Ends}
+use Rattle.text.specs.Form.{Vertex, SegmentLine, box, via, rating, segment_line}
+use Rattle.text_scan.specs.inner.Scanned.{Finds, HasWord, number_then, vertex, plan_line, Ends}
 use native.Mathlib.Omega.{arith}
 use lib.Seq.{drop-cons}
 
@@ -44,21 +44,21 @@ then-cond false a s f = refl
 
 -- ---- a number and a word
 module _ (w s : List ℕ) where
-  pub then-none : number s ≡ nothing → numberThen w s ≡ nothing
-  unfolding numberThen
+  pub then-none : number s ≡ nothing → number_then w s ≡ nothing
+  unfolding number_then
   then-none e = rw e
 
-  pub then-not : (n : ℕ) (t : List ℕ) → number s ≡ got n t → word w t ≡ nothing → numberThen w s ≡ nothing
-  unfolding numberThen
+  pub then-not : (n : ℕ) (t : List ℕ) → number s ≡ got n t → word w t ≡ nothing → number_then w s ≡ nothing
+  unfolding number_then
   then-not n t e f = rw (e, f)
 
-  pub then_found : (n : ℕ) (t u : List ℕ) → number s ≡ got n t → word w t ≡ got tt u → numberThen w s ≡ got n u
-  unfolding numberThen
+  pub then_found : (n : ℕ) (t u : List ℕ) → number s ≡ got n t → word w t ≡ got tt u → number_then w s ≡ got n u
+  unfolding number_then
   then_found n t u e f = rw (e, f)
 
 -- a rule that goes on after a number and a word
-pub number-then : {B : Type 0} (w s : List ℕ) (k : ℕ → Rule B) → then (number s) (λ n t. then (word w t) (λ _ u. k n u)) ≡ then (numberThen w s) k
-unfolding numberThen
+pub number-then : {B : Type 0} (w s : List ℕ) (k : ℕ → Rule B) → then (number s) (λ n t. then (word w t) (λ _ u. k n u)) ≡ then (number_then w s) k
+unfolding number_then
 number-then w s k =
     then_same (number s) (λ n t. then (word w t) (λ _ u. k n u)) (λ n t. then (then (word w t) (λ _ u. got n u)) k) (λ n t. sym (then-then (word w t) (λ _ u. got n u) k))
     ∙ sym (then-then (number s) (λ n t. then (word w t) (λ _ u. got n u)) k)
@@ -69,7 +69,7 @@ module _ (s : List ℕ) where
   unfolding box
   box-none e = rw e
 
-  pub box-gives : (f : Bool) (n : ℕ) (t u : List ℕ) → word (bytes " (box ") s ≡ got tt t → numberThen (bytes ")") t ≡ cond f (got n u) nothing
+  pub box-gives : (f : Bool) (n : ℕ) (t u : List ℕ) → word (bytes " (box ") s ≡ got tt t → number_then (bytes ")") t ≡ cond f (got n u) nothing
       → box s ≡ cond f (got (record { via = false; half = n }) u) nothing
   unfolding box
   box-gives f n t u e g =
@@ -107,8 +107,8 @@ module _ (s : List ℕ) where
 
 -- ---- a segment line
 module _ (s : List ℕ) where
-  pub segment-none : word (bytes "(seg ") s ≡ nothing → segmentLine s ≡ nothing
-  unfolding segmentLine
+  pub segment-none : word (bytes "(seg ") s ≡ nothing → segment_line s ≡ nothing
+  unfolding segment_line
   segment-none e = rw e
 
   module _ (t : List ℕ) (e : word (bytes "(seg ") s ≡ got tt t) where
@@ -119,45 +119,45 @@ module _ (s : List ℕ) where
     abbrev rest : ℕ → Rule SegmentLine
     rest a u = then (number u) (λ b v. then (either rating (give none) v) (λ w x. then (word (bytes ")\n") x) (λ _ y. got (line_of a b w) y)))
 
-    segment-opens : segmentLine s ≡ then (numberThen (bytes " ") t) rest
-    unfolding segmentLine
+    segment-opens : segment_line s ≡ then (number_then (bytes " ") t) rest
+    unfolding segment_line
     segment-opens = rw e (number-then (bytes " ") t rest)
 
-    pub segment-not : numberThen (bytes " ") t ≡ nothing → segmentLine s ≡ nothing
+    pub segment-not : number_then (bytes " ") t ≡ nothing → segment_line s ≡ nothing
     segment-not f = segment-opens ∙ rw f
 
-    module _ (a : ℕ) (u : List ℕ) (f : numberThen (bytes " ") t ≡ got a u) where
-      pub segment-no-lower : number u ≡ nothing → segmentLine s ≡ nothing
+    module _ (a : ℕ) (u : List ℕ) (f : number_then (bytes " ") t ≡ got a u) where
+      pub segment-no-lower : number u ≡ nothing → segment_line s ≡ nothing
       segment-no-lower g = segment-opens ∙ rw (f, g)
 
       module _ (b : ℕ) (w : Option ℕ) (v x : List ℕ) (g : number u ≡ got b v) (h : either rating (give none) v ≡ got w x) where
-        segment-ends : segmentLine s ≡ then (word (bytes ")\n") x) (λ _ y. got (line_of a b w) y)
+        segment-ends : segment_line s ≡ then (word (bytes ")\n") x) (λ _ y. got (line_of a b w) y)
         segment-ends = segment-opens ∙ rw (f, g, h)
 
-        pub segment-open : word (bytes ")\n") x ≡ nothing → segmentLine s ≡ nothing
+        pub segment-open : word (bytes ")\n") x ≡ nothing → segment_line s ≡ nothing
         segment-open i = segment-ends ∙ rw i
 
-        pub segment-found : (y : List ℕ) → word (bytes ")\n") x ≡ got tt y → segmentLine s ≡ got (line_of a b w) y
+        pub segment-found : (y : List ℕ) → word (bytes ")\n") x ≡ got tt y → segment_line s ≡ got (line_of a b w) y
         segment-found y i = segment-ends ∙ rw i
 
 -- ---- the plan line
 module _ (s : List ℕ) where
-  pub plan-none : word (bytes "(plan ") s ≡ nothing → planLine s ≡ nothing
-  unfolding planLine
+  pub plan-none : word (bytes "(plan ") s ≡ nothing → plan_line s ≡ nothing
+  unfolding plan_line
   plan-none e = rw e
 
   module _ (t : List ℕ) (e : word (bytes "(plan ") s ≡ got tt t) where
-    pub plan-no-levels : numberThen (bytes " ") t ≡ nothing → planLine s ≡ nothing
-    unfolding planLine
+    pub plan-no-levels : number_then (bytes " ") t ≡ nothing → plan_line s ≡ nothing
+    unfolding plan_line
     plan-no-levels f = rw (e, f)
 
-    pub plan-no-gap : (k : ℕ) (u : List ℕ) → numberThen (bytes " ") t ≡ got k u → numberThen (bytes " ") u ≡ nothing → planLine s ≡ nothing
-    unfolding planLine
+    pub plan-no-gap : (k : ℕ) (u : List ℕ) → number_then (bytes " ") t ≡ got k u → number_then (bytes " ") u ≡ nothing → plan_line s ≡ nothing
+    unfolding plan_line
     plan-no-gap k u f g = rw (e, f, g)
 
-    pub plan-gives : (b : Bool) (k g d : ℕ) (u v w : List ℕ) → numberThen (bytes " ") t ≡ got k u → numberThen (bytes " ") u ≡ got g v → numberThen (bytes ")\n") v ≡ cond b (got d w) nothing
-        → planLine s ≡ cond b (got (record { levels = k; gap = g; spacing = d }) w) nothing
-    unfolding planLine
+    pub plan-gives : (b : Bool) (k g d : ℕ) (u v w : List ℕ) → number_then (bytes " ") t ≡ got k u → number_then (bytes " ") u ≡ got g v → number_then (bytes ")\n") v ≡ cond b (got d w) nothing
+        → plan_line s ≡ cond b (got (record { levels = k; gap = g; spacing = d }) w) nothing
+    unfolding plan_line
     plan-gives b k g d u v w f h i = rw (e, f, h, i) (then-cond b d w (λ x. record { levels = k; gap = g; spacing = x }))
 
 -- ---- the end

@@ -1,7 +1,7 @@
 // Whether what was found is within its limits: the questions of check 2 that are asked line by line.
 ghost use Rattle.std.specs.Prelude.{◌≡◌, true, ◌&&◌};
-ghost use Rattle.text.specs.Reading.{halfInLimit, ratingInLimit, ratingOf};
-ghost use Rattle.text_scan.specs.inner.Scanned.{vertexOf, segmentOf, headerInLimits};
+ghost use Rattle.text.specs.Reading.{half_in_limit, rating_in_limit, rating_of};
+ghost use Rattle.text_scan.specs.inner.Scanned.{vertex_of, segment_of, header_in_limits};
 
 use crate::scanners::{FoundHeader, FoundSegment, FoundVertex};
 use plan::data::Plan;
@@ -10,14 +10,14 @@ use plan::numbers::wide;
 
 // "half-width 1 to 200"
 pub fn half_fits(v: FoundVertex) -> bool
-    ensures { result ≡ halfInLimit (vertexOf v) }
+    ensures { result ≡ half_in_limit (vertex_of v) }
 {
     v.via || half_width_fits(v.half)
 }
 
 // The half-width that is stored of a vertex within the limits.
 pub fn half_of(v: FoundVertex) -> u16
-    ensures { halfInLimit (vertexOf v) ≡ true → result ≡ (vertexOf v).half }
+    ensures { half_in_limit (vertex_of v) ≡ true → result ≡ (vertex_of v).half }
 {
     if v.via {
         return 0;
@@ -33,13 +33,13 @@ const LEAST_WRITTEN: u32 = 2;
 
 // "with W from 2 to 100; without one it has rating 1, never written."
 pub fn rating_in_limit(s: FoundSegment) -> bool
-    ensures { result ≡ ratingInLimit (segmentOf s).rating }
+    ensures { result ≡ rating_in_limit (segment_of s).rating }
 {
     !s.rated || rating_fits(LEAST_WRITTEN, s.rating)
 }
 
 pub fn rating_of(s: FoundSegment) -> u32
-    ensures { result ≡ ratingOf (segmentOf s).rating }
+    ensures { result ≡ rating_of (segment_of s).rating }
 {
     if s.rated { s.rating } else { 1 }
 }
@@ -52,7 +52,7 @@ pub fn both(a: bool, b: bool) -> bool
 
 // K, G and S, and K level lines.
 pub fn header_fits(h: FoundHeader, lines: usize) -> bool
-    ensures { result ≡ headerInLimits h lines }
+    ensures { result ≡ header_in_limits h lines }
 {
     let fit = numbers_fit(h.levels, h.gap, h.spacing);
     both(fit, lines == wide(h.levels))

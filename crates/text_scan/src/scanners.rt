@@ -1,8 +1,8 @@
 // What stands at a position of a plan text: words, numbers, vertices and lines. A position is at most the text's length.
 ghost use Rattle.std.specs.Prelude.{◌≡◌, ◌+◌, ◌≤◌, ◌<◌, length, get_or, true, ◌&&◌};
-ghost use Rattle.text.specs.Parser.{isDigit, number};
-ghost use Rattle.text.specs.Form.{box, segmentLine};
-ghost use Rattle.text_scan.specs.inner.Scanned.{Finds, HasWord, MoreDigits, numberThen, vertex, vertexOf, MayRate, segmentOf, planLine, headerOf, Ends};
+ghost use Rattle.text.specs.Parser.{is_digit, number};
+ghost use Rattle.text.specs.Form.{box, segment_line};
+ghost use Rattle.text_scan.specs.inner.Scanned.{Finds, HasWord, MoreDigits, number_then, vertex, vertex_of, MayRate, segment_of, plan_line, header_of, Ends};
 
 // A number, and the position past it.
 #[derive(Drop)]
@@ -38,7 +38,7 @@ fn byte_at(text: &[u8], at: usize) -> u8
 }
 
 fn is_digit(b: u8) -> bool
-    ensures { result ≡ isDigit b }
+    ensures { result ≡ is_digit b }
 {
     48 <= b && b <= 57
 }
@@ -103,7 +103,7 @@ pub fn number_at(text: &[u8], at: usize) -> FoundNumber
 // A number with a word after it.
 pub fn number_then(text: &[u8], at: usize, word: &[u8]) -> FoundNumber
     requires { at ≤ length text.now }
-    ensures { Finds (numberThen word.now) text.now at result.found result.value result.next }
+    ensures { Finds (number_then word.now) text.now at result.found result.value result.next }
 {
     let n = number_at(text, at);
     if !n.found {
@@ -135,7 +135,7 @@ pub struct FoundVertex {
 // " (box 3)"
 fn box_at(text: &[u8], at: usize) -> FoundVertex
     requires { at ≤ length text.now }
-    ensures { Finds box text.now at result.found (vertexOf result) result.next }
+    ensures { Finds box text.now at result.found (vertex_of result) result.next }
 {
     if !word_at(text, at, b" (box ") {
         return FoundVertex {
@@ -157,7 +157,7 @@ fn box_at(text: &[u8], at: usize) -> FoundVertex
 // " (box 3)" or " (via)"
 pub fn vertex_at(text: &[u8], at: usize) -> FoundVertex
     requires { at ≤ length text.now }
-    ensures { Finds vertex text.now at result.found (vertexOf result) result.next }
+    ensures { Finds vertex text.now at result.found (vertex_of result) result.next }
 {
     let b = box_at(text, at);
     if b.found {
@@ -210,7 +210,7 @@ pub struct FoundSegment {
 // "(seg A B)" or "(seg A B W)"
 pub fn segment_at(text: &[u8], at: usize) -> FoundSegment
     requires { at ≤ length text.now }
-    ensures { Finds segmentLine text.now at result.found (segmentOf result) result.next }
+    ensures { Finds segment_line text.now at result.found (segment_of result) result.next }
 {
     let none = FoundSegment {
         found: false,
@@ -258,7 +258,7 @@ pub struct FoundHeader {
 // "(plan K G S)"
 pub fn header_at(text: &[u8], at: usize) -> FoundHeader
     requires { at ≤ length text.now }
-    ensures { Finds planLine text.now at result.found (headerOf result) result.next }
+    ensures { Finds plan_line text.now at result.found (header_of result) result.next }
 {
     let none = FoundHeader {
         found: false,

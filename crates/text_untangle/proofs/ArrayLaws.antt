@@ -7,30 +7,30 @@ use native.Mathlib.Omega.{arith}
 use lib.ListN.{length, take, drop, replicate}
 use lib.Seq.{drop_at, length-take-le}
 use Rattle.ints.specs.Lists.{over}
-use Rattle.ints.specs.Ratings.{allRatings}
-use Rattle.plan.specs.Limits.{maxVertices}
+use Rattle.ints.specs.Ratings.{all_ratings}
+use Rattle.plan.specs.Limits.{max_vertices}
 use Rattle.plan.specs.Acceptable.{acceptable}
 use Rattle.plan.specs.Plan.{PlanData}
-use Rattle.plan.specs.Stored.{storedPlan}
+use Rattle.plan.specs.Stored.{stored_plan}
 use Rattle.plan.proofs.LimitLaws.{Limits, limits}
 use Rattle.plan_renumber.specs.inner.Words.{EachRated}
 use Rattle.plan_renumber.proofs.Kept.{header-same}
 use Rattle.plan_untangle.specs.Order.{order, untangled}
 use Rattle.plan_untangle.specs.inner.Arrays.{Untangles}
 use Rattle.plan_untangle.proofs.Untangled.{untangled-acceptable}
-use Rattle.text.specs.Reading.{accepted, tangledReading}
+use Rattle.text.specs.Reading.{accepted, tangled_reading}
 use Rattle.text.proofs.RoundTrip.{tangled-limits, tangled-through}
 use Rattle.text_read.specs.Answer.{answer_of}
 use Rattle.text_read.specs.declared.Answer.TheVariants.{Accepted}
 use Rattle.text_read.specs.inner.Filled.{Kept}
 use Rattle.text_read.specs.declared.form.Scanned.{Scanned}
 use Rattle.text_read.proofs.Verdict.{in-fronts, kept-answer, within, sizes-front, vias-front, halves-front, uppers-front, lowers-front, ratings-front}
-use Rattle.text_untangle.specs.Untangled.{untangledAnswer}
+use Rattle.text_untangle.specs.Untangled.{untangled_answer}
 use Rattle.text_untangle.specs.declared.ReadTangled.{ReadTangled}
 use Rattle.text_untangle.specs.inner.Fronts.{TangledIn, Front, UntangledIn, AcceptsTangled}
 
 -- what passes checks 1 to 5 is acceptable once it is untangled
-pub untangled-ok : (s : List ℕ) (p : PlanData) → tangledReading s ≡ accepted p → acceptable (untangled p) ≡ true
+pub untangled-ok : (s : List ℕ) (p : PlanData) → tangled_reading s ≡ accepted p → acceptable (untangled p) ≡ true
 untangled-ok s p e = let t = tangled-through s p e in untangled-acceptable p (tangled-limits s p e) t.three t.four t.five
 
 -- ---- the front of an array written anew
@@ -48,37 +48,37 @@ put-again {A} xs ys o mid new n e f p =
     p.written ∙ ap (λ (l : List A). xs ++ l) rest
 
 -- ---- the arrays of the two plans
-module _ (s : List ℕ) (p : PlanData) (e : tangledReading s ≡ accepted p) (r : Scanned) (sizes : List ℕ) (vias : List Bool) (halves uppers lowers ratings sizes' : List ℕ)
+module _ (s : List ℕ) (p : PlanData) (e : tangled_reading s ≡ accepted p) (r : Scanned) (sizes : List ℕ) (vias : List Bool) (halves uppers lowers ratings sizes' : List ℕ)
     (vias' : List Bool) (halves' uppers' lowers' ratings' : List ℕ) (K : Kept p r sizes vias halves uppers lowers ratings sizes' vias' halves' uppers' lowers' ratings') where
   the-limits : Limits p
   the-limits = limits p (tangled-limits s p e)
 
-  pub tangled-in : (numbers : List ℕ) → length numbers ≡ maxVertices → TangledIn p r sizes' vias' halves' uppers' lowers' ratings' numbers
+  pub tangled-in : (numbers : List ℕ) → length numbers ≡ max_vertices → TangledIn p r sizes' vias' halves' uppers' lowers' ratings' numbers
   tangled-in numbers n =
       let l = the-limits in
       let t = tangled-through s p e in
-      let sizesAre = sizes-front p r sizes vias halves uppers lowers ratings sizes' vias' halves' uppers' lowers' ratings' K in
+      let sizes_are = sizes-front p r sizes vias halves uppers lowers ratings sizes' vias' halves' uppers' lowers' ratings' K in
       record {
         lists = record {
-          levelsAre = sym (ap length sizesAre ∙ l.sizes-long);
-          sizesAre = sym sizesAre;
-          viasAre = sym (vias-front p r sizes vias halves uppers lowers ratings sizes' vias' halves' uppers' lowers' ratings' K);
-          uppersAre = sym (uppers-front p r sizes vias halves uppers lowers ratings sizes' vias' halves' uppers' lowers' ratings' K);
-          lowersAre = sym (lowers-front p r sizes vias halves uppers lowers ratings sizes' vias' halves' uppers' lowers' ratings' K);
+          levels_are = sym (ap length sizes_are ∙ l.sizes_long);
+          sizes_are = sym sizes_are;
+          vias_are = sym (vias-front p r sizes vias halves uppers lowers ratings sizes' vias' halves' uppers' lowers' ratings' K);
+          uppers_are = sym (uppers-front p r sizes vias halves uppers lowers ratings sizes' vias' halves' uppers' lowers' ratings' K);
+          lowers_are = sym (lowers-front p r sizes vias halves uppers lowers ratings sizes' vias' halves' uppers' lowers' ratings' K);
           limits = tangled-limits s p e;
           three = t.three;
           four = t.four;
           five = t.five;
         };
-        halvesAre = sym (halves-front p r sizes vias halves uppers lowers ratings sizes' vias' halves' uppers' lowers' ratings' K l);
-        ratingsAre = sym (ratings-front p r sizes vias halves uppers lowers ratings sizes' vias' halves' uppers' lowers' ratings' K);
-        sizes-reach = omega (arith, K.level-lines, within p.sizes sizes sizes' K.sizes-kept);
-        vias-reach = omega (arith, K.vertices, within p.vias vias vias' K.vias-kept);
-        halves-reach = omega (arith, K.vertices, l.halves_long, within p.halves halves halves' K.halves-kept);
-        uppers-reach = omega (arith, K.segments, within p.uppers uppers uppers' K.uppers-kept);
-        lowers-reach = omega (arith, K.lower-ends, within p.lowers lowers lowers' K.lowers-kept);
-        ratings-reach = omega (arith, K.rated, within p.ratings ratings ratings' K.ratings-kept);
-        numbers-reach = omega (arith, K.vertices, l.vertices);
+        halves_are = sym (halves-front p r sizes vias halves uppers lowers ratings sizes' vias' halves' uppers' lowers' ratings' K l);
+        ratings_are = sym (ratings-front p r sizes vias halves uppers lowers ratings sizes' vias' halves' uppers' lowers' ratings' K);
+        sizes_reach = omega (arith, K.level-lines, within p.sizes sizes sizes' K.sizes-kept);
+        vias_reach = omega (arith, K.vertices, within p.vias vias vias' K.vias-kept);
+        halves_reach = omega (arith, K.vertices, l.halves_long, within p.halves halves halves' K.halves-kept);
+        uppers_reach = omega (arith, K.segments, within p.uppers uppers uppers' K.uppers-kept);
+        lowers_reach = omega (arith, K.lower-ends, within p.lowers lowers lowers' K.lowers-kept);
+        ratings_reach = omega (arith, K.rated, within p.ratings ratings ratings' K.ratings-kept);
+        numbers_reach = omega (arith, K.vertices, l.vertices);
       }
 
   module _ (numbers : List ℕ) (vias'' : List Bool) (halves'' uppers'' lowers'' ratings'' numbers'' : List ℕ)
@@ -121,8 +121,8 @@ pub rated-fronts : {p : PlanData} {r : Scanned} {sizes : List ℕ} {vias : List 
 rated-fronts {p} t =
     let l = limits p t.lists.limits in
     record {
-      long = ap length (sym t.ratingsAre) ∙ l.ratings-long ∙ ap length t.lists.uppersAre;
-      each = ap allRatings (sym t.ratingsAre) ∙ l.ratings;
+      long = ap length (sym t.ratings_are) ∙ l.ratings_long ∙ ap length t.lists.uppers_are;
+      each = ap all_ratings (sym t.ratings_are) ∙ l.ratings;
     }
 
 -- ---- the parts lent are those of the untangled plan
@@ -133,12 +133,12 @@ pub untangled-in : (p : PlanData) (r : Scanned) (sizes : List ℕ) (vias : List 
     → UntangledIn p r vias halves uppers lowers ratings numbers (vias' ++ drop r.vertices vias) (halves' ++ drop r.vertices halves)
     (uppers' ++ drop r.segments uppers) (lowers' ++ drop r.segments lowers) (ratings' ++ drop r.segments ratings) (numbers' ++ drop r.vertices numbers)
 untangled-in p r sizes vias halves uppers lowers ratings numbers t vias' halves' uppers' lowers' ratings' numbers' u a b c d w f = record {
-  vias-put = front-put (untangled p).vias vias' vias r.vertices u.lists.viasAre a t.vias-reach;
-  halves-put = front-put (untangled p).halves halves' halves r.vertices u.lists.halvesAre b t.halves-reach;
-  uppers-put = front-put (untangled p).uppers uppers' uppers r.segments u.lists.uppersAre c t.uppers-reach;
-  lowers-put = front-put (untangled p).lowers lowers' lowers r.segments u.lists.lowersAre d t.lowers-reach;
-  ratings-put = front-put (untangled p).ratings ratings' ratings r.segments u.lists.ratingsAre w t.ratings-reach;
-  numbers-put = front-put (order p) numbers' numbers r.vertices (sym u.numbersAre) f t.numbers-reach;
+  vias-put = front-put (untangled p).vias vias' vias r.vertices u.lists.vias_are a t.vias_reach;
+  halves-put = front-put (untangled p).halves halves' halves r.vertices u.lists.halves_are b t.halves_reach;
+  uppers-put = front-put (untangled p).uppers uppers' uppers r.segments u.lists.uppers_are c t.uppers_reach;
+  lowers-put = front-put (untangled p).lowers lowers' lowers r.segments u.lists.lowers_are d t.lowers_reach;
+  ratings-put = front-put (untangled p).ratings ratings' ratings r.segments u.lists.ratings_are w t.ratings_reach;
+  numbers-put = front-put (order p) numbers' numbers r.vertices (sym u.numbers_are) f t.numbers_reach;
 }
 
 -- ---- what is answered, from arrays that were 0
@@ -148,11 +148,11 @@ pub tangled-answer : (p : PlanData) (r : Scanned) (sizes : List ℕ) (vias : Lis
     → ◌≡◌ {A = ReadTangled}
     (record {
       answer = Accepted r.vertices r.segments;
-      plan = storedPlan r.levels r.gap r.spacing sizes vias halves uppers lowers ratings;
+      plan = stored_plan r.levels r.gap r.spacing sizes vias halves uppers lowers ratings;
       numbers = numbers;
     })
-    (untangledAnswer (accepted p))
-unfolding untangledAnswer answer_of
+    (untangled_answer (accepted p))
+unfolding untangled_answer answer_of
 tangled-answer p r sizes vias halves uppers lowers ratings K numbers e =
     let a = kept-answer (untangled p) r sizes vias halves uppers lowers ratings K in
     λ i. record { answer = (a i).answer; plan = (a i).plan; numbers = e i }

@@ -2,7 +2,7 @@
 -- the text is refused or a buffer is too short both stay as they are.
 use Rattle.std.specs.Prelude.{◌≡◌, cond, ◌&&◌, List, ℕ, leb, length}
 use Rattle.ints.specs.Lists.{over}
-use Rattle.plan.specs.Plan.{vertexCount}
+use Rattle.plan.specs.Plan.{vertex_count}
 use Rattle.plan_untangle.specs.Order.{order, untangled}
 use Rattle.text.specs.Reading.{Reading, accepted, refused}
 use Rattle.text.specs.Writing.{text_of}
@@ -15,12 +15,12 @@ pub record Left : Type 0 where
   pub buffer : List ℕ
   pub numbers : List ℕ
 
-unfoldable pub untangledText : Reading → List ℕ → List ℕ → Left
-untangledText (accepted p) o m =
+unfoldable pub untangled_text : Reading → List ℕ → List ℕ → Left
+untangled_text (accepted p) o m =
     let text = text_of (untangled p) in
     let written : Left = record { answer = Written (length text); buffer = over text o; numbers = over (order p) m } in
-    cond (leb (length text) (length o) && leb (vertexCount p) (length m)) written (record { answer = Short; buffer = o; numbers = m })
-untangledText (refused n) o m = record { answer = Refused n; buffer = o; numbers = m }
+    cond (leb (length text) (length o) && leb (vertex_count p) (length m)) written (record { answer = Short; buffer = o; numbers = m })
+untangled_text (refused n) o m = record { answer = Refused n; buffer = o; numbers = m }
 
 -- The program answers so and leaves the buffers so.
 pub record Leaves (l : Left) (r : Rewritten) (out m : List ℕ) : Type 0 where

@@ -2,11 +2,11 @@
 ghost use Rattle.std.specs.Prelude.{◌≡◌, ◌≤◌, length, take};
 ghost use Rattle.ints.specs.Lists.{over};
 ghost use Rattle.plan.specs.Plan.{PlanData};
-ghost use Rattle.plan.specs.Stored.{planData};
-ghost use Rattle.text.specs.Reading.{accepted, tangledReading};
+ghost use Rattle.plan.specs.Stored.{plan_data};
+ghost use Rattle.text.specs.Reading.{accepted, tangled_reading};
 ghost use Rattle.text.specs.Writing.{text_of};
 ghost use Rattle.text_write.specs.inner.Stored.{StoredPlan};
-ghost use Rattle.text_untangle.specs.Text.{untangledText, Leaves};
+ghost use Rattle.text_untangle.specs.Text.{untangled_text, Leaves};
 ghost use Rattle.text_untangle.specs.inner.Held.{WithNumbers, IsUntangled};
 
 use crate::read_tangled;
@@ -21,7 +21,7 @@ const MAX_TEXT: usize = 51738;
 // How many bytes the text of a stored plan has.
 fn text_length(plan: Plan, vertices: usize, segments: usize) -> usize
     requires { StoredPlan plan vertices segments }
-    ensures { result ≡ length (text_of (planData plan vertices segments)) }
+    ensures { result ≡ length (text_of (plan_data plan vertices segments)) }
 {
     let mut buffer = [0u8; MAX_TEXT];
     stored_text(plan, vertices, segments, &mut buffer)
@@ -46,7 +46,7 @@ fn put_both(
 ) -> Rewritten
     requires { WithNumbers plan vertices segments m.now }
     ensures { (p : PlanData) → IsUntangled p plan vertices segments m.now
-        → Leaves (untangledText (accepted p) out.old numbers.old) result out.new numbers.new }
+        → Leaves (untangled_text (accepted p) out.old numbers.old) result out.new numbers.new }
 {
     if out.len() < text_length(plan, vertices, segments) {
         return Rewritten::Short;
@@ -61,7 +61,7 @@ fn put_both(
 // The text of the untangled plan at the front of one buffer, and each vertex's number in the text at the front of the other, if
 // both have room. Else both stay as they are.
 pub fn untangle_text(text: &[u8], out: &mut [u8], numbers: &mut [u16]) -> Rewritten
-    ensures { Leaves (untangledText (tangledReading text.now) out.old numbers.old) result out.new numbers.new }
+    ensures { Leaves (untangled_text (tangled_reading text.now) out.old numbers.old) result out.new numbers.new }
 {
     let r = read_tangled(text);
     let m = r.numbers;

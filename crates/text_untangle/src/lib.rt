@@ -2,11 +2,11 @@
 pub mod again;
 
 ghost use Rattle.std.specs.Prelude.{◌≡◌, length};
-ghost use Rattle.plan.specs.Limits.{maxVertices};
+ghost use Rattle.plan.specs.Limits.{max_vertices};
 ghost use Rattle.plan.specs.Plan.{PlanData};
-ghost use Rattle.text.specs.Reading.{refused, tangledReading};
+ghost use Rattle.text.specs.Reading.{refused, tangled_reading};
 ghost use Rattle.text_read.specs.inner.Taken.{Arrays};
-ghost use Rattle.text_untangle.specs.Untangled.{untangledAnswer};
+ghost use Rattle.text_untangle.specs.Untangled.{untangled_answer};
 ghost use Rattle.text_untangle.specs.inner.Fronts.{TangledIn, SomeTangledIn, UntangledIn, FindsTangled};
 
 use plan::data::Plan;
@@ -67,7 +67,7 @@ pub fn read_tangled_into(
     ratings: &mut [u32],
     numbers: &mut [u16],
 ) -> Found
-    requires { Arrays sizes.old vias.old halves.old uppers.old lowers.old ratings.old × (length numbers.old ≡ maxVertices) }
+    requires { Arrays sizes.old vias.old halves.old uppers.old lowers.old ratings.old × (length numbers.old ≡ max_vertices) }
     ensures { FindsTangled text.now result sizes.old vias.old halves.old uppers.old
         lowers.old ratings.old numbers.old sizes.new vias.new halves.new
         uppers.new lowers.new ratings.new numbers.new }
@@ -84,7 +84,7 @@ pub fn read_tangled_into(
 }
 
 fn refuse(n: u32) -> ReadTangled
-    ensures { result ≡ untangledAnswer (refused n) }
+    ensures { result ≡ untangled_answer (refused n) }
 {
     ReadTangled {
         answer: Answer::Refused(n),
@@ -95,7 +95,7 @@ fn refuse(n: u32) -> ReadTangled
 
 // Reads a plan text that may be tangled.
 pub fn read_tangled(text: &[u8]) -> ReadTangled
-    ensures { result ≡ untangledAnswer (tangledReading text.now) }
+    ensures { result ≡ untangled_answer (tangled_reading text.now) }
 {
     let mut sizes = [0u16; Plan::MAX_LEVELS];
     let mut vias = [false; Plan::MAX_VERTICES];

@@ -4,14 +4,14 @@ use mathlib.Core.Bool.{true, false}
 use mathlib.Core.List.{List, [], ◌∷◌, ◌++◌, map}
 use Prim.Native.Nat.{ℕ}
 use Rattle.ints.specs.Lists.{chosen}
-use Rattle.plan.specs.Checks.{tangledChecksOf}
-use Rattle.plan.specs.Walk.{innerBelow, walkFrom, walk}
+use Rattle.plan.specs.Checks.{tangled_checks_of}
+use Rattle.plan.specs.Walk.{inner_below, walk_from, walk}
 use Rattle.plan.specs.declared.walk.Walk.{Walk}
 use Rattle.plan.specs.inner.Graph.{segment}
 use Rattle.text.specs.Bytes.{bytes}
-use Rattle.text.specs.Reading.{tangledReading}
-use Rattle.text.proofs.Cases.{textOpen}
-use Rattle.text_walk.specs.Walks.{walk_of, textWalk}
+use Rattle.text.specs.Reading.{tangled_reading}
+use Rattle.text.proofs.Cases.{text_open}
+use Rattle.text_walk.specs.Walks.{walk_of, text_walk}
 use Rattle.text_walk.specs.declared.WalkAnswer.{WalkAnswer}
 use Rattle.text_walk.specs.declared.WalkAnswer.TheVariants.{Walked, Refused}
 
@@ -22,30 +22,30 @@ abbrev crossed : ℕ → Walk
 crossed n = record { crossed = true; taken = n }
 
 -- "a descent at the second: 2 taken"; what comes after the first is not taken
-abbrev lowersWalked : List ℕ → Walk
-lowersWalked bs = walkFrom 0 0 (map (segment 0) bs)
+abbrev lowers_walked : List ℕ → Walk
+lowers_walked bs = walk_from 0 0 (map (segment 0) bs)
 
-counts : map lowersWalked ([] ∷ (7 ∷ []) ∷ (7 ∷ 6 ∷ []) ∷ (5 ∷ 7 ∷ 6 ∷ 9 ∷ 8 ∷ []) ∷ (5 ∷ 6 ∷ 8 ∷ []) ∷ [])
+counts : map lowers_walked ([] ∷ (7 ∷ []) ∷ (7 ∷ 6 ∷ []) ∷ (5 ∷ 7 ∷ 6 ∷ 9 ∷ 8 ∷ []) ∷ (5 ∷ 6 ∷ 8 ∷ []) ∷ [])
     ≡ clear 0 ∷ clear 1 ∷ crossed 2 ∷ crossed 3 ∷ clear 3 ∷ []
-unfolding walkFrom
+unfolding walk_from
 counts = refl
 
 -- four levels; between the second and the third a box stands among vias, and two cables cross, whatever their ratings
-abbrev tangledText : List ℕ
-tangledText =
+abbrev tangled_text : List ℕ
+tangled_text =
     bytes "(plan 4 1 1)\n(level (box 1) (box 1))\n(level (via) (box 1) (via) (via))\n(level (box 1) (via) (via))\n(level (box 1) (box 1))\n"
     ++ bytes "(seg 0 2)\n(seg 0 4)\n(seg 1 5)\n(seg 2 8 100)\n(seg 3 6)\n(seg 4 7)\n(seg 5 6)\n(seg 7 9)\n(seg 8 10)\n(end)\n"
 
 abbrev walks : List ℕ → List WalkAnswer
-walks text = map (λ l. textWalk l text) (0 ∷ 1 ∷ 2 ∷ 3 ∷ 4 ∷ [])
+walks text = map (λ l. text_walk l text) (0 ∷ 1 ∷ 2 ∷ 3 ∷ 4 ∷ [])
 
 -- from the top no segment is inner; a segment from a via to a box is none
-found : walks tangledText ≡ Refused 7 ∷ Walked (clear 0) ∷ Walked (crossed 2) ∷ Walked (clear 0) ∷ Refused 7 ∷ []
-unfolding textOpen textWalk walk_of walk walkFrom innerBelow chosen tangledReading tangledChecksOf
+found : walks tangled_text ≡ Refused 7 ∷ Walked (clear 0) ∷ Walked (crossed 2) ∷ Walked (clear 0) ∷ Refused 7 ∷ []
+unfolding text_open text_walk walk_of walk walk_from inner_below chosen tangled_reading tangled_checks_of
 found = refl
 
 -- 1 to 5 come before 7
-refused : map (λ t. textWalk 9 t) (bytes "(plan" ∷ bytes "(plan 1 0 1)\n(level (box 1))\n(end)\n" ∷ bytes "(plan 1 1 1)\n(level (box 1))\n(seg 0 0)\n(end)\n" ∷ [])
+refused : map (λ t. text_walk 9 t) (bytes "(plan" ∷ bytes "(plan 1 0 1)\n(level (box 1))\n(end)\n" ∷ bytes "(plan 1 1 1)\n(level (box 1))\n(seg 0 0)\n(end)\n" ∷ [])
     ≡ Refused 1 ∷ Refused 2 ∷ Refused 3 ∷ []
-unfolding textOpen textWalk walk_of tangledReading tangledChecksOf
+unfolding text_open text_walk walk_of tangled_reading tangled_checks_of
 refused = refl

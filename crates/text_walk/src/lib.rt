@@ -1,10 +1,10 @@
 // The walk between two neighbouring levels of a text's plan (document 02, E3).
 ghost use Rattle.std.specs.Prelude.{◌≡◌, true, ◌≤◌, length};
-ghost use Rattle.plan.specs.Limits.{maxLevels};
+ghost use Rattle.plan.specs.Limits.{max_levels};
 ghost use Rattle.plan.specs.Checks.{check4};
 ghost use Rattle.plan.specs.inner.Graph.{graph_of, Within};
 ghost use Rattle.text.specs.Reading.{accepted};
-ghost use Rattle.text_walk.specs.Walks.{walk_of, textWalk};
+ghost use Rattle.text_walk.specs.Walks.{walk_of, text_walk};
 
 use plan::data::Plan;
 use plan::numbers::wide;
@@ -21,7 +21,7 @@ pub enum WalkAnswer {
 
 // The walk from level l of a plan that passes checks 1 to 5.
 fn walk_plan(sizes: &[u16], vias: &[bool], uppers: &[u32], lowers: &[u32], l: usize) -> WalkAnswer
-    requires { (length sizes.now ≤ maxLevels) × Within vias.now uppers.now lowers.now
+    requires { (length sizes.now ≤ max_levels) × Within vias.now uppers.now lowers.now
         × (check4 (graph_of sizes.now vias.now uppers.now lowers.now) ≡ true) }
     ensures { result ≡ walk_of l (accepted (graph_of sizes.now vias.now uppers.now lowers.now)) }
 {
@@ -36,7 +36,7 @@ fn walk_plan(sizes: &[u16], vias: &[bool], uppers: &[u32], lowers: &[u32], l: us
 
 // The walk from level l of a text's plan to the next, if the text passes checks 1 to 5 and there are two such levels.
 pub fn walk_text(l: usize, text: &[u8]) -> WalkAnswer
-    ensures { result ≡ textWalk l text.now }
+    ensures { result ≡ text_walk l text.now }
 {
     let mut sizes = [0u16; Plan::MAX_LEVELS];
     let mut vias = [false; Plan::MAX_VERTICES];

@@ -10,12 +10,12 @@ use lib.ListN.{length, take, drop, replicate, length-append}
 use lib.Seq.{take_at}
 use Rattle.ints.specs.Lists.{over}
 use Rattle.plan.specs.Plan.{PlanData}
-use Rattle.plan.specs.Limits.{maxLevels, maxVertices, maxSegments}
-use Rattle.plan.specs.Stored.{planData}
-use Rattle.plan.specs.Checks.{checksOf}
-use Rattle.plan.specs.Acceptable.{limitsHold, acceptable}
+use Rattle.plan.specs.Limits.{max_levels, max_vertices, max_segments}
+use Rattle.plan.specs.Stored.{plan_data}
+use Rattle.plan.specs.Checks.{checks_of}
+use Rattle.plan.specs.Acceptable.{limits_hold, acceptable}
 use Rattle.plan.specs.declared.data.Plan.{Plan}
-use Rattle.ints.specs.Refusals.{noneRefuses}
+use Rattle.ints.specs.Refusals.{none_refuses}
 use Rattle.ints.proofs.Tests.{test, and_left}
 use Rattle.plan.proofs.LimitLaws.{Limits}
 use Rattle.plan.proofs.Sound.{sound}
@@ -26,8 +26,8 @@ use Rattle.text_read.specs.declared.Answer.TheVariants.{Accepted, Refused}
 use Rattle.text_read.specs.declared.ReadText.{ReadText}
 use Rattle.text.proofs.DecimalLaws.{decimal-length}
 use Rattle.text.proofs.RoundTrip.{text-short, written_read, read-acceptable}
-use Rattle.text_write.specs.inner.Data.{maxText}
-use Rattle.text_write.specs.Again.{refusedLine, textIfShort, rewritten, Leaves}
+use Rattle.text_write.specs.inner.Data.{max_text}
+use Rattle.text_write.specs.Again.{refused_line, text_if_short, rewritten, Leaves}
 use Rattle.text_write.specs.inner.Written.{Fronts}
 use Rattle.text_write.specs.declared.again.Rewritten.TheVariants.{Written, Refused as Not, Short}
 use Rattle.text_write.specs.inner.Stored.{StoredLimits, StoredPlan}
@@ -36,15 +36,15 @@ use Rattle.text_write.specs.inner.Stored.{StoredLimits, StoredPlan}
 front : {A : Type 0} (xs o : List A) (n : ℕ) → length xs ≡ n → take n (over xs o) ≡ xs
 front xs o n e = take_at xs (drop (length xs) o) n e
 
-pub stored-data : (p : PlanData) → Limits p → planData (plan_of p) (length p.vias) (length p.uppers) ≡ p
+pub stored-data : (p : PlanData) → Limits p → plan_data (plan_of p) (length p.vias) (length p.uppers) ≡ p
 unfolding plan_of
 stored-data p l =
-    let s = front p.sizes (replicate maxLevels 0) p.levels l.sizes-long in
-    let v = front p.vias (replicate maxVertices false) (length p.vias) refl in
-    let h = front p.halves (replicate maxVertices 0) (length p.vias) l.halves_long in
-    let a = front p.uppers (replicate maxSegments 0) (length p.uppers) refl in
-    let b = front p.lowers (replicate maxSegments 0) (length p.uppers) l.ends-long in
-    let w = front p.ratings (replicate maxSegments 0) (length p.uppers) l.ratings-long in
+    let s = front p.sizes (replicate max_levels 0) p.levels l.sizes_long in
+    let v = front p.vias (replicate max_vertices false) (length p.vias) refl in
+    let h = front p.halves (replicate max_vertices 0) (length p.vias) l.halves_long in
+    let a = front p.uppers (replicate max_segments 0) (length p.uppers) refl in
+    let b = front p.lowers (replicate max_segments 0) (length p.uppers) l.ends_long in
+    let w = front p.ratings (replicate max_segments 0) (length p.uppers) l.ratings_long in
     rw (s, v, h, a, b, w)
 
 -- a plan that is that of a text is within its limits
@@ -54,21 +54,21 @@ stored-limits {p} {v} {e} s = record {
   levels = s.levels;
   vertices = s.vertices;
   segments = s.segments;
-  plan = and_left (limitsHold (planData p v e)) (noneRefuses (checksOf (planData p v e))) s.plan;
+  plan = and_left (limits_hold (plan_data p v e)) (none_refuses (checks_of (plan_data p v e))) s.plan;
 }
 
 pub plan-stored : (p : PlanData) → acceptable p ≡ true → StoredPlan (plan_of p) (length p.vias) (length p.uppers)
 unfolding plan_of
 plan-stored p a =
     let l = (sound p a).limits in
-    record { levels = l.levels-high; vertices = l.vertices; segments = l.segments; plan = ap acceptable (stored-data p l) ∙ a }
+    record { levels = l.levels_high; vertices = l.vertices; segments = l.segments; plan = ap acceptable (stored-data p l) ∙ a }
 
 -- a plan that was read, stored with the data of the reading, and its text
 pub record Again (s : List ℕ) (p : Plan) (v e : ℕ) : Type 0 where
   pub stored : StoredPlan p v e
-  pub read : reading s ≡ accepted (planData p v e)
-  pub same : text_of (planData p v e) ≡ s
-  pub short : length (text_of (planData p v e)) ≤ maxText
+  pub read : reading s ≡ accepted (plan_data p v e)
+  pub same : text_of (plan_data p v e) ≡ s
+  pub short : length (text_of (plan_data p v e)) ≤ max_text
 
 plan-again : (s : List ℕ) (p : PlanData) → reading s ≡ accepted p → Again s (plan_of p) (length p.vias) (length p.uppers)
 plan-again s p e =
@@ -113,34 +113,34 @@ read-refused s r n q a = go (reading s) refl
         h ∙ ap refused same
 
 -- what is written of either
-pub rewritten-accepted : (p : PlanData) (o : List ℕ) → rewritten (accepted p) o ≡ textIfShort (text_of p) o
+pub rewritten-accepted : (p : PlanData) (o : List ℕ) → rewritten (accepted p) o ≡ text_if_short (text_of p) o
 unfolding rewritten
 rewritten-accepted p o = refl
 
 -- into a buffer with no room, and with room
 module _ (w o : List ℕ) where
-  pub leaves-short : length o < length w → Leaves (textIfShort w o) Short o
-  unfolding textIfShort
+  pub leaves-short : length o < length w → Leaves (text_if_short w o) Short o
+  unfolding text_if_short
   leaves-short h = rw (lt-leb (length w) (length o) h) (record { answer = refl; buffer = refl })
 
-  pub leaves-written : {n : ℕ} {out : List ℕ} → length w ≤ length o → Fronts w o n out → Leaves (textIfShort w o) (Written n) out
-  unfolding textIfShort
+  pub leaves-written : {n : ℕ} {out : List ℕ} → length w ≤ length o → Fronts w o n out → Leaves (text_if_short w o) (Written n) out
+  unfolding text_if_short
   leaves-written h f = rw (le-leb (length w) (length o) h) (record { answer = ap Written f.count; buffer = f.bytes })
 
 pub leaves-refused : (n : ℕ) (o : List ℕ) → Leaves (rewritten (refused n) o) (Not n) o
 unfolding rewritten
 leaves-refused n o = record { answer = refl; buffer = refl }
 
-pub refused-short : (n : ℕ) → n < 2 ^ 32 → length (refusedLine n) ≤ 21
-unfolding refusedLine
+pub refused-short : (n : ℕ) → n < 2 ^ 32 → length (refused_line n) ≤ 21
+unfolding refused_line
 refused-short n h = let d = decimal-length 9 n (omega arith) in simp length-append (omega arith)
 
 -- no more than a plan's text is written
-pub written-few : (s o : List ℕ) (n : ℕ) → (rewritten (reading s) o).answer ≡ Written n → n ≤ maxText
-unfolding rewritten textIfShort
+pub written-few : (s o : List ℕ) (n : ℕ) → (rewritten (reading s) o).answer ≡ Written n → n ≤ max_text
+unfolding rewritten text_if_short
 written-few s o n = go (reading s) refl
   where
-    go : (g : Reading) → reading s ≡ g → (rewritten g o).answer ≡ Written n → n ≤ maxText
+    go : (g : Reading) → reading s ≡ g → (rewritten g o).answer ≡ Written n → n ≤ max_text
     go (accepted p) h e = test (leb (length (text_of p)) (length o))
         (λ t. let told : Written (length (text_of p)) ≡ Written n = rw t at e in let same : length (text_of p) ≡ n = cc told in omega (arith, text-short p (read-acceptable s p h)))
         (λ t. let told : Short ≡ Written n = rw t at e in let z : ◌≡◌ {A = ℕ} 0 1 = cc told in absurd (omega arith))

@@ -9,8 +9,8 @@ use Rattle.text_write.specs.declared.again.Rewritten.{Rewritten}
 use Rattle.text_write.specs.declared.again.Rewritten.TheVariants.{Written, Refused, Short}
 
 -- "(refused N)"
-unfoldable pub refusedLine : ℕ → List ℕ
-refusedLine n = bytes "(refused " ++ decimal n ++ bytes ")\n"
+unfoldable pub refused_line : ℕ → List ℕ
+refused_line n = bytes "(refused " ++ decimal n ++ bytes ")\n"
 
 -- An answer, and a lent buffer as it is left.
 pub record Left : Type 0 where
@@ -18,14 +18,14 @@ pub record Left : Type 0 where
   pub buffer : List ℕ
 
 -- The text w at the front of the buffer o, if it has room for it.
-unfoldable pub textIfShort : List ℕ → List ℕ → Left
-textIfShort w o =
+unfoldable pub text_if_short : List ℕ → List ℕ → Left
+text_if_short w o =
     let written : Left = record { answer = Written (length w); buffer = over w o } in
     cond (leb (length w) (length o)) written (record { answer = Short; buffer = o })
 
 -- The plan's text again; where the text was refused, the buffer stays as it is.
 unfoldable pub rewritten : Reading → List ℕ → Left
-rewritten (accepted p) o = textIfShort (text_of p) o
+rewritten (accepted p) o = text_if_short (text_of p) o
 rewritten (refused n) o = record { answer = Refused n; buffer = o }
 
 -- The program answers so and leaves the buffer so.

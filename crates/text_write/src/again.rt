@@ -1,12 +1,12 @@
 // A plan text read and written again.
 ghost use Rattle.std.specs.Prelude.{◌≡◌, ◌≤◌, length};
-ghost use Rattle.plan.specs.Stored.{planData};
+ghost use Rattle.plan.specs.Stored.{plan_data};
 ghost use Rattle.text.specs.Reading.{reading};
 ghost use Rattle.text.specs.Writing.{text_of};
 ghost use Rattle.text_write.specs.inner.Written.{Fronts};
 ghost use Rattle.text_write.specs.inner.Data.{line_of, LineRoom};
 ghost use Rattle.text_write.specs.inner.Stored.{StoredLimits, StoredPlan};
-ghost use Rattle.text_write.specs.Again.{refusedLine, Leaves, textIfShort, rewritten};
+ghost use Rattle.text_write.specs.Again.{refused_line, Leaves, text_if_short, rewritten};
 
 use crate::lines::{line as write_line, text as write_text};
 use crate::number::{put_then, put_word};
@@ -26,7 +26,7 @@ pub enum Rewritten {
 // "(refused N)", at the front of the buffer: how many bytes it has.
 pub fn refuse(n: u32, out: &mut [u8]) -> usize
     requires { 21 ≤ length out.old }
-    ensures { Fronts (refusedLine n) out.old result out.new }
+    ensures { Fronts (refused_line n) out.old result out.new }
 {
     let at = put_word(out, 0, b"(refused ");
     put_then(out, at, n as u64, b")\n")
@@ -35,8 +35,8 @@ pub fn refuse(n: u32, out: &mut [u8]) -> usize
 // Line n of the text of a plan with these numbers of vertices and segments that is within its limits, at the front of a buffer
 // that has room for it.
 pub fn stored_line(plan: Plan, vertices: usize, segments: usize, n: usize, out: &mut [u8]) -> usize
-    requires { StoredLimits plan vertices segments × LineRoom (planData plan vertices segments) n out.old 0 }
-    ensures { Fronts (line_of (planData plan vertices segments) n) out.old result out.new }
+    requires { StoredLimits plan vertices segments × LineRoom (plan_data plan vertices segments) n out.old 0 }
+    ensures { Fronts (line_of (plan_data plan vertices segments) n) out.old result out.new }
 {
     let k = wide(plan.levels);
     let sizes = plan.sizes;
@@ -62,8 +62,8 @@ pub fn stored_line(plan: Plan, vertices: usize, segments: usize, n: usize, out: 
 
 // The whole text of such a plan.
 pub fn stored_text(plan: Plan, vertices: usize, segments: usize, out: &mut [u8]) -> usize
-    requires { StoredLimits plan vertices segments × (length (text_of (planData plan vertices segments)) ≤ length out.old) }
-    ensures { Fronts (text_of (planData plan vertices segments)) out.old result out.new }
+    requires { StoredLimits plan vertices segments × (length (text_of (plan_data plan vertices segments)) ≤ length out.old) }
+    ensures { Fronts (text_of (plan_data plan vertices segments)) out.old result out.new }
 {
     let k = wide(plan.levels);
     let sizes = plan.sizes;
@@ -94,8 +94,8 @@ fn text_if_short(
     n: usize,
     out: &mut [u8],
 ) -> Rewritten
-    requires { StoredPlan plan vertices segments × (n ≡ length (text_of (planData plan vertices segments))) }
-    ensures { Leaves (textIfShort (text_of (planData plan vertices segments)) out.old) result out.new }
+    requires { StoredPlan plan vertices segments × (n ≡ length (text_of (plan_data plan vertices segments))) }
+    ensures { Leaves (text_if_short (text_of (plan_data plan vertices segments)) out.old) result out.new }
 {
     if out.len() < n {
         return Rewritten::Short;

@@ -1,18 +1,18 @@
 // The lines of a plan's text, written from a position of a lent buffer on. Each answers the position past what it wrote.
 ghost use Rattle.std.specs.Prelude.{◌≡◌, true, ◌+◌, ◌<◌, ◌≤◌, length};
 ghost use Rattle.plan.specs.Plan.{numbers, data_of};
-ghost use Rattle.plan.specs.Acceptable.{limitsHold};
-ghost use Rattle.text.specs.Writing.{planLine, levelLineOf, ratingWords, segmentLineOf, text_of};
+ghost use Rattle.plan.specs.Acceptable.{limits_hold};
+ghost use Rattle.text.specs.Writing.{plan_line, level_line_of, rating_words, segment_line_of, text_of};
 ghost use Rattle.text_write.specs.inner.Written.{Room, Wrote, Fronts};
-ghost use Rattle.text_write.specs.inner.Data.{verticesOf, numbersOf, rowWords, words_of, ratedSegment, line_of, levelVertices, LevelRoom, LineRoom};
+ghost use Rattle.text_write.specs.inner.Data.{vertices_of, numbers_of, row_words, words_of, rated_segment, line_of, level_vertices, LevelRoom, LineRoom};
 
 use crate::number::{put_decimal, put_then, put_word};
 use ints::{total, wide};
 
 // "(plan K G S)"
 fn put_plan(out: &mut [u8], at: usize, levels: u32, gap: u32, spacing: u32) -> usize
-    requires { Room (planLine (numbersOf levels gap spacing)) out.old at }
-    ensures { Wrote (planLine (numbersOf levels gap spacing)) out.old at result out.new }
+    requires { Room (plan_line (numbers_of levels gap spacing)) out.old at }
+    ensures { Wrote (plan_line (numbers_of levels gap spacing)) out.old at result out.new }
 {
     let k = put_word(out, at, b"(plan ");
     let g = put_then(out, k, levels as u64, b" ");
@@ -34,8 +34,8 @@ fn put_vertex(out: &mut [u8], at: usize, via: bool, half: u16) -> usize
 
 // " W"; a rating of 1 is "never written".
 fn put_rating(out: &mut [u8], at: usize, rating: u32) -> usize
-    requires { Room (ratingWords rating) out.old at }
-    ensures { Wrote (ratingWords rating) out.old at result out.new }
+    requires { Room (rating_words rating) out.old at }
+    ensures { Wrote (rating_words rating) out.old at result out.new }
 {
     if rating == 1 {
         return at;
@@ -46,8 +46,8 @@ fn put_rating(out: &mut [u8], at: usize, rating: u32) -> usize
 
 // "(seg A B)" or "(seg A B W)"
 fn put_segment(out: &mut [u8], at: usize, upper: u32, lower: u32, rating: u32) -> usize
-    requires { Room (segmentLineOf (ratedSegment upper lower rating)) out.old at }
-    ensures { Wrote (segmentLineOf (ratedSegment upper lower rating)) out.old at result out.new }
+    requires { Room (segment_line_of (rated_segment upper lower rating)) out.old at }
+    ensures { Wrote (segment_line_of (rated_segment upper lower rating)) out.old at result out.new }
 {
     let a = put_word(out, at, b"(seg ");
     let b = put_then(out, a, upper as u64, b" ");
@@ -65,8 +65,8 @@ fn put_vertices(
     first: usize,
     count: usize,
 ) -> usize
-    requires { (first + count ≤ length vias.now) × (length halves.now ≡ length vias.now) × Room (rowWords (verticesOf vias.now halves.now) (numbers first count)) out.old from }
-    ensures { Wrote (rowWords (verticesOf vias.now halves.now) (numbers first count)) out.old from result out.new }
+    requires { (first + count ≤ length vias.now) × (length halves.now ≡ length vias.now) × Room (row_words (vertices_of vias.now halves.now) (numbers first count)) out.old from }
+    ensures { Wrote (row_words (vertices_of vias.now halves.now) (numbers first count)) out.old from result out.new }
 {
     let mut at = from;
     let mut i: usize = 0;
@@ -86,8 +86,8 @@ fn put_row(
     first: usize,
     count: usize,
 ) -> usize
-    requires { (first + count ≤ length vias.now) × (length halves.now ≡ length vias.now) × Room (levelLineOf (verticesOf vias.now halves.now) (numbers first count)) out.old at }
-    ensures { Wrote (levelLineOf (verticesOf vias.now halves.now) (numbers first count)) out.old at result out.new }
+    requires { (first + count ≤ length vias.now) × (length halves.now ≡ length vias.now) × Room (level_line_of (vertices_of vias.now halves.now) (numbers first count)) out.old at }
+    ensures { Wrote (level_line_of (vertices_of vias.now halves.now) (numbers first count)) out.old at result out.new }
 {
     let row = put_word(out, at, b"(level");
     let after = put_vertices(out, row, vias, halves, first, count);
@@ -104,7 +104,7 @@ fn put_level(
     l: usize,
 ) -> usize
     requires { LevelRoom sizes.now vias.now halves.now l out.old at }
-    ensures { Wrote (levelLineOf (verticesOf vias.now halves.now) (levelVertices sizes.now l)) out.old at result out.new }
+    ensures { Wrote (level_line_of (vertices_of vias.now halves.now) (level_vertices sizes.now l)) out.old at result out.new }
 {
     let first = total(&sizes[..l]);
     put_row(out, at, vias, halves, first, wide(sizes[l]))
@@ -178,7 +178,7 @@ pub fn text(
     ratings: &[u32],
     out: &mut [u8],
 ) -> usize
-    requires { (limitsHold (data_of levels gap spacing sizes.now vias.now halves.now uppers.now lowers.now ratings.now) ≡ true)
+    requires { (limits_hold (data_of levels gap spacing sizes.now vias.now halves.now uppers.now lowers.now ratings.now) ≡ true)
         × (length (text_of (data_of levels gap spacing sizes.now vias.now halves.now uppers.now lowers.now ratings.now)) ≤ length out.old) }
     ensures { Fronts (text_of (data_of levels gap spacing sizes.now vias.now halves.now
         uppers.now lowers.now ratings.now)) out.old result out.new }

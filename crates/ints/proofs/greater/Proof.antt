@@ -1,4 +1,4 @@
--- `ints::greater` meets its contract: its test is that of `maxZ`, on the two as their bits read back.
+-- `ints::greater` meets its contract: its test is that of `max_z`, on the two as their bits read back.
 use mathlib.Core.Path.{◌≡◌}
 use mir.Syntax.{w64}
 use mir.Val.{to_z, of_z}

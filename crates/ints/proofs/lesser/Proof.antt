@@ -1,4 +1,4 @@
--- `ints::lesser` meets its contract: its test is that of `minZ`, on the two as their bits read back.
+-- `ints::lesser` meets its contract: its test is that of `min_z`, on the two as their bits read back.
 use mathlib.Core.Path.{◌≡◌}
 use mir.Syntax.{w64}
 use mir.Val.{to_z, of_z}

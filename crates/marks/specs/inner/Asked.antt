@@ -1,8 +1,8 @@
 -- What the programs that make one mark and all marks ask of their lists, and of which plan they speak.
 use Rattle.std.specs.Prelude.{Bool, true, List, ◌≡◌, ℕ, ◌+◌, ◌<◌, ◌≤◌, length, get_or, ℤ, Float}
 use Rattle.ints.specs.Lists.{over}
-use Rattle.ints.specs.Reach.{allWithin}
-use Rattle.plan.specs.Limits.{maxLevels, maxVertices, maxSpacing}
+use Rattle.ints.specs.Reach.{all_within}
+use Rattle.plan.specs.Limits.{max_levels, max_vertices, max_spacing}
 use Rattle.plan.specs.Plan.{PlanData, data_of}
 use Rattle.plan.specs.inner.Graph.{Below}
 use Rattle.plan_checks.specs.inner.Heights.{HeightsOf}
@@ -10,28 +10,28 @@ use Rattle.passes.specs.State.{position_of}
 use Rattle.marks.specs.declared.types.Point.{Point}
 use Rattle.marks.specs.declared.types.Mark.{Mark}
 use Rattle.marks.specs.declared.types.Mark.TheVariants.{Line}
-use Rattle.marks.specs.Half.{maxWhole}
-use Rattle.marks.specs.Marks.{point_of, mark_of, allNumbers}
+use Rattle.marks.specs.Half.{max_whole}
+use Rattle.marks.specs.Marks.{point_of, mark_of, all_numbers}
 
 -- ---- of each vertex its height and its final position
 -- So low and so near that f64 has them exactly.
 pub record Standing (heights : List ℕ) (xs : List ℤ) : Type 0 where
   pub long : length heights ≡ length xs
-  pub low : (v : ℕ) → v < length heights → get_or heights v 0 ≤ maxWhole
-  pub within : allWithin xs ≡ true
+  pub low : (v : ℕ) → v < length heights → get_or heights v 0 ≤ max_whole
+  pub within : all_within xs ≡ true
 
 -- Where vertex v stands.
-abbrev pub pointIn : List ℕ → List ℤ → ℕ → Point
-pointIn heights xs v = point_of (position_of xs v) (get_or heights v 0)
+abbrev pub point_in : List ℕ → List ℤ → ℕ → Point
+point_in heights xs v = point_of (position_of xs v) (get_or heights v 0)
 
 -- The line from a down to b.
-abbrev pub lineIn : List ℕ → List ℤ → ℕ → ℕ → Mark
-lineIn heights xs a b = Line (pointIn heights xs a) (pointIn heights xs b)
+abbrev pub line_in : List ℕ → List ℤ → ℕ → ℕ → Mark
+line_in heights xs a b = Line (point_in heights xs a) (point_in heights xs b)
 
 -- ---- the other lists
 -- Within the limits, of lengths that agree, and segment ends that are vertices.
 pub record Agreeing (vias : List Bool) (halves uppers lowers : List ℕ) (xs : List ℤ) : Type 0 where
-  pub few : length vias ≤ maxVertices
+  pub few : length vias ≤ max_vertices
   pub widths : length halves ≡ length vias
   pub positions : length xs ≡ length vias
   pub ends : length lowers ≡ length uppers
@@ -62,14 +62,14 @@ IsMarkAt heights vias halves uppers lowers xs n r = (p : PlanData) → DataAt p 
 
 abbrev pub AreMarksAt : List ℕ → List Bool → List ℕ → List ℕ → List ℕ → List ℤ → List Float → List Float → Type 0
 AreMarksAt heights vias halves uppers lowers xs o out =
-    (p : PlanData) → DataAt p heights vias halves uppers lowers → out ≡ over (allNumbers p xs) o
+    (p : PlanData) → DataAt p heights vias halves uppers lowers → out ≡ over (all_numbers p xs) o
 
 -- ---- by spacing and levels
 -- The spacing and the levels within their limits, and final positions within ±2^40.
 pub record InReach (spacing : ℕ) (sizes : List ℕ) (xs : List ℤ) : Type 0 where
-  pub spaced : spacing ≤ maxSpacing
-  pub levels : length sizes ≤ maxLevels
-  pub within : allWithin xs ≡ true
+  pub spaced : spacing ≤ max_spacing
+  pub levels : length sizes ≤ max_levels
+  pub within : all_within xs ≡ true
 
 pub record AskedAll (spacing : ℕ) (sizes : List ℕ) (vias : List Bool) (halves uppers lowers : List ℕ) (xs : List ℤ) : Type 0 where
   pub near : InReach spacing sizes xs
@@ -87,4 +87,4 @@ IsMark spacing sizes vias halves uppers lowers xs n r =
 
 abbrev pub AreMarks : ℕ → List ℕ → List Bool → List ℕ → List ℕ → List ℕ → List ℤ → List Float → List Float → Type 0
 AreMarks spacing sizes vias halves uppers lowers xs o out =
-    (p : PlanData) → DataOf p spacing sizes vias halves uppers lowers → out ≡ over (allNumbers p xs) o
+    (p : PlanData) → DataOf p spacing sizes vias halves uppers lowers → out ≡ over (all_numbers p xs) o

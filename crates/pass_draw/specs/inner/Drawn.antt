@@ -2,8 +2,8 @@
 use Rattle.std.specs.Prelude.{Bool, List, [], ◌≡◌, ℕ, ◌<◌, length, replicate, ℤ, pos}
 use Rattle.plan.specs.Plan.{PlanData}
 use Rattle.preliminary.specs.Positions.{preliminary}
-use Rattle.passes.specs.Drawing.{drawingOf}
-use Rattle.passes.specs.Words.{maxListed}
+use Rattle.passes.specs.Drawing.{drawing_of}
+use Rattle.passes.specs.Words.{max_listed}
 use Rattle.passes.specs.inner.Schedule.{schedule}
 use Rattle.pass_tables.specs.inner.Moments.{Held}
 use Rattle.pass_neighbours.specs.inner.Order.{Starts}
@@ -18,8 +18,8 @@ Wanted g = 0 < length g.passes
 
 -- Final positions and, if it is wanted, the list of placings, n placings with b boxes in all.
 pub record Drawn (n b : ℕ) (at : List ℤ) (g : Columns) (p : PlanData) : Type 0 where
-  pub final : at ≡ (drawingOf p).final
-  pub listed : Wanted g → Stored n b g (drawingOf p).placings
+  pub final : at ≡ (drawing_of p).final
+  pub listed : Wanted g → Stored n b g (drawing_of p).placings
 
 -- What is lent to the passes: the plan's lists, what the visits change, and the list of placings.
 pub record Begun : Type 0 where
@@ -36,28 +36,28 @@ begun graph at apart marks list = record { graph = graph; at = at; apart = apart
 pub record Started (k : Begun) (p : PlanData) : Type 0 where
   pub held : Held p [] (schedule p) k.at k.apart k.marks
   pub written : Wanted k.list → Written p [] 0 0 k.list
-  pub viasAre : k.graph.vias ≡ p.vias
-  pub uppersAre : k.graph.uppers ≡ p.uppers
-  pub lowersAre : k.graph.lowers ≡ p.lowers
-  pub ratingsAre : k.graph.ratings ≡ p.ratings
+  pub vias_are : k.graph.vias ≡ p.vias
+  pub uppers_are : k.graph.uppers ≡ p.uppers
+  pub lowers_are : k.graph.lowers ≡ p.lowers
+  pub ratings_are : k.graph.ratings ≡ p.ratings
 
 -- The same with the sizes of the levels,
 pub record AtStart (k : Begun) (p : PlanData) : Type 0 where
   pub is : Started k p
-  pub sizesAre : k.graph.levels ≡ p.sizes
+  pub sizes_are : k.graph.levels ≡ p.sizes
 
 -- and with where they start.
 pub record AtFirst (k : Begun) (p : PlanData) : Type 0 where
   pub is : Started k p
-  pub startsAre : Starts p k.graph.levels
+  pub starts_are : Starts p k.graph.levels
 
 -- The list of placings is still empty: every array is 0.
 pub record Unlisted (g : Columns) : Type 0 where
-  pub noPasses : g.passes ≡ replicate maxListed 0
-  pub noLevels : g.levels ≡ replicate maxListed 0
-  pub noSizes : g.sizes ≡ replicate maxListed 0
-  pub noVertices : g.vertices ≡ replicate maxListed 0
-  pub noPositions : g.positions ≡ replicate maxListed (pos 0)
+  pub no_passes : g.passes ≡ replicate max_listed 0
+  pub no_levels : g.levels ≡ replicate max_listed 0
+  pub no_sizes : g.sizes ≡ replicate max_listed 0
+  pub no_vertices : g.vertices ≡ replicate max_listed 0
+  pub no_positions : g.positions ≡ replicate max_listed (pos 0)
 
 -- A plan's lists.
 pub record PlanLists : Type 0 where
@@ -69,8 +69,8 @@ pub record PlanLists : Type 0 where
   pub lowers : List ℕ
   pub ratings : List ℕ
 
-abbrev pub planLists : ℕ → List ℕ → List Bool → List ℕ → List ℕ → List ℕ → List ℕ → PlanLists
-planLists gap sizes vias halves uppers lowers ratings = record {
+abbrev pub plan_lists : ℕ → List ℕ → List Bool → List ℕ → List ℕ → List ℕ → List ℕ → PlanLists
+plan_lists gap sizes vias halves uppers lowers ratings = record {
   gap = gap;
   sizes = sizes;
   vias = vias;
@@ -83,5 +83,5 @@ planLists gap sizes vias halves uppers lowers ratings = record {
 -- They are those of p, and these are its preliminary positions.
 pub record Outset (l : PlanLists) (at : List ℤ) (p : PlanData) : Type 0 where
   pub lists : HoldsPlan p l.gap l.sizes l.vias l.halves l.uppers l.lowers
-  pub ratingsAre : p.ratings ≡ l.ratings
+  pub ratings_are : p.ratings ≡ l.ratings
   pub preliminaries : at ≡ preliminary p

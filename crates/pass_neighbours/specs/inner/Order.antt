@@ -1,7 +1,7 @@
 -- The order in which a pass comes to the levels, and where they stand.
 use Rattle.std.specs.Prelude.{cond, List, reverse, ◌≡◌, ℕ, suc, ◌-◌, ◌≤◌, eqb, length, get_or}
 use Rattle.plan.specs.Plan.{PlanData, numbers}
-use Rattle.plan.specs.inner.Levels.{firstOn}
+use Rattle.plan.specs.inner.Levels.{first_on}
 
 -- The levels in the order of pass q: pass 2 goes up.
 abbrev pub in_turn : ℕ → PlanData → List ℕ
@@ -14,4 +14,4 @@ turn_of q k n = cond (eqb q 2) (n - 1 - k) k
 -- Where each level starts, counted from 0, and where the last one ends.
 pub record Starts (p : PlanData) (starts : List ℕ) : Type 0 where
   pub many : length starts ≡ suc p.levels
-  pub each : (i : ℕ) → i ≤ p.levels → get_or starts i 0 ≡ firstOn p (suc i)
+  pub each : (i : ℕ) → i ≤ p.levels → get_or starts i 0 ≡ first_on p (suc i)

@@ -4,13 +4,13 @@ use Rattle.std.specs.Prelude.{cond, ◌&&◌, List, ◌≡◌, ℕ, ◌+◌, ◌
 use Rattle.ints.specs.Ints.{size, ◌⊑◌}
 use Rattle.plan.specs.Plan.{numbers}
 use Rattle.plan.specs.inner.Graph.{Below}
-use Rattle.passes.specs.State.{position_of, takeOn}
+use Rattle.passes.specs.State.{position_of, take_on}
 use Rattle.pass_tables.specs.inner.Tables.{along}
 use Rattle.run.specs.declared.types.Bound.{Bound}
 use Rattle.run.specs.declared.types.Bound.TheVariants.{Free, At}
 use Rattle.run.specs.Call.{Request}
-use Rattle.run_columns.specs.inner.Sums.{ratingsBetween}
-use Rattle.place_run.specs.inner.Requests.{requestOf}
+use Rattle.run_columns.specs.inner.Sums.{ratings_between}
+use Rattle.place_run.specs.inner.Requests.{request_of}
 
 -- Its first member, and one past its last: a via stands wherever the boxes do not reach the level's end.
 abbrev pub low_of : ℕ → ℕ → ℕ
@@ -23,38 +23,38 @@ high_of end to = cond (ltb end to) (end + 1) end
 abbrev pub left_of : ℕ → ℕ → List ℤ → Bound
 left_of start from xs = cond (ltb start from) (At (position_of xs (from - 1))) Free
 
-abbrev pub rightOf : ℕ → ℕ → List ℤ → Bound
-rightOf end to xs = cond (ltb end to) (At (position_of xs end)) Free
+abbrev pub right_of : ℕ → ℕ → List ℤ → Bound
+right_of end to xs = cond (ltb end to) (At (position_of xs end)) Free
 
 -- A part of a list.
 abbrev pub part : {A : Type 0} → ℕ → ℕ → List A → List A
 part from to xs = take (to - from) (drop from xs)
 
 -- How many neighbours each of n boxes from v on has, by where their rows start; where the n ends from k on stand.
-abbrev pub countsOf : List ℕ → ℕ → ℕ → List ℕ
-countsOf first v n = along (λ (i : ℕ). get_or first (v + i + 1) 0 - get_or first (v + i) 0) 0 n
+abbrev pub counts_of : List ℕ → ℕ → ℕ → List ℕ
+counts_of first v n = along (λ (i : ℕ). get_or first (v + i + 1) 0 - get_or first (v + i) 0) 0 n
 
-abbrev pub nearOf : List ℕ → List ℤ → ℕ → ℕ → List ℤ
-nearOf ends xs k n = along (λ (i : ℕ). position_of xs (get_or ends (k + i) 0)) 0 n
+abbrev pub near_of : List ℕ → List ℤ → ℕ → ℕ → List ℤ
+near_of ends xs k n = along (λ (i : ℕ). position_of xs (get_or ends (k + i) 0)) 0 n
 
 -- The ratings of the n row entries from k on, by the sums so far.
-abbrev pub ratesOf : List ℕ → ℕ → ℕ → List ℕ
-ratesOf sums k n = ratingsBetween (take (n + 1) (drop k sums))
+abbrev pub rates_of : List ℕ → ℕ → ℕ → List ℕ
+rates_of sums k n = ratings_between (take (n + 1) (drop k sums))
 
 -- How many neighbours the boxes from `from` up to `end` have in all.
-abbrev pub rowsLong : ℕ → ℕ → List ℕ → ℕ
-rowsLong from end first = get_or first end 0 - get_or first from 0
+abbrev pub rows_long : ℕ → ℕ → List ℕ → ℕ
+rows_long from end first = get_or first end 0 - get_or first from 0
 
 -- The run of these bounds and distances.
 abbrev pub asked : Bound → Bound → List ℕ → ℕ → ℕ → List ℕ → List ℕ → List ℕ → List ℤ → Request
 asked left right distances from end first ends sums xs =
-    requestOf left right (part from end xs) distances (countsOf first from (end - from))
-    (nearOf ends xs (get_or first from 0) (rowsLong from end first)) (ratesOf sums (get_or first from 0) (rowsLong from end first))
+    request_of left right (part from end xs) distances (counts_of first from (end - from))
+    (near_of ends xs (get_or first from 0) (rows_long from end first)) (rates_of sums (get_or first from 0) (rows_long from end first))
 
 -- The distances after its placing, where everything stands at xs then: an open run takes on those of its members.
-abbrev pub takenOn : ℕ → ℕ → ℕ → ℕ → List ℤ → List ℕ → List ℕ
-takenOn start from end to xs apart =
-    cond (ltb start from && ltb end to) apart (takeOn xs (numbers (low_of start from) (high_of end to - low_of start from)) apart)
+abbrev pub taken_on : ℕ → ℕ → ℕ → ℕ → List ℤ → List ℕ → List ℕ
+taken_on start from end to xs apart =
+    cond (ltb start from && ltb end to) apart (take_on xs (numbers (low_of start from) (high_of end to - low_of start from)) apart)
 
 -- The boxes from `from` up to `end` have their rows, and room in the arrays of the largest run.
 pub record Rowed (from end : ℕ) (first ends sums : List ℕ) (xs : List ℤ) : Type 0 where

@@ -2,7 +2,7 @@
 use Rattle.std.specs.Prelude.{List, [], ◌∷◌, ◌++◌, map, reverse, ℕ, ◌+◌}
 use Rattle.plan.specs.Plan.{PlanData, numbers}
 use Rattle.preliminary.specs.Positions.{preliminary}
-use Rattle.passes.specs.Runs.{Run, runsOn}
+use Rattle.passes.specs.Runs.{Run, runs_on}
 use Rattle.passes.specs.State.{State, start_at}
 use Rattle.passes.specs.Passes.{visit, pass}
 
@@ -10,28 +10,28 @@ pub record Visit : Type 0 where
   pub pass : ℕ
   pub run : Run
 
-abbrev pub visitOf : ℕ → Run → Visit
-visitOf q r = record { pass = q; run = r }
+abbrev pub visit_of : ℕ → Run → Visit
+visit_of q r = record { pass = q; run = r }
 
-unfoldable pub visitAll : PlanData → List Visit → State → State
-visitAll p [] s = s
-visitAll p (w ∷ ws) s = visitAll p ws (visit p w.pass w.run s)
+unfoldable pub visit_all : PlanData → List Visit → State → State
+visit_all p [] s = s
+visit_all p (w ∷ ws) s = visit_all p ws (visit p w.pass w.run s)
 
-unfoldable pub passVisits : PlanData → ℕ → List ℕ → List Visit
-passVisits p q [] = []
-passVisits p q (l ∷ ls) = map (visitOf q) (runsOn p l) ++ passVisits p q ls
+unfoldable pub pass_visits : PlanData → ℕ → List ℕ → List Visit
+pass_visits p q [] = []
+pass_visits p q (l ∷ ls) = map (visit_of q) (runs_on p l) ++ pass_visits p q ls
 
-unfoldable pub firstPass : PlanData → List Visit
-firstPass p = passVisits p 1 (numbers 1 p.levels)
+unfoldable pub first_pass : PlanData → List Visit
+first_pass p = pass_visits p 1 (numbers 1 p.levels)
 
-unfoldable pub secondPass : PlanData → List Visit
-secondPass p = passVisits p 2 (reverse (numbers 1 p.levels))
+unfoldable pub second_pass : PlanData → List Visit
+second_pass p = pass_visits p 2 (reverse (numbers 1 p.levels))
 
-unfoldable pub thirdPass : PlanData → List Visit
-thirdPass p = passVisits p 3 (numbers 1 p.levels)
+unfoldable pub third_pass : PlanData → List Visit
+third_pass p = pass_visits p 3 (numbers 1 p.levels)
 
 abbrev pub schedule : PlanData → List Visit
-schedule p = firstPass p ++ secondPass p ++ thirdPass p
+schedule p = first_pass p ++ second_pass p ++ third_pass p
 
 abbrev pub start : PlanData → State
 start p = start_at p (preliminary p)

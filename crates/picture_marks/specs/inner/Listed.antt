@@ -2,8 +2,8 @@
 -- its ends and its rating.
 use Rattle.std.specs.Prelude.{◌≡◌, Bool, true, false, cond, List, [], ◌++◌, map, ℕ, ◌*◌, ◌≤◌, ◌<◌, length, get_or, ℤ}
 use Rattle.ints.specs.Lists.{concat}
-use Rattle.ints.specs.Ratings.{allRatings}
-use Rattle.ints.specs.Reach.{allWithin}
+use Rattle.ints.specs.Ratings.{all_ratings}
+use Rattle.ints.specs.Reach.{all_within}
 use Rattle.plan.specs.Plan.{numbers}
 use Rattle.plan.specs.inner.Graph.{Below}
 use Rattle.passes.specs.State.{position_of}
@@ -13,7 +13,7 @@ use Rattle.picture_numbers.specs.Thousandths.{amount}
 use Rattle.picture_view.specs.Measure.{leftmost, rightmost}
 use Rattle.picture_view.specs.View.{head_of, style}
 use Rattle.picture_view.specs.inner.Edges.{Edged}
-use Rattle.picture_elements.specs.Elements.{line_of, bendOf, boxOf}
+use Rattle.picture_elements.specs.Elements.{line_of, bend_of, box_of}
 use Rattle.picture_marks.specs.inner.Asked.{NamesAsked}
 
 -- What f gives for 0, 1 .. below n, one after another.
@@ -25,18 +25,18 @@ pub record Stands (heights : List ℕ) (xs : List ℤ) : Type 0 where
   pub long : length heights ≡ length xs
   pub few : length xs ≤ 1024
   pub low : (v : ℕ) → v < length xs → get_or heights v 0 ≤ 630000
-  pub within : allWithin xs ≡ true
+  pub within : all_within xs ≡ true
 
 -- ---- lines
 -- The line with rating w from vertex a down to vertex b, and that of the k-th segment.
-abbrev pub lineBetween : ℕ → ℕ → List ℕ → List ℤ → ℕ → ℕ → List ℕ
-lineBetween u w heights xs a b = line_of u w (line (position_of xs a) (get_or heights a 0) (position_of xs b) (get_or heights b 0))
+abbrev pub line_between : ℕ → ℕ → List ℕ → List ℤ → ℕ → ℕ → List ℕ
+line_between u w heights xs a b = line_of u w (line (position_of xs a) (get_or heights a 0) (position_of xs b) (get_or heights b 0))
 
-abbrev pub segmentLine : ℕ → List ℕ → List ℕ → List ℕ → List ℕ → List ℤ → ℕ → List ℕ
-segmentLine u heights uppers lowers ratings xs k = lineBetween u (get_or ratings k 0) heights xs (get_or uppers k 0) (get_or lowers k 0)
+abbrev pub segment_line : ℕ → List ℕ → List ℕ → List ℕ → List ℕ → List ℤ → ℕ → List ℕ
+segment_line u heights uppers lowers ratings xs k = line_between u (get_or ratings k 0) heights xs (get_or uppers k 0) (get_or lowers k 0)
 
-abbrev pub linesIn : ℕ → List ℕ → List ℕ → List ℕ → List ℕ → List ℤ → List ℕ
-linesIn u heights uppers lowers ratings xs = walked (segmentLine u heights uppers lowers ratings xs) (length uppers)
+abbrev pub lines_in : ℕ → List ℕ → List ℕ → List ℕ → List ℕ → List ℤ → List ℕ
+lines_in u heights uppers lowers ratings xs = walked (segment_line u heights uppers lowers ratings xs) (length uppers)
 
 pub record LinesAsked (u : ℕ) (heights uppers lowers ratings : List ℕ) (xs : List ℤ) : Type 0 where
   pub measure : u ≤ 10000
@@ -45,14 +45,14 @@ pub record LinesAsked (u : ℕ) (heights uppers lowers ratings : List ℕ) (xs :
   pub upper : Below (length xs) uppers
   pub lower : Below (length xs) lowers
   pub rated : length ratings ≡ length uppers
-  pub in-range : allRatings ratings ≡ true
+  pub in_range : all_ratings ratings ≡ true
 
 -- ---- bends
-abbrev pub vertexBend : ℕ → List ℕ → List Bool → List ℤ → ℕ → List ℕ
-vertexBend u heights vias xs v = cond (get_or vias v false) (bendOf u v (bend (position_of xs v) (get_or heights v 0))) []
+abbrev pub vertex_bend : ℕ → List ℕ → List Bool → List ℤ → ℕ → List ℕ
+vertex_bend u heights vias xs v = cond (get_or vias v false) (bend_of u v (bend (position_of xs v) (get_or heights v 0))) []
 
-abbrev pub bendsIn : ℕ → List ℕ → List Bool → List ℤ → List ℕ
-bendsIn u heights vias xs = walked (vertexBend u heights vias xs) (length vias)
+abbrev pub bends_in : ℕ → List ℕ → List Bool → List ℤ → List ℕ
+bends_in u heights vias xs = walked (vertex_bend u heights vias xs) (length vias)
 
 pub record BendsAsked (u : ℕ) (heights : List ℕ) (vias : List Bool) (xs : List ℤ) : Type 0 where
   pub measure : u ≤ 10000
@@ -72,16 +72,16 @@ pub record BoxesAsked (u : ℕ) (heights : List ℕ) (vias : List Bool) (halves 
   pub boxes : BoxesStand u heights vias halves xs
   pub names : NamesAsked text starts ends (length vias)
 
-abbrev pub vertexBox : ℕ → List ℕ → List Bool → List ℕ → List ℤ → (ℕ → List ℕ) → ℕ → List ℕ
-vertexBox u heights vias halves xs name v =
-    cond (get_or vias v false) [] (boxOf u (name v) v (box (position_of xs v) (get_or heights v 0) (get_or halves v 0)))
+abbrev pub vertex_box : ℕ → List ℕ → List Bool → List ℕ → List ℤ → (ℕ → List ℕ) → ℕ → List ℕ
+vertex_box u heights vias halves xs name v =
+    cond (get_or vias v false) [] (box_of u (name v) v (box (position_of xs v) (get_or heights v 0) (get_or halves v 0)))
 
-abbrev pub boxesIn : ℕ → List ℕ → List Bool → List ℕ → List ℤ → (ℕ → List ℕ) → List ℕ
-boxesIn u heights vias halves xs name = walked (vertexBox u heights vias halves xs name) (length vias)
+abbrev pub boxes_in : ℕ → List ℕ → List Bool → List ℕ → List ℤ → (ℕ → List ℕ) → List ℕ
+boxes_in u heights vias halves xs name = walked (vertex_box u heights vias halves xs name) (length vias)
 
 -- ---- the document, in a view h steps high
-abbrev pub openingIn : ℕ → ℕ → List ℕ → List ℤ → List ℕ
-openingIn u h halves xs =
+abbrev pub opening_in : ℕ → ℕ → List ℕ → List ℤ → List ℕ
+opening_in u h halves xs =
     head_of (leftmost halves xs) (rightmost halves xs) u h ++ style
     ++ bytes "<g class=\"lines\" stroke-width=\"" ++ amount (20 * u) ++ bytes "\">\n"
 
@@ -90,11 +90,11 @@ pub record OpeningAsked (u h : ℕ) (halves : List ℕ) (xs : List ℤ) : Type 0
   pub measure : u ≤ 10000
   pub high : h ≤ 640000
 
-abbrev pub documentIn : ℕ → ℕ → List ℕ → List Bool → List ℕ → List ℕ → List ℕ → List ℕ → List ℤ → (ℕ → List ℕ) → List ℕ
-documentIn u h heights vias halves uppers lowers ratings xs name =
-    openingIn u h halves xs ++ linesIn u heights uppers lowers ratings xs ++ bytes "</g>\n<g class=\"bends\">\n"
-    ++ bendsIn u heights vias xs ++ bytes "</g>\n<g class=\"boxes\" stroke-width=\"" ++ amount (20 * u) ++ bytes "\">\n"
-    ++ boxesIn u heights vias halves xs name ++ bytes "</g>\n</svg>\n"
+abbrev pub document_in : ℕ → ℕ → List ℕ → List Bool → List ℕ → List ℕ → List ℕ → List ℕ → List ℤ → (ℕ → List ℕ) → List ℕ
+document_in u h heights vias halves uppers lowers ratings xs name =
+    opening_in u h halves xs ++ lines_in u heights uppers lowers ratings xs ++ bytes "</g>\n<g class=\"bends\">\n"
+    ++ bends_in u heights vias xs ++ bytes "</g>\n<g class=\"boxes\" stroke-width=\"" ++ amount (20 * u) ++ bytes "\">\n"
+    ++ boxes_in u heights vias halves xs name ++ bytes "</g>\n</svg>\n"
 
 pub record DocumentStands (u h : ℕ) (heights : List ℕ) (vias : List Bool) (halves uppers lowers ratings : List ℕ) (xs : List ℤ) : Type 0 where
   pub opening : OpeningAsked u h halves xs

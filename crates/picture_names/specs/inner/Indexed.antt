@@ -1,15 +1,15 @@
 -- What a line says, and names by their places in the text.
 use Rattle.std.specs.Prelude.{◌≡◌, Bool, true, false, List, [], ℕ, ◌-◌, ◌≤◌, ◌<◌, length, get_or, take, drop}
 use Rattle.text.specs.Parser.{Got, got, nothing}
-use Rattle.picture_names.specs.Chars.{isName}
-use Rattle.picture_names.specs.Names.{Names, named, answer_of, number_of, isGood, with}
+use Rattle.picture_names.specs.Chars.{is_name}
+use Rattle.picture_names.specs.Names.{Names, named, answer_of, number_of, is_good, with}
 use Rattle.script_words.specs.inner.Ends.{between}
 use Rattle.picture_names.specs.declared.types.NamesAnswer.{NamesAnswer}
 
 -- Whether what follows a line's number is a name.
 abbrev pub named? : Got ℕ → Bool
 named? nothing = false
-named? (got n name) = isName name
+named? (got n name) = is_name name
 
 -- The line has a number n and a name, which begins at `start`; or, where `good` is false, it has not.
 pub record Says (line : List ℕ) (good : Bool) (n start : ℕ) : Type 0 where
@@ -28,7 +28,7 @@ pub record HoldsNames (text starts ends : List ℕ) (l : List (List ℕ)) : Type
 
 -- A line between two places, after lines that gave l: whether it is good, and its name with the others.
 pub record Takes (vias : List Bool) (text : List ℕ) (from to : ℕ) (starts ends starts' ends' : List ℕ) (r : Bool) : Type 0 where
-  pub good : (l : List (List ℕ)) → length l ≡ length vias → HoldsNames text starts ends l → r ≡ isGood vias l (number_of (between from to text))
+  pub good : (l : List (List ℕ)) → length l ≡ length vias → HoldsNames text starts ends l → r ≡ is_good vias l (number_of (between from to text))
   pub holds : (l : List (List ℕ)) → length l ≡ length vias → HoldsNames text starts ends l → r ≡ true
       → HoldsNames text starts' ends' (with l (number_of (between from to text)))
 

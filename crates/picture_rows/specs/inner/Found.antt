@@ -1,10 +1,10 @@
 -- Ends of fronts of a name, and its first row.
 use Rattle.std.specs.Prelude.{◌≡◌, Bool, true, false, List, ◌∷◌, ℕ, ◌-◌, ◌+◌, ◌≤◌, ◌<◌, length, take, drop}
-use Rattle.picture_rows.specs.Rows.{isSpace, begins, row, rows}
+use Rattle.picture_rows.specs.Rows.{is_space, begins, row, rows}
 
 -- Before which bytes a front ends: spaces, or first bytes of characters.
 abbrev pub stops : Bool → ℕ → Bool
-stops true b = isSpace b
+stops true b = is_space b
 stops false b = begins b
 
 -- Of at most `left` rows the first ends at `end`, and what comes after it begins at `next`.

@@ -4,6 +4,6 @@ use Rattle.run.specs.declared.types.Bound.{Bound}
 use Rattle.run.specs.Call.{Request}
 
 -- The run of a call: as many boxes as old positions.
-abbrev pub requestOf : Bound → Bound → List ℤ → List ℕ → List ℕ → List ℤ → List ℕ → Request
-requestOf l r old ds cs ns ws =
+abbrev pub request_of : Bound → Bound → List ℤ → List ℕ → List ℕ → List ℤ → List ℕ → Request
+request_of l r old ds cs ns ws =
     record { boxes = length old; left = l; right = r; old = old; distances = ds; counts = cs; neighbours = ns; ratings = ws }

@@ -1,8 +1,8 @@
 -- What checks 3 to 6 ask about: the levels, the kinds of the vertices and the segments; not the widths, the spacing and the ratings.
 use Rattle.std.specs.Prelude.{Bool, true, cond, ◌&&◌, List, [], ◌≡◌, ℕ, zero, suc, ◌+◌, ◌<◌, ◌≤◌, ltb, eqb, length, get_or, set}
 use Rattle.ints.specs.Lists.{count_of}
-use Rattle.plan.specs.Limits.{maxLevels, maxVertices, maxSegments}
-use Rattle.plan.specs.Plan.{PlanData, data_of, levelIn}
+use Rattle.plan.specs.Limits.{max_levels, max_vertices, max_segments}
+use Rattle.plan.specs.Plan.{PlanData, data_of, level_in}
 use Rattle.plan.specs.Segments.{Segment}
 
 -- The data of which these lists are part; gap, spacing, half-widths and ratings are left out.
@@ -20,11 +20,11 @@ filled xs at (suc n) l = filled (set xs at l) (at + 1) n l
 
 -- A list that has the level of each vertex.
 pub record Levelled (sizes : List ℕ) (level : List ℕ) : Type 0 where
-  pub each : (v : ℕ) → v < length level → get_or level v 0 ≡ levelIn sizes v
+  pub each : (v : ℕ) → v < length level → get_or level v 0 ≡ level_in sizes v
 
 -- Whether a segment goes one level down, by such a list.
-abbrev pub oneDown : List ℕ → Segment → Bool
-oneDown level s =
+abbrev pub one_down : List ℕ → Segment → Bool
+one_down level s =
     ltb s.upper (length level) && ltb s.lower (length level) && eqb (get_or level s.lower 0) (get_or level s.upper 0 + 1)
 
 -- A list that has, of each of n numbers, how often it is in xs.
@@ -38,15 +38,15 @@ Below n xs = (i : ℕ) → i < length xs → get_or xs i 0 < n
 
 -- Lists within the limits, and as many lower ends as upper ends.
 pub record InLimits (sizes : List ℕ) (vias : List Bool) (uppers lowers : List ℕ) : Type 0 where
-  pub levels : length sizes ≤ maxLevels
-  pub vertices : length vias ≤ maxVertices
-  pub segments : length uppers ≤ maxSegments
+  pub levels : length sizes ≤ max_levels
+  pub vertices : length vias ≤ max_vertices
+  pub segments : length uppers ≤ max_segments
   pub ends : length uppers ≡ length lowers
 
 -- Lists within the limits, as many lower ends as upper ends, and every end a vertex.
 pub record Within (vias : List Bool) (uppers lowers : List ℕ) : Type 0 where
-  pub vertices : length vias ≤ maxVertices
-  pub segments : length uppers ≤ maxSegments
+  pub vertices : length vias ≤ max_vertices
+  pub segments : length uppers ≤ max_segments
   pub ends : length uppers ≡ length lowers
   pub upper : Below (length vias) uppers
   pub lower : Below (length vias) lowers

@@ -1,14 +1,14 @@
 -- What the program that tests remembered numbers asks, keeps and leaves.
 use Rattle.std.specs.Prelude.{◌≡◌, Bool, true, false, cond, not, ◌&&◌, List, ℕ, ◌+◌, ◌<◌, ◌≤◌, ltb, eqb, length, get_or, drop}
 use Rattle.ints.specs.Lists.{sum, count_of}
-use Rattle.plan.specs.Plan.{PlanData, vertexCount}
-use Rattle.plan.specs.Limits.{maxLevels, maxVertices}
+use Rattle.plan.specs.Plan.{PlanData, vertex_count}
+use Rattle.plan.specs.Limits.{max_levels, max_vertices}
 use Rattle.plan.specs.inner.Graph.{Levelled}
-use Rattle.plan_renumber.specs.Renumber.{ownNumbers}
+use Rattle.plan_renumber.specs.Renumber.{own_numbers}
 
 -- Whether v is a vertex on level l that was not seen yet.
-abbrev pub isNew : List ℕ → List Bool → ℕ → ℕ → Bool
-isNew level seen l v = ltb v (length level) && eqb (get_or level v 0) l && not (get_or seen v false)
+abbrev pub is_new : List ℕ → List Bool → ℕ → ℕ → Bool
+is_new level seen l v = ltb v (length level) && eqb (get_or level v 0) l && not (get_or seen v false)
 
 -- A list of levels, one of numbers and one of marks, as long as each other; no mark is set.
 pub record Markable (level m : List ℕ) (seen : List Bool) : Type 0 where
@@ -30,16 +30,16 @@ pub record Marked (level m : List ℕ) (seen : List Bool) (i : ℕ) : Type 0 whe
 
 -- p has these level sizes, that add up, and as many vertices as there are numbers.
 pub record Numbers (p : PlanData) (sizes m : List ℕ) : Type 0 where
-  pub sizesAre : p.sizes ≡ sizes
-  pub summed : sum sizes ≡ vertexCount p
-  pub many : vertexCount p ≡ length m
+  pub sizes_are : p.sizes ≡ sizes
+  pub summed : sum sizes ≡ vertex_count p
+  pub many : vertex_count p ≡ length m
 
 -- Level sizes and numbers within the limits.
 pub record FewNumbers (sizes m : List ℕ) : Type 0 where
-  pub levels : length sizes ≤ maxLevels
-  pub vertices : length m ≤ maxVertices
+  pub levels : length sizes ≤ max_levels
+  pub vertices : length m ≤ max_vertices
 
 -- What marking leaves: all marked, or numbers that are no plan's own.
 pub record Marks (level m : List ℕ) (seen : List Bool) (r : Bool) : Type 0 where
   pub new : r ≡ true → Marked level m seen (length m)
-  pub fails : r ≡ false → (p : PlanData) → Numbers p p.sizes m → Levelled p.sizes level → ownNumbers p m ≡ false
+  pub fails : r ≡ false → (p : PlanData) → Numbers p p.sizes m → Levelled p.sizes level → own_numbers p m ≡ false

@@ -8,7 +8,7 @@ use lib.Seq.{length-take-le}
 use Rattle.ints.specs.Lists.{sum}
 use Rattle.plan.specs.Walk.{walk}
 use Rattle.plan_walks.specs.inner.Walks.{after, ahead}
-use Rattle.plan_walks.proofs.WalkLaws.{graph, leaving, walkAt, walk-level}
+use Rattle.plan_walks.proofs.WalkLaws.{graph, leaving, walk_at, walk-level}
 use borrow.Author.Rules.{rules}
 use Rattle.plan_walks.proofs.walk_from.Statement.{statement}
 use Rattle.plan_walks.proofs.walk_from.Tie as tie
@@ -36,7 +36,7 @@ returns c =
     let vias = s.args.vias.now in
     let uppers = s.args.uppers.now in
     let lowers = s.args.lowers.now in
-    let at = walkAt vias uppers lowers in
+    let at = walk_at vias uppers lowers in
     let again : suc (l - 1) ≡ l = omega (arith, s.requires.0) in
     let start = c.before.before.before.before.total.ensures in
     let end : c.before.before.total2.result ≡ sum (take (suc (l - 1)) sizes) = c.before.before.total2.ensures ∙ ap (λ (n : ℕ). sum (take n sizes)) (sym again) in

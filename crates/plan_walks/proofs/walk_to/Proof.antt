@@ -8,8 +8,8 @@ use mathlib.Core.Bool.{Bool, true, false, cond}
 use mathlib.Core.List.{List, []}
 use Rattle.plan.specs.inner.Graph.{graph_of}
 use Rattle.plan.proofs.All.{no_true}
-use Rattle.plan_walks.specs.inner.Walks.{after, ahead, walkTo}
-use Rattle.plan_walks.proofs.WalkLaws.{walkAt, ahead-all, ahead-end, walk-go, walk-stop, walk_none}
+use Rattle.plan_walks.specs.inner.Walks.{after, ahead, walk_to}
+use Rattle.plan_walks.proofs.WalkLaws.{walk_at, ahead-all, ahead-end, walk-go, walk-stop, walk_none}
 use borrow.Author.Rules.{rules}
 use borrow.Author.Tests.{ltb-true, ltb-false}
 use Rattle.plan_walks.proofs.walk_to.Statement.{statement}
@@ -17,7 +17,7 @@ use Rattle.plan_walks.proofs.walk_to.Tie as tie
 
 abbrev invariant-loop : tie.invariant-loop
 invariant-loop vias uppers lowers from end taken₀ last₀ i₀ taken last i =
-    (taken ≤ i) × (walkAt vias uppers lowers end i taken last ≡ walkAt vias uppers lowers end from 0 0)
+    (taken ≤ i) × (walk_at vias uppers lowers end i taken last ≡ walk_at vias uppers lowers end from 0 0)
 
 abbrev decreases-loop : tie.decreases-loop
 decreases-loop vias uppers lowers from end taken₀ last₀ i₀ taken last i = length uppers - i
@@ -30,8 +30,8 @@ cast-if1 c = omega (arith, c.before.shared-slice-known4.given c.before.before.be
 
 -- where no segment is ahead, the walk is at its end
 walked-out : (vias : List Bool) (uppers lowers : List ℕ) (from end taken last i : ℕ) → ahead end (after uppers lowers i) ≡ []
-    → walkAt vias uppers lowers end i taken last ≡ walkAt vias uppers lowers end from 0 0
-    → record { crossed = false; taken = taken } ≡ walkTo vias uppers lowers from end
+    → walk_at vias uppers lowers end i taken last ≡ walk_at vias uppers lowers end from 0 0
+    → record { crossed = false; taken = taken } ≡ walk_to vias uppers lowers from end
 walked-out vias uppers lowers from end taken last i none w =
     sym (walk_none (graph_of [] vias uppers lowers) taken last (ahead end (after uppers lowers i)) none) ∙ w
 
@@ -79,7 +79,7 @@ loop-again c =
     let lowers = s.args.lowers.now in
     let end = s.args.end in
     let inner = c.before.before.before.is-inner.result in
-    let walk = walkAt vias uppers lowers end (l.i + 1) in
+    let walk = walk_at vias uppers lowers end (l.i + 1) in
     let go = walk-go vias uppers lowers end l.i s.requires.ends (omega arith) c.before.before.before.before.if1.false l.taken l.last
     inner c.before.before.before.is-inner.ensures (kept c.before.before) in (
       omega (arith, c.before.counted.ensures, one_more inner l.taken),

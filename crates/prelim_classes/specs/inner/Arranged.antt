@@ -13,13 +13,13 @@ followers (v ∷ []) = 2048 ∷ []
 followers (v ∷ w ∷ ws) = w ∷ followers (w ∷ ws)
 
 -- A level of n vertices from v on, and levels of these sizes, in the order in hand.
-abbrev pub levelBy : Bool → ℕ → ℕ → List ℕ
-levelBy reversed v n = cond reversed (reverse (numbers v n)) (numbers v n)
+abbrev pub level_by : Bool → ℕ → ℕ → List ℕ
+level_by reversed v n = cond reversed (reverse (numbers v n)) (numbers v n)
 
-unfoldable pub levelsBy : Bool → ℕ → List ℕ → List (List ℕ)
-levelsBy reversed v [] = []
-levelsBy reversed v (n ∷ ns) = levelBy reversed v n ∷ levelsBy reversed (v + n) ns
+unfoldable pub levels_by : Bool → ℕ → List ℕ → List (List ℕ)
+levels_by reversed v [] = []
+levels_by reversed v (n ∷ ns) = level_by reversed v n ∷ levels_by reversed (v + n) ns
 
 -- The j-th vertex of such a level.
-abbrev pub vertexBy : Bool → ℕ → ℕ → ℕ → ℕ
-vertexBy reversed v n j = cond reversed (v + n - 1 - j) (v + j)
+abbrev pub vertex_by : Bool → ℕ → ℕ → ℕ → ℕ
+vertex_by reversed v n j = cond reversed (v + n - 1 - j) (v + j)

@@ -29,8 +29,8 @@ among v (w ∷ ws) =
     cond (eqb w v) true more
 
 -- What stands for "none": a number that is none of n.
-abbrev pub orNone : ℕ → ℕ → Option ℕ
-orNone n u = cond (ltb u n) (some u) none
+abbrev pub or_none : ℕ → ℕ → Option ℕ
+or_none n u = cond (ltb u n) (some u) none
 
 -- At which places c is in a list, the first being i.
 unfoldable pub positions : ℕ → ℕ → List ℕ → List ℕ
@@ -48,10 +48,10 @@ pub record Bucketed (keys head link : List ℕ) : Type 0 where
 
 -- The sibling pairs of n vertices: `order` has the vertices level by level, `right` their right siblings, where a number that is no
 -- vertex stands for "none".
-unfoldable pub pairsBy : ℕ → List ℕ → List ℕ → List Siblings
-pairsBy n [] ws = []
-pairsBy n (v ∷ vs) [] = []
-pairsBy n (v ∷ vs) (w ∷ ws) =
-    let more = pairsBy n vs ws in
+unfoldable pub pairs_by : ℕ → List ℕ → List ℕ → List Siblings
+pairs_by n [] ws = []
+pairs_by n (v ∷ vs) [] = []
+pairs_by n (v ∷ vs) (w ∷ ws) =
+    let more = pairs_by n vs ws in
     let here : List Siblings = record { left = v; right = w } ∷ more in
     cond (ltb w n) here more

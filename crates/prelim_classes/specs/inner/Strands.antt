@@ -18,18 +18,18 @@ pub record StrandsBy (strand : ℕ → List ℕ) (next top : List ℕ) : Type 0 
   pub each : (v : ℕ) → v < length next → strand v ≡ chain next (get_or top v 0)
 
 -- The other ends of the inner segments that v is this end of.
-unfoldable pub innerEnds : List Bool → List ℕ → List ℕ → ℕ → List ℕ
-innerEnds vias [] bs v = []
-innerEnds vias (a ∷ «as») [] v = []
-innerEnds vias (a ∷ «as») (b ∷ bs) v =
-    let more = innerEnds vias «as» bs v in
+unfoldable pub inner_ends : List Bool → List ℕ → List ℕ → ℕ → List ℕ
+inner_ends vias [] bs v = []
+inner_ends vias (a ∷ «as») [] v = []
+inner_ends vias (a ∷ «as») (b ∷ bs) v =
+    let more = inner_ends vias «as» bs v in
     let here = b ∷ more in
     cond (eqb a v && (get_or vias a false && get_or vias b false)) here more
 
 -- Of each vertex the first of them.
 pub record InnerLinks (vias : List Bool) («as» bs link : List ℕ) : Type 0 where
   pub long : length link ≡ length vias
-  pub each : (v : ℕ) → v < length vias → get_or link v 0 ≡ first_or 2048 (innerEnds vias «as» bs v)
+  pub each : (v : ℕ) → v < length vias → get_or link v 0 ≡ first_or 2048 (inner_ends vias «as» bs v)
 
 -- The topmost vertex of each strand, by the vertex above each.
 pub record Tops (prev top : List ℕ) : Type 0 where

@@ -1,14 +1,14 @@
 -- What the walks that class and place strands ask of the lists they work on, and what they leave.
 use Rattle.std.specs.Prelude.{Bool, true, false, cond, List, [], ◌∷◌, map, ◌≡◌, ℕ, suc, ◌+◌, ◌*◌, ◌<◌, ◌≤◌, eqb, length, get_or, take, drop, replicate, ℤ, pos}
 use Rattle.ints.specs.Ints.{P, N}
-use Rattle.plan.specs.Limits.{maxVertices}
+use Rattle.plan.specs.Limits.{max_vertices}
 use Rattle.plan.specs.inner.Graph.{Below}
 use Rattle.plan.specs.inner.Distances.{Narrow}
 use Rattle.plan.specs.Plan.{PlanData, Siblings}
-use Rattle.prelim_classes.specs.inner.Links.{Rising, chain, orNone, pairsBy}
+use Rattle.prelim_classes.specs.inner.Links.{Rising, chain, or_none, pairs_by}
 use Rattle.prelim_classes.specs.inner.Strands.{Strung, StrandsBy}
 use Rattle.preliminary.specs.Classes.{give}
-use Rattle.preliminary.specs.Place.{Placing, Asked, askedBy, placeStrand, placeSiblings, placeEach}
+use Rattle.preliminary.specs.Place.{Placing, Asked, asked_by, place_strand, place_siblings, place_each}
 
 -- A list cut into levels of these sizes.
 unfoldable pub cut : List ℕ → List ℕ → List (List ℕ)
@@ -46,10 +46,10 @@ pub record Placeable (gap : ℕ) (halves next top sibling at : List ℕ) (begun 
 
 -- The same of a plan.
 pub record Asks (p : PlanData) (strand : ℕ → List ℕ) (siblings : List Siblings) (classes : List ℕ) (gap : ℕ) (halves next top sibling : List ℕ) : Type 0 where
-  pub gapIs : p.gap ≡ gap
-  pub halvesAre : p.halves ≡ halves
+  pub gap_is : p.gap ≡ gap
+  pub halves_are : p.halves ≡ halves
   pub strands : StrandsBy strand next top
-  pub asked : (v : ℕ) → v < length next → askedBy siblings classes v ≡ orNone (length next) (get_or sibling v 0)
+  pub asked : (v : ℕ) → v < length next → asked_by siblings classes v ≡ or_none (length next) (get_or sibling v 0)
 
 -- What placing a strand leaves.
 pub record StrandKept (top at : List ℕ) (begun : List Bool) (at' : List ℕ) (begun' : List Bool) : Type 0 where
@@ -59,7 +59,7 @@ pub record StrandKept (top at : List ℕ) (begun : List Bool) (at' : List ℕ) (
 
 pub record StrandPlaced (gap : ℕ) (halves next top sibling : List ℕ) (v : ℕ) (s t : Placing) : Type 0 where
   pub each : (p : PlanData) (strand : ℕ → List ℕ) (siblings : List Siblings) (classes : List ℕ) → Asks p strand siblings classes gap halves next top sibling
-      → (f : ℕ) → 2 * unbegun s.begun ≤ f → t ≡ placeStrand p strand siblings classes f v s
+      → (f : ℕ) → 2 * unbegun s.begun ≤ f → t ≡ place_strand p strand siblings classes f v s
 
 -- What placing siblings leaves, r being what they ask.
 pub record SiblingsLow (at : List ℕ) (n most : ℕ) (at' : List ℕ) (n' r m : ℕ) : Type 0 where
@@ -74,17 +74,17 @@ pub record SiblingsKept (top at : List ℕ) (begun : List Bool) (most : ℕ) (at
 pub record SiblingsPlaced (gap : ℕ) (halves next top sibling : List ℕ) (w most : ℕ) (s : Placing) (r : ℕ) (t : Placing) : Type 0 where
   pub each : (p : PlanData) (strand : ℕ → List ℕ) (siblings : List Siblings) (classes : List ℕ) → Asks p strand siblings classes gap halves next top sibling
       → (f : ℕ) → 2 * unbegun s.begun + length (chain next w) ≤ f
-      → ◌≡◌ {A = Asked} (record { most = r; after = t }) (placeSiblings p strand siblings classes f (chain next w) most s)
+      → ◌≡◌ {A = Asked} (record { most = r; after = t }) (place_siblings p strand siblings classes f (chain next w) most s)
 
 -- Where n vertices stand whose strands are placed in this order.
-abbrev pub placedBy : PlanData → (ℕ → List ℕ) → List Siblings → List ℕ → ℕ → List ℕ → List ℕ
-placedBy p strand siblings classes n order = (placeEach p strand siblings classes (3 * n) order (placing (replicate n 0) (replicate n false))).at
+abbrev pub placed_by : PlanData → (ℕ → List ℕ) → List Siblings → List ℕ → ℕ → List ℕ → List ℕ
+placed_by p strand siblings classes n order = (place_each p strand siblings classes (3 * n) order (placing (replicate n 0) (replicate n false))).at
 
 -- The lists were those of the placing, and this is where it left the vertices.
 pub record AllPlaced (gap : ℕ) (halves next top sibling order at : List ℕ) : Type 0 where
   pub low : (v : ℕ) → get_or at v 0 ≤ 512000
   pub each : (p : PlanData) (strand : ℕ → List ℕ) (siblings : List Siblings) (classes : List ℕ) → Asks p strand siblings classes gap halves next top sibling
-      → at ≡ placedBy p strand siblings classes (length next) order
+      → at ≡ placed_by p strand siblings classes (length next) order
 
 -- ---- classes
 -- Lists to class strands by: `order` has the vertices level by level.
@@ -96,26 +96,26 @@ pub record Classable (next top order classes : List ℕ) : Type 0 where
   pub marks : length classes ≡ length next
 
 -- What a vertex on the way along a level does to the classes and to the current number.
-abbrev pub classesAfter : List ℕ → List ℕ → ℕ → ℕ → List ℕ
-classesAfter strand classes v current = cond (eqb (get_or classes v 0) 0) (give current strand classes) classes
+abbrev pub classes_after : List ℕ → List ℕ → ℕ → ℕ → List ℕ
+classes_after strand classes v current = cond (eqb (get_or classes v 0) 0) (give current strand classes) classes
 
-abbrev pub currentAfter : List ℕ → ℕ → ℕ → ℕ
-currentAfter classes v current = cond (eqb (get_or classes v 0) 0) current (get_or classes v 0)
+abbrev pub current_after : List ℕ → ℕ → ℕ → ℕ
+current_after classes v current = cond (eqb (get_or classes v 0) 0) current (get_or classes v 0)
 
 -- The left sibling u of v, and a number that is no vertex where it is of another class.
-abbrev pub sameClass : ℕ → ℕ → List ℕ → ℕ
-sameClass u v classes = cond (eqb (get_or classes u 0) (get_or classes v 0)) u 2048
+abbrev pub same_class : ℕ → ℕ → List ℕ → ℕ
+same_class u v classes = cond (eqb (get_or classes u 0) (get_or classes v 0)) u 2048
 
 -- `sibling` has of each vertex the left sibling of its class.
 pub record SiblingsOf (order right classes sibling : List ℕ) : Type 0 where
-  pub each : (v : ℕ) → v < length classes → askedBy (pairsBy (length classes) order right) classes v ≡ orNone (length classes) (get_or sibling v 0)
+  pub each : (v : ℕ) → v < length classes → asked_by (pairs_by (length classes) order right) classes v ≡ or_none (length classes) (get_or sibling v 0)
 
 -- ---- the whole
 -- What placing asks of a plan's lists, its vertices being in order and classed.
 pub record Classed (gap : ℕ) (halves next top order right classes : List ℕ) : Type 0 where
   pub narrow : Narrow gap halves
   pub strung : Strung next top
-  pub few : length next ≤ maxVertices
+  pub few : length next ≤ max_vertices
   pub boxes : length halves ≡ length next
   pub rights : length right ≡ length order
   pub vertices : Below (length next) order
@@ -126,4 +126,4 @@ pub record Stand (gap : ℕ) (halves next top order right classes : List ℕ) (x
   pub least : (v : ℕ) → N (get_or xs v (pos 0)) ≡ 0
   pub most : (v : ℕ) → P (get_or xs v (pos 0)) ≤ 512000
   pub each : (p : PlanData) (strand : ℕ → List ℕ) → p.gap ≡ gap → p.halves ≡ halves → StrandsBy strand next top
-      → xs ≡ map pos (placedBy p strand (pairsBy (length next) order right) classes (length next) order)
+      → xs ≡ map pos (placed_by p strand (pairs_by (length next) order right) classes (length next) order)

@@ -2,14 +2,14 @@
 use Rattle.std.specs.Prelude.{Bool, List, ◌≡◌, ℕ, length, replicate, ℤ}
 use Rattle.ints.specs.Ints.{SizedTo}
 use Rattle.plan.specs.Plan.{PlanData}
-use Rattle.preliminary.specs.Positions.{positionsOn}
+use Rattle.preliminary.specs.Positions.{positions_on}
 use Rattle.prelim_classes.specs.inner.Strands.{StrungPlan}
-use Rattle.prelim_classes.specs.inner.Arranged.{levelsBy}
+use Rattle.prelim_classes.specs.inner.Arranged.{levels_by}
 
 -- The positions on levels in the order in hand.
 pub record SideIs (reversed : Bool) (gap : ℕ) (sizes halves next top uppers lowers : List ℕ) (xs : List ℤ) : Type 0 where
   pub small : SizedTo 33312000 xs
-  pub each : (p : PlanData) → StrungPlan p gap sizes halves next top uppers lowers → xs ≡ positionsOn p (levelsBy reversed 0 sizes)
+  pub each : (p : PlanData) → StrungPlan p gap sizes halves next top uppers lowers → xs ≡ positions_on p (levels_by reversed 0 sizes)
 
 -- Lists of n entries for one side, as they begin.
 pub record SideRoom (n : ℕ) (order right classes : List ℕ) (xs : List ℤ) : Type 0 where

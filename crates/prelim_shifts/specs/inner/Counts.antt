@@ -15,6 +15,6 @@ pub record NoneAbove (z : ℤ) (xs : List ℤ) : Type 0 where
   pub each : (i : ℕ) → i < length xs → get_or xs i (pos 0) ⊑ z
 
 -- Each of these vertices goes d to the right.
-unfoldable pub movedAt : ℤ → List ℕ → List ℤ → List ℤ
-movedAt d [] xs = xs
-movedAt d (v ∷ vs) xs = movedAt d vs (set xs v (get_or xs v (pos 0) +ℤ d))
+unfoldable pub moved_at : ℤ → List ℕ → List ℤ → List ℤ
+moved_at d [] xs = xs
+moved_at d (v ∷ vs) xs = moved_at d vs (set xs v (get_or xs v (pos 0) +ℤ d))

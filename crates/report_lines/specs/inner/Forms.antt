@@ -2,14 +2,14 @@
 use Rattle.std.specs.Prelude.{List, ◌++◌, ℕ, ℤ}
 use Rattle.text.specs.Bytes.{bytes}
 use Rattle.text.specs.Decimal.{decimal}
-use Rattle.passes.specs.Drawing.{BoxAt, Placing, boxesWith}
+use Rattle.passes.specs.Drawing.{BoxAt, Placing, boxes_with}
 
-abbrev pub boxAt : ℕ → ℤ → BoxAt
-boxAt v x = record { vertex = v; position = x }
+abbrev pub box_at : ℕ → ℤ → BoxAt
+box_at v x = record { vertex = v; position = x }
 
 abbrev pub placing : ℕ → ℕ → List ℕ → List ℤ → Placing
-placing q l vs ys = record { pass = q; level = l; boxes = boxesWith vs ys }
+placing q l vs ys = record { pass = q; level = l; boxes = boxes_with vs ys }
 
 -- A place line up to its boxes.
-unfoldable pub placeHead : ℕ → ℕ → List ℕ
-placeHead q l = bytes "(place " ++ decimal q ++ bytes " " ++ decimal l
+unfoldable pub place_head : ℕ → ℕ → List ℕ
+place_head q l = bytes "(place " ++ decimal q ++ bytes " " ++ decimal l

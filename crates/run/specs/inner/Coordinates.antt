@@ -6,34 +6,34 @@ use Rattle.run.specs.Run.{Bound, free, at, Lead, Box}
 abbrev pub less : ℕ → ℤ → ℤ
 less o n = n -ℤ pos o
 
-unfoldable pub countUpTo : ℤ → List ℤ → ℕ
-countUpTo m [] = 0
-countUpTo m (n ∷ ns) = cond (lt_z m n) 0 1 + countUpTo m ns
+unfoldable pub count_up_to : ℤ → List ℤ → ℕ
+count_up_to m [] = 0
+count_up_to m (n ∷ ns) = cond (lt_z m n) 0 1 + count_up_to m ns
 
 -- The ratings of the neighbours at or left of m.
-unfoldable pub ratedUpTo : ℤ → List Lead → ℕ
-ratedUpTo m [] = 0
-ratedUpTo m (n ∷ ns) = cond (lt_z m n.at) 0 n.rating + ratedUpTo m ns
+unfoldable pub rated_up_to : ℤ → List Lead → ℕ
+rated_up_to m [] = 0
+rated_up_to m (n ∷ ns) = cond (lt_z m n.at) 0 n.rating + rated_up_to m ns
 
-abbrev pub lessLead : ℕ → Lead → Lead
-lessLead o n = record { at = less o n.at; rating = n.rating }
+abbrev pub less_lead : ℕ → Lead → Lead
+less_lead o n = record { at = less o n.at; rating = n.rating }
 
-abbrev pub lessBox : ℕ → Box → Box
-lessBox o b = record { old = less o b.old; near = map (lessLead o) b.near; dist = b.dist }
+abbrev pub less_box : ℕ → Box → Box
+less_box o b = record { old = less o b.old; near = map (less_lead o) b.near; dist = b.dist }
 
-unfoldable pub inRun : ℕ → List Box → List Box
-inRun o [] = []
-inRun o (b ∷ bs) = lessBox o b ∷ inRun (o + b.dist) bs
+unfoldable pub in_run : ℕ → List Box → List Box
+in_run o [] = []
+in_run o (b ∷ bs) = less_box o b ∷ in_run (o + b.dist) bs
 
-unfoldable pub addOffsets : ℕ → List Box → List ℤ → List ℤ
-addOffsets o [] zs = []
-addOffsets o (b ∷ bs) [] = []
-addOffsets o (b ∷ bs) (z ∷ zs) = (z +ℤ pos o) ∷ addOffsets (o + b.dist) bs zs
+unfoldable pub add_offsets : ℕ → List Box → List ℤ → List ℤ
+add_offsets o [] zs = []
+add_offsets o (b ∷ bs) [] = []
+add_offsets o (b ∷ bs) (z ∷ zs) = (z +ℤ pos o) ∷ add_offsets (o + b.dist) bs zs
 
-abbrev pub leftLimit : Bound → ℕ → Bound
-leftLimit free d = free
-leftLimit (at l) d = at (l +ℤ pos d)
+abbrev pub left_limit : Bound → ℕ → Bound
+left_limit free d = free
+left_limit (at l) d = at (l +ℤ pos d)
 
-abbrev pub rightLimit : Bound → ℕ → Bound
-rightLimit free w = free
-rightLimit (at r) w = at (r -ℤ pos w)
+abbrev pub right_limit : Bound → ℕ → Bound
+right_limit free w = free
+right_limit (at r) w = at (r -ℤ pos w)

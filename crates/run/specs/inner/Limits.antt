@@ -1,6 +1,6 @@
 -- Limits of a run in run coordinates, the same for every box.
 use Rattle.std.specs.Prelude.{ℤ}
-use Rattle.ints.specs.Ints.{◌⊑◌, minZ, maxZ}
+use Rattle.ints.specs.Ints.{◌⊑◌, min_z, max_z}
 use Rattle.run.specs.Run.{Bound, free, at}
 
 abbrev pub Above : Bound → ℤ → Type 0
@@ -20,13 +20,13 @@ abbrev pub HasPlace : Bound → Bound → Type 0
 HasPlace free H = Unit {0}
 HasPlace (at l) H = Below H l
 
-abbrev pub clampLow : Bound → ℤ → ℤ
-clampLow free z = z
-clampLow (at l) z = maxZ z l
+abbrev pub clamp_low : Bound → ℤ → ℤ
+clamp_low free z = z
+clamp_low (at l) z = max_z z l
 
-abbrev pub clampHigh : Bound → ℤ → ℤ
-clampHigh free z = z
-clampHigh (at h) z = minZ z h
+abbrev pub clamp_high : Bound → ℤ → ℤ
+clamp_high free z = z
+clamp_high (at h) z = min_z z h
 
 abbrev pub clamp : Bound → Bound → ℤ → ℤ
-clamp L H z = clampHigh H (clampLow L z)
+clamp L H z = clamp_high H (clamp_low L z)

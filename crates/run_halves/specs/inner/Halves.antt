@@ -2,23 +2,23 @@
 use Rattle.std.specs.Prelude.{◌≡◌, List, ℕ, ◌≤◌, length, ℤ}
 use Rattle.ints.specs.Ints.{size}
 use Rattle.run.specs.Run.{Bound as Limit, free, at, Box}
-use Rattle.run.specs.inner.Bisection.{placeFast}
-use Rattle.run.specs.Call.{boxesFrom}
-use Rattle.run_columns.specs.inner.Columns.{Small, maxSize, Columns}
+use Rattle.run.specs.inner.Bisection.{place_fast}
+use Rattle.run.specs.Call.{boxes_from}
+use Rattle.run_columns.specs.inner.Columns.{Small, max_size, Columns}
 use Rattle.run.specs.inner.Limits.{HasPlace}
-use Rattle.run.specs.inner.Coordinates.{inRun, addOffsets}
+use Rattle.run.specs.inner.Coordinates.{in_run, add_offsets}
 use Rattle.ints.specs.Lists.{sum}
-use Rattle.run_columns.specs.inner.Offsets.{Near, OffsetsOf, maxOffset}
+use Rattle.run_columns.specs.inner.Offsets.{Near, OffsetsOf, max_offset}
 use Rattle.run_columns.specs.inner.Sums.{SumsOf}
 
 abbrev pub SmallLimit : Limit → Type 0
 SmallLimit free = Unit {0}
-SmallLimit (at x) = size x ≤ maxSize
+SmallLimit (at x) = size x ≤ max_size
 
 -- The answer is that of the definition, whatever the distances ds (in run coordinates they are of no account), and small.
 -- The number f is at least the number of boxes.
 pub record Placed (L H : Limit) (old : List ℤ) (cs : List ℕ) (ns : List ℤ) (ws : List ℕ) (zs : List ℤ) : Type 0 where
-  pub answer : (ds : List ℕ) (f : ℕ) → length old ≤ f → zs ≡ placeFast L H f (boxesFrom old ds cs ns ws)
+  pub answer : (ds : List ℕ) (f : ℕ) → length old ≤ f → zs ≡ place_fast L H f (boxes_from old ds cs ns ws)
   pub small : Small zs
 
 -- What placing by halves asks: columns that fit each other and the answer, an offset for each box, positions within reach, and the
@@ -44,8 +44,8 @@ pub record Fits (L H : Limit) (ds : List ℕ) (old : List ℤ) (cs : List ℕ) (
   pub olds : Near old
   pub nears : Near ns
   pub sums : SumsOf ss ns
-  pub offsets : sum ds ≤ maxOffset
+  pub offsets : sum ds ≤ max_offset
 
 -- Boxes placed between two limits: into run coordinates, by halves, and back.
-abbrev pub placedBetween : Limit → Limit → List Box → List ℤ
-placedBetween L H bs = addOffsets 0 bs (placeFast L H (length bs) (inRun 0 bs))
+abbrev pub placed_between : Limit → Limit → List Box → List ℤ
+placed_between L H bs = add_offsets 0 bs (place_fast L H (length bs) (in_run 0 bs))

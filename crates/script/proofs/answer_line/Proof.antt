@@ -2,7 +2,7 @@
 use mathlib.Core.Path.{◌∙◌, ap}
 use borrow.Author.Rules.{rules}
 use Rattle.script_runs.specs.inner.Filled.{buffers}
-use Rattle.script_commands.specs.Table.{commandOf}
+use Rattle.script_commands.specs.Table.{command_of}
 use Rattle.script_commands.specs.inner.Held.{lent}
 use Rattle.script_told.specs.Turns.{Turn}
 use Rattle.script_run.proofs.Whole.{inside-after, rooms, answer-long, rooms-turn}
@@ -71,7 +71,7 @@ returns : tie.Need-returns
 returns c =
     let a = c.before.before.before.before.before.before.before.before.before.before.before.before.before.before.before.before.before.before.before.before.before.before.before.args in let k = c.before.before.before.before.before.before.before.before.before.before.before.before.before.before.before.command in
     c.before.print-answers.ensures
-    ∙ ap (λ (t : Turn). t.sheet) (rooms-turn a.sheet (commandOf a.line.now) k.result (lent k.new.1.0 (buffers k.new.1.1.0 k.new.1.1.1.0 k.new.1.1.1.1.0 k.new.1.1.1.1.1.0 k.new.1.1.1.1.1.1.0)) k.ensures)
+    ∙ ap (λ (t : Turn). t.sheet) (rooms-turn a.sheet (command_of a.line.now) k.result (lent k.new.1.0 (buffers k.new.1.1.0 k.new.1.1.1.0 k.new.1.1.1.1.0 k.new.1.1.1.1.1.0 k.new.1.1.1.1.1.1.0)) k.ensures)
 
 pub answer-line-spec : {M : Type 1} → statement M
 answer-line-spec =

@@ -8,8 +8,8 @@ use borrow.Author.Tests.{not-false}
 use lib.ListN.{length}
 use lib.Seq.{length-take-le}
 use Rattle.script_runs.specs.inner.Filled.{buffers}
-use Rattle.script_commands.specs.inner.Held.{lent, commandIn}
-use Rattle.script_answers.specs.inner.Lengths.{maxAnswer}
+use Rattle.script_commands.specs.inner.Held.{lent, command_in}
+use Rattle.script_answers.specs.inner.Lengths.{max_answer}
 use Rattle.script_told.specs.Turns.{turn_of}
 use Rattle.script_told.proofs.Enough.{few-answers}
 use Rattle.script_run.proofs.Going.{Turning, turning, asked, left, below, next}
@@ -18,12 +18,12 @@ use Rattle.script.proofs.print_answers.Tie as tie
 
 abbrev invariant-loop : tie.invariant-loop
 invariant-loop command text old distances counts neighbours ratings buffer₀ kept₀ n₀ buffer kept n =
-    Turning command (lent text (buffers old distances counts neighbours ratings)) (turn_of (commandIn command (lent text (buffers old distances counts neighbours ratings))) kept₀) kept n
-    × (maxAnswer ≤ length buffer) × (length buffer ≡ length buffer₀)
+    Turning command (lent text (buffers old distances counts neighbours ratings)) (turn_of (command_in command (lent text (buffers old distances counts neighbours ratings))) kept₀) kept n
+    × (max_answer ≤ length buffer) × (length buffer ≡ length buffer₀)
 
 abbrev decreases-loop : tie.decreases-loop
 decreases-loop command text old distances counts neighbours ratings buffer₀ kept₀ n₀ buffer kept n =
-    length (turn_of (commandIn command (lent text (buffers old distances counts neighbours ratings))) kept₀).said - n
+    length (turn_of (command_in command (lent text (buffers old distances counts neighbours ratings))) kept₀).said - n
 
 loop-holds : tie.Need-loop-init invariant-loop decreases-loop
 loop-holds c =
@@ -48,7 +48,7 @@ add-n c =
     omega (
       arith,
       below c.before.before.before.before.before.before.before.before.before.loop.invariant.0 c.before.before.before.before.before.before.before.turn.ensures (not-false _ c.if1.false),
-      few-answers (commandIn a.command (lent a.text.now (buffers a.old.now a.distances.now a.counts.now a.neighbours.now a.ratings.now))) a.sheet,
+      few-answers (command_in a.command (lent a.text.now (buffers a.old.now a.distances.now a.counts.now a.neighbours.now a.ratings.now))) a.sheet,
     )
 
 loop-less : tie.Need-loop-smaller invariant-loop decreases-loop

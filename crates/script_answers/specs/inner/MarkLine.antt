@@ -2,7 +2,7 @@
 use Rattle.std.specs.Prelude.{List, ◌++◌, ℕ}
 use Rattle.text.specs.Bytes.{bytes}
 use Rattle.marks.specs.declared.types.Mark.{Mark}
-use Rattle.script_marks.specs.inner.Floats.{markIn}
+use Rattle.script_marks.specs.inner.Floats.{mark_in}
 
-unfoldable pub markLineIn : Mark → List ℕ
-markLineIn m = bytes "ok " ++ markIn m ++ bytes "\n"
+unfoldable pub mark_line_in : Mark → List ℕ
+mark_line_in m = bytes "ok " ++ mark_in m ++ bytes "\n"

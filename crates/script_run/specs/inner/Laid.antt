@@ -3,7 +3,7 @@ use Rattle.std.specs.Prelude.{◌≡◌, Bool, true, List, ℕ, ◌≤◌, lengt
 use Rattle.sheet.specs.declared.types.Sheet.{Sheet}
 use Rattle.script_commands.specs.declared.types.Command.{Command as Found}
 use Rattle.script_commands.specs.inner.Held.{Lent, Inside}
-use Rattle.script_answers.specs.inner.Lengths.{maxAnswer}
+use Rattle.script_answers.specs.inner.Lengths.{max_answer}
 use Rattle.script_told.specs.Turns.{Turn, bytes_of}
 use Rattle.script_told.specs.inner.Laid.{Lays, InRoom}
 
@@ -15,5 +15,5 @@ pub record Turned (t : Turn) (write : Bool) (room : ℕ) (o : List ℕ) (at : �
 -- What the answers of a command ask.
 pub record Answering (c : Found) (b : Lent) (buffer : List ℕ) (room at : ℕ) (o : List ℕ) : Type 0 where
   pub inside : Inside b c
-  pub answer : maxAnswer ≤ length buffer
+  pub answer : max_answer ≤ length buffer
   pub place : InRoom room at o

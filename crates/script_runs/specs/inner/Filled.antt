@@ -20,8 +20,8 @@ abbrev pub buffers : List ℤ → List ℕ → List ℕ → List ℤ → List �
 buffers o d c n w = record { old = o; distances = d; counts = c; neighbours = n; ratings = w }
 
 -- The request that lies in buffers,
-abbrev pub requestWith : RunRequest → Buffers → Request
-requestWith r b = record {
+abbrev pub request_with : RunRequest → Buffers → Request
+request_with r b = record {
   boxes = r.boxes;
   left = r.left;
   right = r.right;
@@ -55,6 +55,6 @@ pub record Within (b : Buffers) (r : RunRequest) : Type 0 where
 
 -- What the program leaves of a request: `before` are the buffers as they were lent, `after` as they are given back.
 pub record Asks (q : Request) (room : ℕ) (before : Buffers) (r : RunRequest) (after : Buffers) : Type 0 where
-  pub holds : requestWith r after ≡ shortened before q
+  pub holds : request_with r after ≡ shortened before q
   pub roomy : r.room ≡ room
   pub inside : Within before r

@@ -17,14 +17,14 @@ cut m none = none
 cut m (some t) = some (take m t)
 
 -- The text that the answer says stands in the buffer.
-abbrev pub textIn : Text → List ℕ → Option (List ℕ)
-textIn (Bytes n) out = some (take n out)
-textIn Bad out = none
+abbrev pub text_in : Text → List ℕ → Option (List ℕ)
+text_in (Bytes n) out = some (take n out)
+text_in Bad out = none
 
-abbrev pub sizeIn : Text → ℕ
-sizeIn (Bytes n) = n
-sizeIn Bad = 0
+abbrev pub size_in : Text → ℕ
+size_in (Bytes n) = n
+size_in Bad = 0
 
 pub record Unescapes (text : List ℕ) (room : ℕ) (r : Text) (out : List ℕ) : Type 0 where
-  pub holds : textIn r out ≡ cut room (unescaped text)
-  pub inside : sizeIn r ≤ room
+  pub holds : text_in r out ≡ cut room (unescaped text)
+  pub inside : size_in r ≤ room

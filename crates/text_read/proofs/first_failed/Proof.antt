@@ -36,19 +36,19 @@ slice-aggregate-check-plan-2 : tie.Need-slice-aggregate-check-plan-2
 slice-aggregate-check-plan-2 c = sym (length-take-le _ _ (fronts c.before.before.before).vertices)
 
 slice-aggregate-check-plan-3 : tie.Need-slice-aggregate-check-plan-3
-slice-aggregate-check-plan-3 c = sym (length-take-le _ _ (fronts c.before.before.before.before).uppers-reach)
+slice-aggregate-check-plan-3 c = sym (length-take-le _ _ (fronts c.before.before.before.before).uppers_reach)
 
 slice-aggregate-check-plan-4 : tie.Need-slice-aggregate-check-plan-4
-slice-aggregate-check-plan-4 c = sym (length-take-le _ _ (fronts c.before.before.before.before.before).lowers-reach)
+slice-aggregate-check-plan-4 c = sym (length-take-le _ _ (fronts c.before.before.before.before.before).lowers_reach)
 
 check-plan-requires : tie.Need-check-plan-requires
 check-plan-requires c κs =
     let p = fronts c.before.before.before.before.before in
     record {
-      levels = simp length-take (omega (arith, p.few-levels));
-      vertices = simp length-take (omega (arith, p.few-vertices));
-      segments = simp length-take (omega (arith, p.few-segments));
-      ends = simp length-take (omega (arith, p.uppers-reach, p.lowers-reach));
+      levels = simp length-take (omega (arith, p.few_levels));
+      vertices = simp length-take (omega (arith, p.few_vertices));
+      segments = simp length-take (omega (arith, p.few_segments));
+      ends = simp length-take (omega (arith, p.uppers_reach, p.lowers_reach));
     }
 
 returns-2 : tie.Need-returns-2

@@ -18,12 +18,12 @@ scan-requires c κs =
     let a = c.before.before.before.before.before.before.before.before.before.before.before.before.before.before.requires in
     record {
       bytes_fit = c.before.before.before.before.before.before.if1.false;
-      sizes-fit = omega (arith, a.sizes-long);
-      vias-fit = omega (arith, a.vias-long);
-      halves-fit = omega (arith, a.halves_long);
-      uppers-fit = omega (arith, a.uppers-long);
-      lowers-fit = omega (arith, a.lowers-long);
-      ratings-fit = omega (arith, a.ratings-long);
+      sizes_fit = omega (arith, a.sizes_long);
+      vias_fit = omega (arith, a.vias_long);
+      halves_fit = omega (arith, a.halves_long);
+      uppers_fit = omega (arith, a.uppers_long);
+      lowers_fit = omega (arith, a.lowers_long);
+      ratings_fit = omega (arith, a.ratings_long);
     }
 
 first-failed-requires : tie.Need-first-failed-requires
@@ -32,7 +32,7 @@ first-failed-requires c κs =
     let k = s.scan.auto.1 in
     let a = (start s).requires in
     λ f g. the-fronts (start s).args.text.now _ _ _ _ _ _ _ _ _ _ _ _ _ s.scan.ensures s.before.before.before.before.before.before.before.if1.false f g
-    (omega (arith, k.0, a.sizes-long)) (omega (arith, k.1.0, a.vias-long)) (omega (arith, k.1.1.1.0, a.uppers-long))
+    (omega (arith, k.0, a.sizes_long)) (omega (arith, k.1.0, a.vias_long)) (omega (arith, k.1.1.1.0, a.uppers_long))
 
 returns-2 : tie.Need-returns-2
 returns-2 c =

@@ -1,18 +1,18 @@
 -- `text_untangle::read_tangled` meets its contract: by what reading into arrays that are 0 finds.
 use mathlib.Core.Path.{sym, ◌∙◌, ap}
 use borrow.Author.Rules.{rules}
-use Rattle.text_untangle.specs.Untangled.{untangledAnswer}
+use Rattle.text_untangle.specs.Untangled.{untangled_answer}
 use Rattle.text_untangle.proofs.ArrayLaws.{tangled-answer}
 use Rattle.text_untangle.proofs.read_tangled.Statement.{statement}
 use Rattle.text_untangle.proofs.read_tangled.Tie as tie
 
 returns : tie.Need-returns
-returns c = c.refuse.ensures ∙ ap untangledAnswer (sym (c.before.before.before.before.before.before.before.before.before.before.read-tangled-into.ensures.refuses c.before.if1.true))
+returns c = c.refuse.ensures ∙ ap untangled_answer (sym (c.before.before.before.before.before.before.before.before.before.before.read-tangled-into.ensures.refuses c.before.if1.true))
 
 returns-2 : tie.Need-returns-2
 returns-2 c =
     let a = c.before.before.before.before.before.before.before.before.before.before.before.read-tangled-into.ensures.accepts c.before.before.if1.false in
-    rw c.new.ensures (tangled-answer _ _ _ _ _ _ _ _ a.kept _ a.numbered ∙ ap untangledAnswer (sym a.reads))
+    rw c.new.ensures (tangled-answer _ _ _ _ _ _ _ _ a.kept _ a.numbered ∙ ap untangled_answer (sym a.reads))
 
 pub read-tangled-spec : {M : Type 1} → statement M
 read-tangled-spec =

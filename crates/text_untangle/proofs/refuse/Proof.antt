@@ -1,11 +1,11 @@
 -- `text_untangle::refuse` meets its contract: by its definition.
 use borrow.Author.Rules.{rules}
-use Rattle.text_untangle.specs.Untangled.{untangledAnswer}
+use Rattle.text_untangle.specs.Untangled.{untangled_answer}
 use Rattle.text_untangle.proofs.refuse.Statement.{statement}
 use Rattle.text_untangle.proofs.refuse.Tie as tie
 
 returns : tie.Need-returns
-unfolding untangledAnswer
+unfolding untangled_answer
 returns c = rw c.empty.ensures
 
 pub refuse-spec : {M : Type 1} → statement M

@@ -7,34 +7,34 @@ use Rattle.text_untangle.proofs.untangle_fronts.Statement.{statement}
 use Rattle.text_untangle.proofs.untangle_fronts.Tie as tie
 
 slice-aggregate-untangle : tie.Need-slice-aggregate-untangle
-slice-aggregate-untangle c = sym (length-take-le _ _ (rw c.before.wide.ensures c.before.before.before.before.before.before.before.before.before.requires.fronts.sizes-reach))
+slice-aggregate-untangle c = sym (length-take-le _ _ (rw c.before.wide.ensures c.before.before.before.before.before.before.before.before.before.requires.fronts.sizes_reach))
 
 slice-aggregate-untangle-2 : tie.Need-slice-aggregate-untangle-2
-slice-aggregate-untangle-2 c = sym (length-take-le _ _ c.before.before.before.before.before.before.before.before.before.before.requires.fronts.vias-reach)
+slice-aggregate-untangle-2 c = sym (length-take-le _ _ c.before.before.before.before.before.before.before.before.before.before.requires.fronts.vias_reach)
 
 slice-aggregate-untangle-3 : tie.Need-slice-aggregate-untangle-3
-slice-aggregate-untangle-3 c = sym (length-take-le _ _ c.before.before.before.before.before.before.before.before.before.before.before.requires.fronts.halves-reach)
+slice-aggregate-untangle-3 c = sym (length-take-le _ _ c.before.before.before.before.before.before.before.before.before.before.before.requires.fronts.halves_reach)
 
 slice-aggregate-untangle-4 : tie.Need-slice-aggregate-untangle-4
-slice-aggregate-untangle-4 c = sym (length-take-le _ _ c.before.before.before.before.before.before.before.before.before.before.before.before.requires.fronts.uppers-reach)
+slice-aggregate-untangle-4 c = sym (length-take-le _ _ c.before.before.before.before.before.before.before.before.before.before.before.before.requires.fronts.uppers_reach)
 
 slice-aggregate-untangle-5 : tie.Need-slice-aggregate-untangle-5
-slice-aggregate-untangle-5 c = sym (length-take-le _ _ c.before.before.before.before.before.before.before.before.before.before.before.before.before.requires.fronts.lowers-reach)
+slice-aggregate-untangle-5 c = sym (length-take-le _ _ c.before.before.before.before.before.before.before.before.before.before.before.before.before.requires.fronts.lowers_reach)
 
 slice-aggregate-untangle-6 : tie.Need-slice-aggregate-untangle-6
-slice-aggregate-untangle-6 c = sym (length-take-le _ _ c.before.before.before.before.before.before.before.before.before.before.before.before.before.before.requires.fronts.ratings-reach)
+slice-aggregate-untangle-6 c = sym (length-take-le _ _ c.before.before.before.before.before.before.before.before.before.before.before.before.before.before.requires.fronts.ratings_reach)
 
 slice-aggregate-untangle-7 : tie.Need-slice-aggregate-untangle-7
-slice-aggregate-untangle-7 c = sym (length-take-le _ _ c.before.before.before.before.before.before.before.before.before.before.before.before.before.before.before.requires.fronts.numbers-reach)
+slice-aggregate-untangle-7 c = sym (length-take-le _ _ c.before.before.before.before.before.before.before.before.before.before.before.before.before.before.before.requires.fronts.numbers_reach)
 
 untangle-requires : tie.Need-untangle-requires
 untangle-requires c κs =
     let q = c.before.before.before.before.before.before.before.before.before.before.before.before.before.before.before.requires in
-    let vias-long = length-take-le _ _ q.fronts.vias-reach in (
+    let vias_long = length-take-le _ _ q.fronts.vias_reach in (
       rw c.before.before.before.before.before.before.before.wide.ensures (record { plan = q.plan; lists = q.fronts.lists }),
       record {
-        halves_long = length-take-le _ _ q.fronts.halves-reach ∙ sym vias-long;
-        numbers-long = length-take-le _ _ q.fronts.numbers-reach ∙ sym vias-long;
+        halves_long = length-take-le _ _ q.fronts.halves_reach ∙ sym vias_long;
+        numbers_long = length-take-le _ _ q.fronts.numbers_reach ∙ sym vias_long;
         rated = rated-fronts q.fronts;
       },
     )
@@ -45,7 +45,7 @@ returns c p t =
     let u = c.before.before.before.before.before.before.before.before.before.before.before.before.untangle in
     let k = u.auto.1 in
     untangled-in p a.s a.sizes.now a.vias.now a.halves.now a.uppers.now a.lowers.now a.ratings.now a.numbers.now t _ _ _ _ _ _
-    (u.ensures p (rw c.before.before.before.before.before.before.before.before.before.before.before.before.before.before.before.before.before.before.before.before.wide.ensures t.lists) t.halvesAre t.ratingsAre) k.0 k.1.0 k.1.1.0 k.1.1.1.0 k.1.1.1.1.0 k.1.1.1.1.1.0
+    (u.ensures p (rw c.before.before.before.before.before.before.before.before.before.before.before.before.before.before.before.before.before.before.before.before.wide.ensures t.lists) t.halves_are t.ratings_are) k.0 k.1.0 k.1.1.0 k.1.1.1.0 k.1.1.1.1.0 k.1.1.1.1.1.0
 
 pub untangle-fronts-spec : {M : Type 1} → statement M
 untangle-fronts-spec =

@@ -4,7 +4,7 @@ use Rattle.ints.specs.Lists.{over}
 use Rattle.plan.specs.Plan.{PlanData}
 use Rattle.plan_untangle.specs.Order.{order, untangled}
 use Rattle.plan_untangle.specs.inner.Ordering.{Tangled}
-use Rattle.text.specs.Reading.{accepted, refused, tangledReading}
+use Rattle.text.specs.Reading.{accepted, refused, tangled_reading}
 use Rattle.text_read.specs.inner.Filled.{Kept}
 use Rattle.text_read.specs.inner.Taken.{InFronts}
 use Rattle.text_read.specs.declared.form.Scanned.{Scanned}
@@ -13,15 +13,15 @@ use Rattle.text_read.specs.declared.Found.{Found}
 -- The fronts of the arrays are the lists of p, which passes all checks but 6, and there is room for its numbers.
 pub record TangledIn (p : PlanData) (r : Scanned) (sizes : List ℕ) (vias : List Bool) (halves uppers lowers ratings numbers : List ℕ) : Type 0 where
   pub lists : Tangled p (take r.levels sizes) (take r.vertices vias) (take r.segments uppers) (take r.segments lowers)
-  pub halvesAre : p.halves ≡ take r.vertices halves
-  pub ratingsAre : p.ratings ≡ take r.segments ratings
-  pub sizes-reach : r.levels ≤ length sizes
-  pub vias-reach : r.vertices ≤ length vias
-  pub halves-reach : r.vertices ≤ length halves
-  pub uppers-reach : r.segments ≤ length uppers
-  pub lowers-reach : r.segments ≤ length lowers
-  pub ratings-reach : r.segments ≤ length ratings
-  pub numbers-reach : r.vertices ≤ length numbers
+  pub halves_are : p.halves ≡ take r.vertices halves
+  pub ratings_are : p.ratings ≡ take r.segments ratings
+  pub sizes_reach : r.levels ≤ length sizes
+  pub vias_reach : r.vertices ≤ length vias
+  pub halves_reach : r.vertices ≤ length halves
+  pub uppers_reach : r.segments ≤ length uppers
+  pub lowers_reach : r.segments ≤ length lowers
+  pub ratings_reach : r.segments ≤ length ratings
+  pub numbers_reach : r.vertices ≤ length numbers
 
 -- There is such a plan.
 pub record SomeTangledIn (r : Scanned) (sizes : List ℕ) (vias : List Bool) (halves uppers lowers ratings numbers : List ℕ) : Type 0 where
@@ -47,7 +47,7 @@ pub record UntangledIn (p : PlanData) (r : Scanned) (vias : List Bool) (halves u
 pub record AcceptsTangled (s : List ℕ) (r : Scanned) (sizes : List ℕ) (vias : List Bool) (halves uppers lowers ratings numbers : List ℕ)
     (sizes' : List ℕ) (vias' : List Bool) (halves' uppers' lowers' ratings' numbers' : List ℕ) : Type 0 where
   pub plan : PlanData
-  pub reads : tangledReading s ≡ accepted plan
+  pub reads : tangled_reading s ≡ accepted plan
   pub kept : Kept (untangled plan) r sizes vias halves uppers lowers ratings sizes' vias' halves' uppers' lowers' ratings'
   pub numbered : numbers' ≡ over (order plan) numbers
   pub fronts : InFronts (untangled plan) r sizes' vias' halves' uppers' lowers' ratings'
@@ -55,5 +55,5 @@ pub record AcceptsTangled (s : List ℕ) (r : Scanned) (sizes : List ℕ) (vias 
 -- Refused by the first of checks 1 to 5 that fails, or accepted.
 pub record FindsTangled (s : List ℕ) (r : Found) (sizes : List ℕ) (vias : List Bool) (halves uppers lowers ratings numbers : List ℕ)
     (sizes' : List ℕ) (vias' : List Bool) (halves' uppers' lowers' ratings' numbers' : List ℕ) : Type 0 where
-  pub refuses : (r.failed ≡ 0 → ⊥) → tangledReading s ≡ refused r.failed
+  pub refuses : (r.failed ≡ 0 → ⊥) → tangled_reading s ≡ refused r.failed
   pub accepts : r.failed ≡ 0 → AcceptsTangled s r.scanned sizes vias halves uppers lowers ratings numbers sizes' vias' halves' uppers' lowers' ratings' numbers'

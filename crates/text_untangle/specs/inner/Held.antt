@@ -1,7 +1,7 @@
 -- The untangled plan as it is stored, with the numbers of its vertices in the text.
 use Rattle.std.specs.Prelude.{◌≡◌, List, ℕ, ◌≤◌, length, take}
-use Rattle.plan.specs.Plan.{PlanData, vertexCount}
-use Rattle.plan.specs.Stored.{planData}
+use Rattle.plan.specs.Plan.{PlanData, vertex_count}
+use Rattle.plan.specs.Stored.{plan_data}
 use Rattle.plan.specs.declared.data.Plan.{Plan}
 use Rattle.plan_untangle.specs.Order.{order, untangled}
 use Rattle.text_write.specs.inner.Stored.{StoredPlan}
@@ -13,6 +13,6 @@ pub record WithNumbers (plan : Plan) (v e : ℕ) (m : List ℕ) : Type 0 where
 
 -- They are those of p untangled.
 pub record IsUntangled (p : PlanData) (plan : Plan) (v e : ℕ) (m : List ℕ) : Type 0 where
-  pub dataAre : planData plan v e ≡ untangled p
-  pub vertices : v ≡ vertexCount p
-  pub numbersAre : take v m ≡ order p
+  pub data_are : plan_data plan v e ≡ untangled p
+  pub vertices : v ≡ vertex_count p
+  pub numbers_are : take v m ≡ order p

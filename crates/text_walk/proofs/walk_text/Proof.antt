@@ -5,7 +5,7 @@ use native.Mathlib.Omega.{arith}
 use borrow.Author.Rules.{rules}
 use lib.Seq.{length-take-le}
 use Rattle.plan.specs.Plan.{PlanData}
-use Rattle.text.specs.Reading.{accepted, tangledReading}
+use Rattle.text.specs.Reading.{accepted, tangled_reading}
 use Rattle.text_read.proofs.SecondWay.{refused-both, taken-second}
 use Rattle.text_walk.proofs.WalkedLaws.{PassedIn, passed-in, walks-refused, walks-accepted}
 use Rattle.text_walk.proofs.walk_text.Statement.{statement}
@@ -15,7 +15,7 @@ use Rattle.text_walk.proofs.walk_text.Tie as tie
 abbrev done : tie.Else1 → tie.After-read-into
 done c = c.before.before.before.before.before.before.before.before
 
-taken : (c : tie.Else1) → (p : PlanData) × (tangledReading (done c).before.before.before.before.before.before.before.before.args.text.now ≡ accepted p)
+taken : (c : tie.Else1) → (p : PlanData) × (tangled_reading (done c).before.before.before.before.before.before.before.before.args.text.now ≡ accepted p)
 taken c = taken-second (done c).before.before.before.before.before.before.before.before.args.text.now (done c).read-into.result _ _ _ _ _ _ _ _ _ _ _ _ (done c).read-into.ensures (sym c.before.refuses-both.ensures ∙ c.if1.false)
 
 fronts : (c : tie.Else1) → let r = (done c).read-into in
@@ -30,28 +30,28 @@ returns c =
     (refused-both s.args.text.now r.result _ _ _ _ _ _ _ _ _ _ _ _ r.ensures (sym c.before.refuses-both.ensures ∙ c.if1.true)).1)
 
 array-share-prefix-sizes : tie.Need-array-share-prefix-sizes
-array-share-prefix-sizes c = omega (arith, (fronts c.before.before).sizes-reach, c.wide.ensures)
+array-share-prefix-sizes c = omega (arith, (fronts c.before.before).sizes_reach, c.wide.ensures)
 
 slice-aggregate-walk-plan : tie.Need-slice-aggregate-walk-plan
-slice-aggregate-walk-plan c = sym (length-take-le _ _ (omega (arith, (fronts c.before.before.before).sizes-reach, c.before.wide.ensures)))
+slice-aggregate-walk-plan c = sym (length-take-le _ _ (omega (arith, (fronts c.before.before.before).sizes_reach, c.before.wide.ensures)))
 
 array-share-prefix-vias : tie.Need-array-share-prefix-vias
-array-share-prefix-vias c = (fronts c.before.before.before).vias-reach
+array-share-prefix-vias c = (fronts c.before.before.before).vias_reach
 
 slice-aggregate-walk-plan-2 : tie.Need-slice-aggregate-walk-plan-2
-slice-aggregate-walk-plan-2 c = sym (length-take-le _ _ (fronts c.before.before.before.before).vias-reach)
+slice-aggregate-walk-plan-2 c = sym (length-take-le _ _ (fronts c.before.before.before.before).vias_reach)
 
 array-share-prefix-uppers : tie.Need-array-share-prefix-uppers
-array-share-prefix-uppers c = (fronts c.before.before.before.before).uppers-reach
+array-share-prefix-uppers c = (fronts c.before.before.before.before).uppers_reach
 
 slice-aggregate-walk-plan-3 : tie.Need-slice-aggregate-walk-plan-3
-slice-aggregate-walk-plan-3 c = sym (length-take-le _ _ (fronts c.before.before.before.before.before).uppers-reach)
+slice-aggregate-walk-plan-3 c = sym (length-take-le _ _ (fronts c.before.before.before.before.before).uppers_reach)
 
 array-share-prefix-lowers : tie.Need-array-share-prefix-lowers
-array-share-prefix-lowers c = (fronts c.before.before.before.before.before).lowers-reach
+array-share-prefix-lowers c = (fronts c.before.before.before.before.before).lowers_reach
 
 slice-aggregate-walk-plan-4 : tie.Need-slice-aggregate-walk-plan-4
-slice-aggregate-walk-plan-4 c = sym (length-take-le _ _ (fronts c.before.before.before.before.before.before).lowers-reach)
+slice-aggregate-walk-plan-4 c = sym (length-take-le _ _ (fronts c.before.before.before.before.before.before).lowers_reach)
 
 walk-plan-requires : tie.Need-walk-plan-requires
 walk-plan-requires c κs = let f = fronts c.before.before.before.before.before.before in rw c.before.before.before.before.wide.ensures (f.levels, f.ends, f.sorted)

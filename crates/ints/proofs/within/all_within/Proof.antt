@@ -7,20 +7,20 @@ use borrow.Author.Rules.{rules}
 use lib.ListN.{length, drop, get_or}
 use lib.IntN.{pos}
 use Rattle.ints.proofs.Laws.{back'}
-use Rattle.ints.specs.Reach.{isWithin, allWithin}
+use Rattle.ints.specs.Reach.{is_within, all_within}
 use Rattle.ints.proofs.Reach.{within_on, within-stop, within_end}
 use Rattle.ints.proofs.within.all_within.Statement.{statement}
 use Rattle.ints.proofs.within.all_within.Tie as tie
 
 abbrev invariant-loop : tie.invariant-loop
-invariant-loop positions i₀ i = (i ≤ length positions) × (allWithin (drop i positions) ≡ allWithin positions)
+invariant-loop positions i₀ i = (i ≤ length positions) × (all_within (drop i positions) ≡ all_within positions)
 
 abbrev decreases-loop : tie.decreases-loop
 decreases-loop positions i₀ i = length positions - i
 
 -- what the call says of the i-th position
 is_one : (c : tie.After-is-within invariant-loop decreases-loop)
-    → c.is_Within.result ≡ isWithin (get_or c.before.before.before.before.args.positions.now c.before.before.before.loop.i (pos 0))
+    → c.is_Within.result ≡ is_within (get_or c.before.before.before.before.args.positions.now c.before.before.before.loop.i (pos 0))
 is_one c = simp (back' (get_or c.before.before.before.before.args.positions.now c.before.before.before.loop.i (pos 0)) c.before.is-within-arg.given) at c.is_Within.ensures
 
 loop-holds : tie.Need-loop-init invariant-loop decreases-loop

@@ -1,4 +1,4 @@
--- `ints::within::is_within` meets its contract: its two tests, on the bits of x as they read back, are that of `isWithin`.
+-- `ints::within::is_within` meets its contract: its two tests, on the bits of x as they read back, are that of `is_within`.
 use mathlib.Core.Path.{◌≡◌}
 use borrow.Author.Rules.{rules}
 use mir.Syntax.{w64}

@@ -4,7 +4,7 @@ use mathlib.Core.Path.{ap}
 use native.Mathlib.Omega.{arith}
 use Prim.Native.Nat.{ℕ}
 use lib.ListN.{length, length-replicate}
-use Rattle.passes.specs.Words.{maxListed}
+use Rattle.passes.specs.Words.{max_listed}
 use Rattle.pass_draw.proofs.MadeLaws.{room}
 use Rattle.pass_draw.proofs.draw.draw.Statement.{statement}
 use Rattle.pass_draw.proofs.draw.draw.Tie as tie
@@ -14,7 +14,7 @@ make-drawing-requires c κs = room c.before.before.before.before.before.before.b
 
 returns : tie.Need-returns
 returns c = λ p l. (c.before.before.before.before.before.before.before.before.before.before.before.make-drawing.ensures p l).made
-    (omega (arith, c.before.before.before.before.before.before.before.before.before.before.before.make-drawing.auto.1.1.1.1.1.1.1.1.1.0, ap length c.before.before.before.before.before.before.before.before.before.before.before.before.before.before.before.before.before.before.before.before.before.before.before.before.before.before.before.before.before.requires.noPasses, length-replicate {A = ℕ} maxListed 0))
+    (omega (arith, c.before.before.before.before.before.before.before.before.before.before.before.make-drawing.auto.1.1.1.1.1.1.1.1.1.0, ap length c.before.before.before.before.before.before.before.before.before.before.before.before.before.before.before.before.before.before.before.before.before.before.before.before.before.before.before.before.before.requires.no_passes, length-replicate {A = ℕ} max_listed 0))
 
 pub draw-spec : {M : Type 1} → statement M
 draw-spec =

@@ -6,7 +6,7 @@ use Rattle.pass_draw.proofs.draw.make_drawing.Statement.{statement}
 use Rattle.pass_draw.proofs.draw.make_drawing.Tie as tie
 
 preliminary-positions-requires : tie.Need-preliminary-positions-requires
-preliminary-positions-requires c κs = let b = c.before.before.before.before.before.before.before.before.before.before.before.requires in (record { plan = b.some.plan; lists = b.some.lists.lists }, b.preliminaryRoom)
+preliminary-positions-requires c κs = let b = c.before.before.before.before.before.before.before.before.before.before.before.requires in (record { plan = b.some.plan; lists = b.some.lists.lists }, b.preliminary_room)
 
 three-passes-requires : tie.Need-three-passes-requires
 three-passes-requires c κs = let b = c.before.before.before.before.before.before.before.before.before.before.before.before.before.before.before.before.before.before.before.before.before.before.before.requires in
@@ -14,7 +14,7 @@ three-passes-requires c κs = let b = c.before.before.before.before.before.befor
 
 returns : tie.Need-returns
 returns c = λ p l. let from = c.before.before.before.before.before.before.before.before.before.before.before.before.before.before.before.before.before.before.before.before.before.before.preliminary-positions.ensures p l.lists in
-    done from (c.before.before.before.before.before.before.before.before.before.before.three-passes.ensures p (record { lists = l.lists; ratingsAre = l.ratingsAre; preliminaries = c.before.before.before.before.before.before.before.before.before.before.before.before.before.before.before.before.before.before.copy-positions.ensures ∙ from })) l.lists
+    done from (c.before.before.before.before.before.before.before.before.before.before.three-passes.ensures p (record { lists = l.lists; ratings_are = l.ratings_are; preliminaries = c.before.before.before.before.before.before.before.before.before.before.before.before.before.before.before.before.before.before.copy-positions.ensures ∙ from })) l.lists
 
 pub make-drawing-spec : {M : Type 1} → statement M
 make-drawing-spec =

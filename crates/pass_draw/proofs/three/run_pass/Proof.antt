@@ -9,7 +9,7 @@ use lib.ListN.{length, take, drop, length-append, length-drop}
 use lib.Seq.{length-take-le}
 use Rattle.ints.proofs.FrontLaws.{first-fit, first-is, first_count}
 use Rattle.pass_tables.specs.inner.Moments.{AtPass}
-use Rattle.pass_visits.specs.inner.Passing.{passWork, PassNext}
+use Rattle.pass_visits.specs.inner.Passing.{pass_work, PassNext}
 use Rattle.pass_draw.specs.inner.Turn.{graph, TurnNext}
 use Rattle.pass_draw.proofs.TurnLaws.{CutTo, vertices-few, segments-few, sortable, pass-next}
 use Rattle.pass_draw.proofs.three.run_pass.Statement.{statement}
@@ -53,7 +53,7 @@ rejoined c = let t = written c in let f = fits c.before.before.before.before.bef
 -- the pass comes next
 next : (c : tie.After-neighbours) → let a = c.before.before.before.before.before.before.before.before.before.before.before.before.before.before.args in let l = c.neighbours.new in let n = length a.vias.now + 1 in let e = length a.uppers.now in
     (m : AtPass) → TurnNext a.q (graph a.starts.now a.vias.now a.uppers.now a.lowers.now a.ratings.now) a.at.now a.apart.now a.marks.now m
-    → PassNext a.q a.starts.now a.vias.now (passWork
+    → PassNext a.q a.starts.now a.vias.now (pass_work
     (take n (l.1.1.1.1.0 ++ drop n a.first.now)) (take e (l.1.1.1.1.1.0 ++ drop e a.ends.now)) (take (e + 1) (l.1.1.1.1.1.1.0 ++ drop (e + 1) a.sums.now))
     a.at.now a.apart.now a.marks.now) m
 next c m k = let a = c.before.before.before.before.before.before.before.before.before.before.before.before.before.before.args in let l = c.neighbours.new in let n = length a.vias.now + 1 in let e = length a.uppers.now in let t = written c in let w = rejoined c in

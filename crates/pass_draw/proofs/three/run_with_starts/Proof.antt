@@ -10,7 +10,7 @@ use Rattle.plan.specs.Plan.{PlanData}
 use Rattle.pass_list.specs.inner.Listing.{columns}
 use Rattle.pass_draw.specs.inner.Turn.{graph}
 use Rattle.pass_draw.specs.inner.Drawn.{begun, AtStart, AtFirst}
-use Rattle.pass_draw.proofs.ThreeLaws.{levels-few, sizes-sum, at_first}
+use Rattle.pass_draw.proofs.ThreeLaws.{levels-few, sizes_sum, at_first}
 use Rattle.pass_draw.proofs.three.run_with_starts.Statement.{statement}
 use Rattle.pass_draw.proofs.three.run_with_starts.Tie as tie
 
@@ -43,7 +43,7 @@ slice-aggregate-level-starts : tie.Need-slice-aggregate-level-starts
 slice-aggregate-level-starts c = sym (cut c.before.before.before.before.before.before.before.before.before.before.before.before)
 
 level-starts-requires : tie.Need-level-starts-requires
-level-starts-requires c κs = (cut c.before.before.before.before.before.before.before.before.before.before.before.before, sizes-sum c.before.before.before.before.before.before.before.before.before.before.before.before.requires.is)
+level-starts-requires c κs = (cut c.before.before.before.before.before.before.before.before.before.before.before.before, sizes_sum c.before.before.before.before.before.before.before.before.before.before.before.before.requires.is)
 
 array-share-prefix-starts : tie.Need-array-share-prefix-starts
 array-share-prefix-starts c = let n = length c.before.before.before.before.before.before.before.before.before.before.before.before.before.before.args.lengths.now + 1 in first-fit c.before.level-starts.new.1.0 (drop n (replicate 65 0)) n (long c.before)

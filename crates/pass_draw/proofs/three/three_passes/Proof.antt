@@ -113,7 +113,7 @@ run-with-starts-requires c κs =
     let long' : length m.new.1.1.1.1.0 ≡ n = m.auto.1.1.1.1.0 ∙ length-take-le n (replicate 1024 false) (vertices-few s.requires.0.is.lists) in
     let others : List Bool = drop n (replicate 1024 false) in
     let marks-are : take n (m.new.1.1.1.1.0 ++ others) ≡ m.new.1.1.1.1.0 = first-is m.new.1.1.1.1.0 others n long' in
-    record { it = some.it; is = at-start some.is.lists (λ g h. is ∙ d.ensures some.it g h) some.is.preliminaries (marks-are ∙ m.ensures) some.is.ratingsAre s.requires.1 }
+    record { it = some.it; is = at-start some.is.lists (λ g h. is ∙ d.ensures some.it g h) some.is.preliminaries (marks-are ∙ m.ensures) some.is.ratings_are s.requires.1 }
 
 same_length : tie.Need-same-length
 same_length c = (passed c).run-with-starts.auto.1.1.1.1.1.0
@@ -144,7 +144,7 @@ returns c =
     let long' : length m.last.1.1.1.1.0 ≡ n = m.kept.1.1.1.1.0 ∙ length-take-le n (replicate 1024 false) (vertices-few (entry c).requires.0.is.lists) in
     let others : List Bool = drop n (replicate 1024 false) in
     let marks-are : take n (m.last.1.1.1.1.0 ++ others) ≡ m.last.1.1.1.1.0 = first-is m.last.1.1.1.1.0 others n long' in
-    λ p x. (passed c).run-with-starts.ensures p (at-start x.lists (λ g h. is ∙ d.ensures p g h) x.preliminaries (marks-are ∙ m.ensures) x.ratingsAre (entry c).requires.1)
+    λ p x. (passed c).run-with-starts.ensures p (at-start x.lists (λ g h. is ∙ d.ensures p g h) x.preliminaries (marks-are ∙ m.ensures) x.ratings_are (entry c).requires.1)
 
 pub three-passes-spec : {M : Type 1} → statement M
 three-passes-spec =

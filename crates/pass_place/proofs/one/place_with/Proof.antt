@@ -6,7 +6,7 @@ use Prim.Native.Nat.{◌+◌, ◌-◌}
 use native.Mathlib.Omega.{arith}
 use lib.ListN.{length}
 use Rattle.passes.specs.Passes.{placed}
-use Rattle.pass_tables.specs.inner.Moments.{stateAfter, AtVisit, Placing}
+use Rattle.pass_tables.specs.inner.Moments.{state_after, AtVisit, Placing}
 use Rattle.pass_place.specs.inner.Asked.{low_of, high_of}
 use Rattle.pass_place.proofs.Next.{long, apart-long, small, inside, order, members-in, rowed, taken, outcome, next-at, next-standing, next-apart}
 use Rattle.pass_place.proofs.one.place_with.Statement.{statement}
@@ -23,10 +23,10 @@ new-boxes c = c.place-boxes.auto.1.1.1.1.1.1.1.1.1.0 ∙ c.before.before.before.
 
 new-at : (c : tie.After-put-back) (m : AtVisit) → let a = c.before.before.before.before.before.before.before.before.before.before.before.before.before.before.before.before.before.before.before.before.args in
     Placing a.start a.from a.end a.to a.first.now a.ends.now a.sums.now a.at.now a.apart.now m
-    → c.put_back.new.1.1.0 ≡ (stateAfter m.plan (m.past ++ m.visit ∷ [])).at
+    → c.put_back.new.1.1.0 ≡ (state_after m.plan (m.past ++ m.visit ∷ [])).at
 new-at c m h =
     let ys = c.before.before.before.before.place-boxes.new.1.1.1.1.1.1.1.1.1.0 in
-    let o : ys ≡ placed m.plan m.visit.pass (stateAfter m.plan m.past) m.visit.run =
+    let o : ys ≡ placed m.plan m.visit.pass (state_after m.plan m.past) m.visit.run =
     rw (c.before.before.before.before.before.before.before.before.before.before.before.left-bound.ensures, c.before.before.before.before.before.before.before.before.before.right-bound.ensures, c.before.before.before.before.before.before.before.before.before.before.before.before.before.before.before.low-end.ensures) at c.before.before.before.before.place-boxes.ensures ∙ outcome h c.before.before.before.before.before.before.before.before.before.before.before.before.before.last-end.result (last-is c.before.before.before.before.before.before.before.before.before.before.before.before.before) in
     rw (new-boxes c.before.before.before.before) at c.put_back.ensures ∙ next-at h ys o
 

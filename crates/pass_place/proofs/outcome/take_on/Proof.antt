@@ -1,4 +1,4 @@
--- `pass_place::outcome::take_on` meets its contract: what is left to take on is the same at every turn.
+-- `pass_place::outcome::take_on_lem` meets its contract: what is left to take on is the same at every turn.
 use Prim.Native.Nat.{suc, ◌+◌, ◌-◌, ◌≤◌}
 use mathlib.Core.Path.{◌≡◌, refl, sym, ◌∙◌}
 use native.Mathlib.Omega.{arith}
@@ -8,14 +8,14 @@ use borrow.Author.Rules.{rules}
 use lib.ListN.{length, get_or, length-set}
 use lib.IntN.{pos}
 use Rattle.plan.specs.Plan.{numbers}
-use Rattle.passes.specs.State.{position_of, takeOn}
+use Rattle.passes.specs.State.{position_of, take_on}
 use Rattle.pass_tables.proofs.PositionLaws.{bits_back}
-use Rattle.pass_place.proofs.OutcomeLaws.{take_none, take_on, gap-right}
+use Rattle.pass_place.proofs.OutcomeLaws.{take_none, take_on_lem, gap-right}
 use Rattle.pass_place.proofs.outcome.take_on.Statement.{statement}
 use Rattle.pass_place.proofs.outcome.take_on.Tie as tie
 
 abbrev invariant-loop : tie.invariant-loop
-invariant-loop at low high apart₀ v₀ apart v = (low ≤ v) × (v ≤ high) × (length apart ≡ length apart₀) × (takeOn at (numbers v (high - v)) apart ≡ takeOn at (numbers low (high - low)) apart₀)
+invariant-loop at low high apart₀ v₀ apart v = (low ≤ v) × (v ≤ high) × (length apart ≡ length apart₀) × (take_on at (numbers v (high - v)) apart ≡ take_on at (numbers low (high - low)) apart₀)
 
 abbrev decreases-loop : tie.decreases-loop
 decreases-loop at low high apart₀ v₀ apart v = high - v
@@ -42,7 +42,7 @@ loop-again c = let a = c.before.before.before.before.before.before.args in
     let g = simp backs at c.apart.ensures ∙ gap-right x y (c.before.before.before.before.before.before.requires.4 l.v l.invariant.0 (omega arith)) in
     let m = a.high - (l.v + 1) - 1 in
     let e : a.high - (l.v + 1) ≡ suc m = omega arith in
-    (omega arith, omega arith, simp length-set l.invariant.2, rw (e, g) (sym (take_on a.at.now l.v (a.high - l.v) m l.apart (omega arith))) ∙ l.invariant.3)
+    (omega arith, omega arith, simp length-set l.invariant.2, rw (e, g) (sym (take_on_lem a.at.now l.v (a.high - l.v) m l.apart (omega arith))) ∙ l.invariant.3)
 
 returns : tie.Need-returns invariant-loop decreases-loop
 returns c = let a = c.before.before.before.args in

@@ -8,14 +8,14 @@ use lib.ListN.{length, take, drop}
 use lib.Seq.{take_all}
 use Rattle.ints.proofs.Lists.{sum-on, sum-end}
 use Rattle.ints.specs.Lists.{sum}
-use Rattle.plan.specs.Plan.{PlanData, levelsFrom}
-use Rattle.passes.specs.State.{doubledIn}
+use Rattle.plan.specs.Plan.{PlanData, levels_from}
+use Rattle.passes.specs.State.{doubled_in}
 use Rattle.pass_tables.proofs.DistanceLaws.{level-filled, levels-end}
 use Rattle.pass_tables.proofs.distances.distances.Statement.{statement}
 use Rattle.pass_tables.proofs.distances.distances.Tie as tie
 
 abbrev invariant-loop : tie.invariant-loop
-invariant-loop gap sizes halves apart₀ from₀ i₀ apart from i = (i ≤ length sizes) × (length apart ≡ length apart₀) × (from + sum (drop i sizes) ≡ sum sizes) × ((p : PlanData) → p.gap ≡ gap → p.halves ≡ halves → take from apart ++ doubledIn p (levelsFrom from (drop i sizes)) ≡ doubledIn p (levelsFrom 0 sizes))
+invariant-loop gap sizes halves apart₀ from₀ i₀ apart from i = (i ≤ length sizes) × (length apart ≡ length apart₀) × (from + sum (drop i sizes) ≡ sum sizes) × ((p : PlanData) → p.gap ≡ gap → p.halves ≡ halves → take from apart ++ doubled_in p (levels_from from (drop i sizes)) ≡ doubled_in p (levels_from 0 sizes))
 
 abbrev decreases-loop : tie.decreases-loop
 decreases-loop gap sizes halves apart₀ from₀ i₀ apart from i = length sizes - i

@@ -6,13 +6,13 @@ use native.Mathlib.Omega.{arith}
 use borrow.Author.Rules.{rules}
 use lib.ListN.{length, take, length-set}
 use Rattle.plan.specs.Plan.{PlanData, numbers}
-use Rattle.passes.specs.State.{doubledOn}
+use Rattle.passes.specs.State.{doubled_on}
 use Rattle.pass_tables.proofs.DistanceLaws.{fill_on, doubled-end}
 use Rattle.pass_tables.proofs.distances.distances_on.Statement.{statement}
 use Rattle.pass_tables.proofs.distances.distances_on.Tie as tie
 
 abbrev invariant-loop : tie.invariant-loop
-invariant-loop gap from to halves apart₀ v₀ apart v = (v ≤ to) × (length apart ≡ length apart₀) × ((p : PlanData) → p.gap ≡ gap → p.halves ≡ halves → take v apart ++ doubledOn p (numbers v (to - v)) ≡ take from apart₀ ++ doubledOn p (numbers from (to - from)))
+invariant-loop gap from to halves apart₀ v₀ apart v = (v ≤ to) × (length apart ≡ length apart₀) × ((p : PlanData) → p.gap ≡ gap → p.halves ≡ halves → take v apart ++ doubled_on p (numbers v (to - v)) ≡ take from apart₀ ++ doubled_on p (numbers from (to - from)))
 
 abbrev decreases-loop : tie.decreases-loop
 decreases-loop gap from to halves apart₀ v₀ apart v = to - v

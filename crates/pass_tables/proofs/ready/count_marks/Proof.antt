@@ -5,13 +5,13 @@ use mathlib.Core.Bool.{false}
 use native.Mathlib.Omega.{arith}
 use borrow.Author.Rules.{rules}
 use lib.ListN.{length, get_or, length-set}
-use Rattle.pass_tables.specs.inner.Joins.{markedIn}
+use Rattle.pass_tables.specs.inner.Joins.{marked_in}
 use Rattle.pass_tables.proofs.JoinLaws.{stored-up, marks-none, marks-on, one-small}
 use Rattle.pass_tables.proofs.ready.count_marks.Statement.{statement}
 use Rattle.pass_tables.proofs.ready.count_marks.Tie as tie
 
 abbrev invariant-loop : tie.invariant-loop
-invariant-loop marks from to counts₀ count₀ v₀ counts count v = (from ≤ v) × (length counts ≡ length counts₀) × (count ≡ markedIn marks from (v - from)) × (count ≤ v - from) × ((u : ℕ) → from ≤ u → u < v → get_or counts u 0 ≡ markedIn marks from (u - from))
+invariant-loop marks from to counts₀ count₀ v₀ counts count v = (from ≤ v) × (length counts ≡ length counts₀) × (count ≡ marked_in marks from (v - from)) × (count ≤ v - from) × ((u : ℕ) → from ≤ u → u < v → get_or counts u 0 ≡ marked_in marks from (u - from))
 
 abbrev decreases-loop : tie.decreases-loop
 decreases-loop marks from to counts₀ count₀ v₀ counts count v = to - v
@@ -30,7 +30,7 @@ loop-again c = let a = c.before.before.before.before.before.before.args in
       simp length-set l.invariant.1,
       omega (arith, on, c.one-if.ensures, l.invariant.2),
       omega (arith, c.one-if.ensures, one-small (get_or a.marks.now l.v false), l.invariant.3),
-      stored-up l.counts l.v l.count (λ (u : ℕ). markedIn a.marks.now a.from (u - a.from)) (omega (arith, l.invariant.1)) l.invariant.2 a.from l.invariant.4,
+      stored-up l.counts l.v l.count (λ (u : ℕ). marked_in a.marks.now a.from (u - a.from)) (omega (arith, l.invariant.1)) l.invariant.2 a.from l.invariant.4,
     )
 
 returns : tie.Need-returns invariant-loop decreases-loop

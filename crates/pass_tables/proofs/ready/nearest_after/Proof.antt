@@ -4,13 +4,13 @@ use mathlib.Core.Path.{◌≡◌, refl, sym, ◌∙◌, ap}
 use native.Mathlib.Omega.{arith}
 use borrow.Author.Rules.{rules}
 use lib.ListN.{length, get_or, length-set}
-use Rattle.pass_tables.specs.inner.Joins.{joinedAt, firstIn, or_else}
+use Rattle.pass_tables.specs.inner.Joins.{joined_at, first_in, or_else}
 use Rattle.pass_tables.proofs.JoinLaws.{stored-down, first-none, first_on}
 use Rattle.pass_tables.proofs.ready.nearest_after.Statement.{statement}
 use Rattle.pass_tables.proofs.ready.nearest_after.Tie as tie
 
 abbrev invariant-loop : tie.invariant-loop
-invariant-loop vias first ends from to after₀ last₀ v₀ after last v = (v ≤ to) × (length after ≡ length after₀) × (last ≡ firstIn (joinedAt vias first ends) v (to - v)) × ((u : ℕ) → v ≤ u → u < to → get_or after u 0 ≡ firstIn (joinedAt vias first ends) u (to - u))
+invariant-loop vias first ends from to after₀ last₀ v₀ after last v = (v ≤ to) × (length after ≡ length after₀) × (last ≡ first_in (joined_at vias first ends) v (to - v)) × ((u : ℕ) → v ≤ u → u < to → get_or after u 0 ≡ first_in (joined_at vias first ends) u (to - u))
 
 abbrev decreases-loop : tie.decreases-loop
 decreases-loop vias first ends from to after₀ last₀ v₀ after last v = v
@@ -24,12 +24,12 @@ joined-via-requires c κs = (omega arith, c.before.before.before.before.before.b
 loop-again : tie.Need-loop-preserved invariant-loop decreases-loop
 loop-again c = let a = c.before.before.before.before.before.before.before.before.args in
     let l = c.before.before.before.loop in
-    let f = joinedAt a.vias.now a.first.now a.ends.now in
+    let f = joined_at a.vias.now a.first.now a.ends.now in
     let e : l.v - 1 + 1 ≡ l.v = omega arith in
-    let old : l.last ≡ firstIn f (l.v - 1 + 1) (a.to - (l.v - 1 + 1)) = rw e l.invariant.2 in
-    let next : c.or_else.result ≡ firstIn f (l.v - 1) (a.to - (l.v - 1)) =
+    let old : l.last ≡ first_in f (l.v - 1 + 1) (a.to - (l.v - 1 + 1)) = rw e l.invariant.2 in
+    let next : c.or_else.result ≡ first_in f (l.v - 1) (a.to - (l.v - 1)) =
     c.or_else.ensures ∙ ap (λ (n : ℕ). or_else n l.last) c.before.joined-via.ensures ∙ ap (λ (n : ℕ). or_else (f (l.v - 1)) n) old ∙ sym (first_on f (l.v - 1) a.to (omega arith)) in
-    (omega arith, simp length-set l.invariant.1, next, stored-down l.after (l.v - 1) c.or_else.result (λ (u : ℕ). firstIn f u (a.to - u)) (omega arith) next a.to (λ u h k. l.invariant.3 u (omega arith) k))
+    (omega arith, simp length-set l.invariant.1, next, stored-down l.after (l.v - 1) c.or_else.result (λ (u : ℕ). first_in f u (a.to - u)) (omega arith) next a.to (λ u h k. l.invariant.3 u (omega arith) k))
 
 returns : tie.Need-returns invariant-loop decreases-loop
 returns c = let l = c.before.loop in λ v h k. l.invariant.3 v (omega arith) k

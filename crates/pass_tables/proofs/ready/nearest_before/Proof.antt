@@ -4,13 +4,13 @@ use mathlib.Core.Path.{◌≡◌, refl, sym, ◌∙◌, ap}
 use native.Mathlib.Omega.{arith}
 use borrow.Author.Rules.{rules}
 use lib.ListN.{length, get_or, length-set}
-use Rattle.pass_tables.specs.inner.Joins.{joinedAt, lastIn, or_else}
+use Rattle.pass_tables.specs.inner.Joins.{joined_at, last_in, or_else}
 use Rattle.pass_tables.proofs.JoinLaws.{stored-up, last_none, last_on}
 use Rattle.pass_tables.proofs.ready.nearest_before.Statement.{statement}
 use Rattle.pass_tables.proofs.ready.nearest_before.Tie as tie
 
 abbrev invariant-loop : tie.invariant-loop
-invariant-loop vias first ends from to before₀ last₀ v₀ before last v = (from ≤ v) × (length before ≡ length before₀) × (last ≡ lastIn (joinedAt vias first ends) from (v - from)) × ((u : ℕ) → from ≤ u → u < v → get_or before u 0 ≡ lastIn (joinedAt vias first ends) from (u + 1 - from))
+invariant-loop vias first ends from to before₀ last₀ v₀ before last v = (from ≤ v) × (length before ≡ length before₀) × (last ≡ last_in (joined_at vias first ends) from (v - from)) × ((u : ℕ) → from ≤ u → u < v → get_or before u 0 ≡ last_in (joined_at vias first ends) from (u + 1 - from))
 
 abbrev decreases-loop : tie.decreases-loop
 decreases-loop vias first ends from to before₀ last₀ v₀ before last v = to - v
@@ -24,10 +24,10 @@ joined-via-requires c κs = (omega arith, c.before.before.before.before.before.b
 loop-again : tie.Need-loop-preserved invariant-loop decreases-loop
 loop-again c = let a = c.before.before.before.before.before.before.before.before.args in
     let l = c.before.before.before.loop in
-    let f = joinedAt a.vias.now a.first.now a.ends.now in
-    let next : c.or_else.result ≡ lastIn f a.from (l.v + 1 - a.from) =
+    let f = joined_at a.vias.now a.first.now a.ends.now in
+    let next : c.or_else.result ≡ last_in f a.from (l.v + 1 - a.from) =
     c.or_else.ensures ∙ ap (λ (n : ℕ). or_else n l.last) c.before.joined-via.ensures ∙ ap (λ (n : ℕ). or_else (f l.v) n) l.invariant.2 ∙ sym (last_on f a.from l.v l.invariant.0) in
-    (omega arith, simp length-set l.invariant.1, next, stored-up l.before l.v c.or_else.result (λ (u : ℕ). lastIn f a.from (u + 1 - a.from)) (omega arith) next a.from l.invariant.3)
+    (omega arith, simp length-set l.invariant.1, next, stored-up l.before l.v c.or_else.result (λ (u : ℕ). last_in f a.from (u + 1 - a.from)) (omega arith) next a.from l.invariant.3)
 
 returns : tie.Need-returns invariant-loop decreases-loop
 returns c = let l = c.before.loop in λ v h k. l.invariant.3 v h (omega arith)

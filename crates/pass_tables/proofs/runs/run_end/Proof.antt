@@ -3,13 +3,13 @@ use Prim.Native.Nat.{◌+◌, ◌-◌, ◌≤◌}
 use mathlib.Core.Path.{◌≡◌, refl, sym, ◌∙◌}
 use native.Mathlib.Omega.{arith}
 use borrow.Author.Rules.{rules}
-use Rattle.pass_tables.specs.inner.Tables.{nextVia}
+use Rattle.pass_tables.specs.inner.Tables.{next_via}
 use Rattle.pass_tables.proofs.RunLaws.{next-none, next_here, next-on}
 use Rattle.pass_tables.proofs.runs.run_end.Statement.{statement}
 use Rattle.pass_tables.proofs.runs.run_end.Tie as tie
 
 abbrev invariant-loop : tie.invariant-loop
-invariant-loop vias from to v₀ v = (v ≤ to) × (nextVia vias v (to - v) ≡ nextVia vias from (to - from))
+invariant-loop vias from to v₀ v = (v ≤ to) × (next_via vias v (to - v) ≡ next_via vias from (to - from))
 
 abbrev decreases-loop : tie.decreases-loop
 decreases-loop vias from to v₀ v = to - v

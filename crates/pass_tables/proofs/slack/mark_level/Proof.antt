@@ -5,13 +5,13 @@ use mathlib.Core.List.{◌++◌}
 use native.Mathlib.Omega.{arith}
 use borrow.Author.Rules.{rules}
 use lib.ListN.{length, take, length-set}
-use Rattle.pass_tables.specs.inner.Tables.{along, startsLoose}
+use Rattle.pass_tables.specs.inner.Tables.{along, starts_loose}
 use Rattle.pass_tables.proofs.LevelLaws.{entry-filled, entries-end}
 use Rattle.pass_tables.proofs.slack.mark_level.Statement.{statement}
 use Rattle.pass_tables.proofs.slack.mark_level.Tie as tie
 
 abbrev invariant-loop : tie.invariant-loop
-invariant-loop vias doubled at from to marks₀ v₀ marks v = (v ≤ to) × (length marks ≡ length marks₀) × (take v marks ++ along (λ (u : ℕ). startsLoose vias doubled at u to) v (to - v) ≡ take from marks₀ ++ along (λ (u : ℕ). startsLoose vias doubled at u to) from (to - from))
+invariant-loop vias doubled at from to marks₀ v₀ marks v = (v ≤ to) × (length marks ≡ length marks₀) × (take v marks ++ along (λ (u : ℕ). starts_loose vias doubled at u to) v (to - v) ≡ take from marks₀ ++ along (λ (u : ℕ). starts_loose vias doubled at u to) from (to - from))
 
 abbrev decreases-loop : tie.decreases-loop
 decreases-loop vias doubled at from to marks₀ v₀ marks v = to - v
@@ -22,12 +22,12 @@ loop-holds c = (omega arith, refl, refl)
 loop-again : tie.Need-loop-preserved invariant-loop decreases-loop
 loop-again c = let a = c.before.before.before.before.before.before.args in
     let l = c.before.before.loop in
-    (omega arith, simp length-set l.invariant.1, entry-filled (λ (u : ℕ). startsLoose a.vias.now a.doubled.now a.at.now u a.to) l.marks l.v a.to c.starts-loose.result (omega arith) (omega arith) c.starts-loose.ensures ∙ l.invariant.2)
+    (omega arith, simp length-set l.invariant.1, entry-filled (λ (u : ℕ). starts_loose a.vias.now a.doubled.now a.at.now u a.to) l.marks l.v a.to c.starts-loose.result (omega arith) (omega arith) c.starts-loose.ensures ∙ l.invariant.2)
 
 returns : tie.Need-returns invariant-loop decreases-loop
 returns c = let a = c.before.before.before.before.before.args in
     let l = c.before.loop in
-    entries-end (λ (u : ℕ). startsLoose a.vias.now a.doubled.now a.at.now u a.to) l.marks l.v a.to (omega arith) ∙ l.invariant.2
+    entries-end (λ (u : ℕ). starts_loose a.vias.now a.doubled.now a.at.now u a.to) l.marks l.v a.to (omega arith) ∙ l.invariant.2
 
 pub mark-level-spec : {M : Type 1} → statement M
 mark-level-spec =

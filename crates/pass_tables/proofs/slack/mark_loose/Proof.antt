@@ -7,13 +7,13 @@ use borrow.Author.Rules.{rules}
 use lib.ListN.{length, take, drop}
 use Rattle.ints.proofs.Lists.{sum-on, sum-end}
 use Rattle.ints.specs.Lists.{sum}
-use Rattle.pass_tables.specs.inner.Tables.{levelwise, startsLoose}
+use Rattle.pass_tables.specs.inner.Tables.{levelwise, starts_loose}
 use Rattle.pass_tables.proofs.LevelLaws.{level-filled, levels-end}
 use Rattle.pass_tables.proofs.slack.mark_loose.Statement.{statement}
 use Rattle.pass_tables.proofs.slack.mark_loose.Tie as tie
 
 abbrev invariant-loop : tie.invariant-loop
-invariant-loop sizes vias doubled at marks₀ from₀ i₀ marks from i = (i ≤ length sizes) × (length marks ≡ length marks₀) × (from + sum (drop i sizes) ≡ sum sizes) × (take from marks ++ levelwise (λ (v to : ℕ). startsLoose vias doubled at v to) from (drop i sizes) ≡ levelwise (λ (v to : ℕ). startsLoose vias doubled at v to) 0 sizes)
+invariant-loop sizes vias doubled at marks₀ from₀ i₀ marks from i = (i ≤ length sizes) × (length marks ≡ length marks₀) × (from + sum (drop i sizes) ≡ sum sizes) × (take from marks ++ levelwise (λ (v to : ℕ). starts_loose vias doubled at v to) from (drop i sizes) ≡ levelwise (λ (v to : ℕ). starts_loose vias doubled at v to) 0 sizes)
 
 abbrev decreases-loop : tie.decreases-loop
 decreases-loop sizes vias doubled at marks₀ from₀ i₀ marks from i = length sizes - i
@@ -38,14 +38,14 @@ loop-again c = let l = c.before.before.before.before.before.before.before.loop i
       omega arith,
       d.auto.1.1.1.1.1.0 ∙ l.invariant.1,
       omega (arith, w.ensures, sum-on a.sizes.now l.i (omega arith)),
-      level-filled (λ (v to : ℕ). startsLoose a.vias.now a.doubled.now a.at.now v to) a.sizes.now l.from l.i l.marks d.new.1.1.1.1.1.0 (l.from + w.result) (omega arith) (omega (arith, w.ensures)) d.ensures ∙ l.invariant.3,
+      level-filled (λ (v to : ℕ). starts_loose a.vias.now a.doubled.now a.at.now v to) a.sizes.now l.from l.i l.marks d.new.1.1.1.1.1.0 (l.from + w.result) (omega arith) (omega (arith, w.ensures)) d.ensures ∙ l.invariant.3,
     )
 
 returns : tie.Need-returns invariant-loop decreases-loop
 returns c = let l = c.before.loop in
     let a = c.before.before.before.before.before.before.args in
     let i : length a.sizes.now ≤ l.i = omega arith in
-    levels-end (λ (v to : ℕ). startsLoose a.vias.now a.doubled.now a.at.now v to) a.sizes.now l.from l.i l.marks i (omega (arith, sum-end a.sizes.now l.i i)) ∙ l.invariant.3
+    levels-end (λ (v to : ℕ). starts_loose a.vias.now a.doubled.now a.at.now v to) a.sizes.now l.from l.i l.marks i (omega (arith, sum-end a.sizes.now l.i i)) ∙ l.invariant.3
 
 pub mark-loose-spec : {M : Type 1} → statement M
 mark-loose-spec =

@@ -6,7 +6,7 @@ use native.Mathlib.Omega.{arith}
 use borrow.Author.Tests.{not-true, not-false}
 use borrow.Author.Rules.{rules}
 use lib.ListN.{get_or}
-use Rattle.pass_tables.specs.inner.Tables.{nextVia}
+use Rattle.pass_tables.specs.inner.Tables.{next_via}
 use Rattle.pass_tables.proofs.RunLaws.{next}
 use Rattle.pass_tables.proofs.slack.starts_loose.Statement.{statement}
 use Rattle.pass_tables.proofs.slack.starts_loose.Tie as tie
@@ -22,7 +22,7 @@ is-loose-requires c κs = let a = c.before.before.before.before.before.args in
 returns-2 : tie.Need-returns-2
 returns-2 c = let a = c.before.before.before.before.before.before.args in
     let e : get_or a.vias.now a.v false ≡ true = not-false _ c.before.before.if1.false in
-    let w : c.before.run-end.result ≡ nextVia a.vias.now (a.v + 1) (a.to - (a.v + 1)) = c.before.run-end.ensures in
+    let w : c.before.run-end.result ≡ next_via a.vias.now (a.v + 1) (a.to - (a.v + 1)) = c.before.run-end.ensures in
     rw (e, ← w) c.is-loose.ensures
 
 pub starts-loose-spec : {M : Type 1} → statement M

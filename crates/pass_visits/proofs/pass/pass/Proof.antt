@@ -4,7 +4,7 @@ use mathlib.Core.Path.{◌≡◌, refl, ◌∙◌, ap, sym}
 use native.Mathlib.Omega.{arith}
 use lib.ListN.{length, get_or}
 use Rattle.pass_tables.specs.inner.Moments.{Leaves}
-use Rattle.pass_visits.specs.inner.Passing.{passWork, PassNext}
+use Rattle.pass_visits.specs.inner.Passing.{pass_work, PassNext}
 use Rattle.pass_neighbours.specs.inner.Order.{turn_of}
 use Rattle.pass_visits.proofs.PassLaws.{Turned, starts-many, turned-start, turned-end, level-next, turned-next}
 use Rattle.pass_neighbours.proofs.OrderLaws.{turn_small}
@@ -14,7 +14,7 @@ use Rattle.pass_visits.proofs.pass.pass.Tie as tie
 
 abbrev invariant-loop : tie.invariant-loop
 invariant-loop q starts vias first ends sums at₀ apart₀ marks₀ before₀ after₀ counts₀ n low₀ high₀ k₀ at apart marks before after counts low high k =
-    Leaves (PassNext q starts vias (passWork first ends sums at₀ apart₀ marks₀)) (Turned q k low high at apart marks)
+    Leaves (PassNext q starts vias (pass_work first ends sums at₀ apart₀ marks₀)) (Turned q k low high at apart marks)
     × (length at ≡ length at₀) × (length apart ≡ length apart₀) × (length marks ≡ length marks₀) × (k ≤ n)
     × (length before ≡ 1024) × (length after ≡ 1024) × (length counts ≡ 1024)
 

@@ -13,7 +13,7 @@ use Rattle.text.specs.Decimal.{decimal}
 use Rattle.text_write.proofs.Written.{wrote_none, and_then, and_both, room_after}
 use Rattle.marks.specs.Marks.{bend}
 use Rattle.picture_numbers.specs.Thousandths.{amount, across, down}
-use Rattle.picture_elements.specs.Elements.{bendOf}
+use Rattle.picture_elements.specs.Elements.{bend_of}
 use Rattle.picture_elements.proofs.elements.put_bend.Statement.{statement}
 use Rattle.picture_elements.proofs.elements.put_bend.Tie as tie
 
@@ -21,27 +21,27 @@ b-x : (c : tie.Start) → to_z w64 (of_z w64 c.args.x) ≡ c.args.x
 b-x c = back c.ranges.x
 
 put-word-requires : tie.Need-put-word-requires
-unfolding bendOf
+unfolding bend_of
 put-word-requires c κs =
     let s = c.before.before.before in
     let a = s.args in
     room_after (bytes "<circle id=\"v")
-    (bendOf a.measure a.n (bend a.x a.y))
+    (bend_of a.measure a.n (bend a.x a.y))
     (wrote_none a.out.now a.at) s.requires.1 (simp length-append (omega arith))
 
 put-decimal-requires : tie.Need-put-decimal-requires
-unfolding bendOf
+unfolding bend_of
 put-decimal-requires c κs =
     let c1 = c.before.before.before in
     let s = c1.before.before.before.before in
     let a = s.args in
     let w1 = c1.put_word.ensures in
     room_after (decimal a.n)
-    (bendOf a.measure a.n (bend a.x a.y))
+    (bend_of a.measure a.n (bend a.x a.y))
     w1 s.requires.1 (simp length-append (omega arith))
 
 put-across-requires : tie.Need-put-across-requires
-unfolding bendOf
+unfolding bend_of
 put-across-requires c κs =
     let c1 = c.before.before.before.before in
     let c2 = c1.before.before.before.before in
@@ -52,12 +52,12 @@ put-across-requires c κs =
     rw (b-x s) (
       omega (arith, s.requires.0.point.0),
       room_after ((bytes "\" cx=\"") ++ (across a.x))
-          (bendOf a.measure a.n (bend a.x a.y))
+          (bend_of a.measure a.n (bend a.x a.y))
           w2 s.requires.1 (simp length-append (omega arith)),
     )
 
 put-down-requires : tie.Need-put-down-requires
-unfolding bendOf
+unfolding bend_of
 put-down-requires c κs =
     let c1 = c.before.before.before.before in
     let c2 = c1.before.before.before.before.before in
@@ -69,12 +69,12 @@ put-down-requires c κs =
     let w3 = and_both (bytes "\" cx=\"") (across a.x) w2 (rw (b-x s) at c1.put-across.ensures) in (
       omega (arith, s.requires.0.point.1),
       room_after ((bytes "\" cy=\"") ++ (down a.y))
-          (bendOf a.measure a.n (bend a.x a.y))
+          (bend_of a.measure a.n (bend a.x a.y))
           w3 s.requires.1 (simp length-append (omega arith)),
     )
 
 put-measured-requires : tie.Need-put-measured-requires
-unfolding bendOf
+unfolding bend_of
 put-measured-requires c κs =
     let c1 = c.before.before.before.before in
     let c2 = c1.before.before.before.before.before in
@@ -87,11 +87,11 @@ put-measured-requires c κs =
     let w3 = and_both (bytes "\" cx=\"") (across a.x) w2 (rw (b-x s) at c2.put-across.ensures) in
     let w4 = and_both (bytes "\" cy=\"") (down a.y) w3 c1.put-down.ensures in
     room_after ((bytes "\" r=\"") ++ (amount (35 * a.measure)))
-    (bendOf a.measure a.n (bend a.x a.y))
+    (bend_of a.measure a.n (bend a.x a.y))
     w4 s.requires.1 (simp length-append (omega arith))
 
 put-word-requires-2 : tie.Need-put-word-requires-2
-unfolding bendOf
+unfolding bend_of
 put-word-requires-2 c κs =
     let c1 = c.before.before.before.before in
     let c2 = c1.before.before.before.before.before in
@@ -106,11 +106,11 @@ put-word-requires-2 c κs =
     let w4 = and_both (bytes "\" cy=\"") (down a.y) w3 c2.put-down.ensures in
     let w5 = and_both (bytes "\" r=\"") (amount (35 * a.measure)) w4 c1.put-measured.ensures in
     room_after (bytes "\"/>\n")
-    (bendOf a.measure a.n (bend a.x a.y))
+    (bend_of a.measure a.n (bend a.x a.y))
     w5 s.requires.1 (simp length-append (omega arith))
 
 returns : tie.Need-returns
-unfolding bendOf
+unfolding bend_of
 returns c =
     let c1 = c.before.before in
     let c2 = c1.before.before.before.before.before in

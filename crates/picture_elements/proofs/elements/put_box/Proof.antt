@@ -11,8 +11,8 @@ use Rattle.text.specs.Bytes.{bytes}
 use Rattle.text.specs.Decimal.{decimal}
 use Rattle.text_write.proofs.Written.{wrote_none, wrote-long, and_then, and_both, room_after}
 use Rattle.marks.specs.Marks.{box}
-use Rattle.picture_labels.specs.Label.{titleOf, label_of}
-use Rattle.picture_elements.specs.Elements.{rectOf, boxOf}
+use Rattle.picture_labels.specs.Label.{title_of, label_of}
+use Rattle.picture_elements.specs.Elements.{rect_of, box_of}
 use Rattle.picture_elements.proofs.Limits.{in-limits}
 use Rattle.picture_elements.proofs.elements.put_box.Statement.{statement}
 use Rattle.picture_elements.proofs.elements.put_box.Tie as tie
@@ -21,27 +21,27 @@ b-x : (c : tie.Start) → to_z w64 (of_z w64 c.args.x) ≡ c.args.x
 b-x c = back c.ranges.x
 
 put-word-requires : tie.Need-put-word-requires
-unfolding boxOf
+unfolding box_of
 put-word-requires c κs =
     let s = c.before.before.before.before in
     let a = s.args in
     room_after (bytes "<g id=\"v")
-    (boxOf a.measure a.name.now a.n (box a.x a.y a.half))
+    (box_of a.measure a.name.now a.n (box a.x a.y a.half))
     (wrote_none a.out.now a.at) s.requires.1 (simp length-append (omega arith))
 
 put-then-requires : tie.Need-put-then-requires
-unfolding boxOf
+unfolding box_of
 put-then-requires c κs =
     let c1 = c.before.before.before.before in
     let s = c1.before.before.before.before.before in
     let a = s.args in
     let w1 = c1.put_word.ensures in
     room_after ((decimal a.n) ++ (bytes "\"><title>"))
-    (boxOf a.measure a.name.now a.n (box a.x a.y a.half))
+    (box_of a.measure a.name.now a.n (box a.x a.y a.half))
     w1 s.requires.1 (simp length-append (omega arith))
 
 put-title-requires : tie.Need-put-title-requires
-unfolding boxOf
+unfolding box_of
 put-title-requires c κs =
     let c1 = c.before.before.before in
     let c2 = c1.before.before.before.before.before in
@@ -49,12 +49,12 @@ put-title-requires c κs =
     let a = s.args in
     let w1 = c2.put_word.ensures in
     let w2 = and_both (decimal a.n) (bytes "\"><title>") w1 c1.put_then.ensures in
-    room_after (titleOf a.n a.name.now)
-    (boxOf a.measure a.name.now a.n (box a.x a.y a.half))
+    room_after (title_of a.n a.name.now)
+    (box_of a.measure a.name.now a.n (box a.x a.y a.half))
     w2 s.requires.1 (simp length-append (omega arith))
 
 put-word-requires-2 : tie.Need-put-word-requires-2
-unfolding boxOf
+unfolding box_of
 put-word-requires-2 c κs =
     let c1 = c.before.before.before.before in
     let c2 = c1.before.before.before.before in
@@ -65,11 +65,11 @@ put-word-requires-2 c κs =
     let w2 = and_both (decimal a.n) (bytes "\"><title>") w1 c2.put_then.ensures in
     let w3 = and_then w2 c1.put-title.ensures in
     room_after (bytes "</title>")
-    (boxOf a.measure a.name.now a.n (box a.x a.y a.half))
+    (box_of a.measure a.name.now a.n (box a.x a.y a.half))
     w3 s.requires.1 (simp length-append (omega arith))
 
 put-rect-requires : tie.Need-put-rect-requires
-unfolding boxOf
+unfolding box_of
 put-rect-requires c κs =
     let c1 = c.before.before.before in
     let c2 = c1.before.before.before.before.before in
@@ -85,13 +85,13 @@ put-rect-requires c κs =
       s.requires.0.vertex.point,
       s.requires.0.vertex.measure,
       s.requires.0.narrow,
-      room_after (rectOf a.measure a.x a.y a.half)
-          (boxOf a.measure a.name.now a.n (box a.x a.y a.half))
+      room_after (rect_of a.measure a.x a.y a.half)
+          (box_of a.measure a.name.now a.n (box a.x a.y a.half))
           w4 s.requires.1 (simp length-append (omega arith)),
     )
 
 put-label-requires : tie.Need-put-label-requires
-unfolding boxOf
+unfolding box_of
 put-label-requires c κs =
     let c1 = c.before.before.before in
     let c2 = c1.before.before.before.before in
@@ -108,12 +108,12 @@ put-label-requires c κs =
     rw (b-x s) (
       in-limits s.requires.0,
       room_after (label_of a.x a.y a.half a.measure a.n a.name.now)
-          (boxOf a.measure a.name.now a.n (box a.x a.y a.half))
+          (box_of a.measure a.name.now a.n (box a.x a.y a.half))
           w5 s.requires.1 (simp length-append (omega arith)),
     )
 
 put-word-requires-3 : tie.Need-put-word-requires-3
-unfolding boxOf
+unfolding box_of
 put-word-requires-3 c κs =
     let c1 = c.before.before.before.before in
     let c2 = c1.before.before.before.before in
@@ -130,11 +130,11 @@ put-word-requires-3 c κs =
     let w5 = and_then w4 (rw (b-x s) at c2.put-rect.ensures) in
     let w6 = and_then w5 (rw (b-x s) at c1.put-label.ensures) in
     room_after (bytes "</g>\n")
-    (boxOf a.measure a.name.now a.n (box a.x a.y a.half))
+    (box_of a.measure a.name.now a.n (box a.x a.y a.half))
     w6 s.requires.1 (simp length-append (omega arith))
 
 returns : tie.Need-returns
-unfolding boxOf
+unfolding box_of
 returns c =
     let c1 = c.before.before in
     let c2 = c1.before.before.before.before.before in

@@ -11,7 +11,7 @@ use Rattle.text.specs.Bytes.{bytes}
 use Rattle.text_write.proofs.Written.{wrote_none, and_then, and_both, room_after}
 use Rattle.marks.specs.Marks.{line}
 use Rattle.picture_numbers.specs.Thousandths.{across, down}
-use Rattle.picture_elements.specs.Elements.{penOf, line_of}
+use Rattle.picture_elements.specs.Elements.{pen_of, line_of}
 use Rattle.picture_elements.proofs.elements.put_line.Statement.{statement}
 use Rattle.picture_elements.proofs.elements.put_line.Tie as tie
 
@@ -93,7 +93,7 @@ put-pen-requires c κs =
     let w3 = and_both (bytes "\" x2=\"") (across a.a) w2 (rw (b-a s) at c2.put-across2.ensures) in
     let w4 = and_both (bytes "\" y2=\"") (down a.b) w3 c1.put-down2.ensures in (
       s.requires.0,
-      room_after (penOf a.measure a.rating)
+      room_after (pen_of a.measure a.rating)
           (line_of a.measure a.rating (line a.x a.y a.a a.b))
           w4 s.requires.3 (simp length-append (omega arith)),
     )

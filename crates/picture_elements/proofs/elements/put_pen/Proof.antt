@@ -3,13 +3,13 @@ use native.Mathlib.Omega.{arith}
 use borrow.Author.Rules.{rules}
 use borrow.Author.Tests.{eq-eqb, ne_eqb}
 use Rattle.text_write.proofs.Written.{wrote_none}
-use Rattle.picture_elements.specs.Elements.{penOf}
+use Rattle.picture_elements.specs.Elements.{pen_of}
 use Rattle.picture_elements.proofs.Limits.{pen-thin}
 use Rattle.picture_elements.proofs.elements.put_pen.Statement.{statement}
 use Rattle.picture_elements.proofs.elements.put_pen.Tie as tie
 
 returns : tie.Need-returns
-unfolding penOf
+unfolding pen_of
 returns c = rw (eq-eqb _ _ c.if1.true) (wrote_none c.before.before.args.out.now c.before.before.args.at)
 
 mul-pen : tie.Need-overflow-mul-pen
@@ -18,11 +18,11 @@ mul-pen c =
     omega (arith, pen-thin s.args.measure s.args.rating s.requires.0)
 
 put-measured-requires : tie.Need-put-measured-requires
-unfolding penOf
+unfolding pen_of
 put-measured-requires c κs = rw (ne_eqb _ _ c.before.before.if1.false) at c.before.before.before.before.requires.1
 
 returns-2 : tie.Need-returns-2
-unfolding penOf
+unfolding pen_of
 returns-2 c = rw (ne_eqb _ _ c.before.before.before.before.before.if1.false) c.before.before.put-measured.ensures
 
 pub put-pen-spec : {M : Type 1} → statement M

@@ -12,7 +12,7 @@ use Rattle.ints.proofs.Laws.{back, back', of-nat, dif}
 use Rattle.text.specs.Bytes.{bytes}
 use Rattle.text_write.proofs.Written.{wrote_none, and_then, and_both, room_after}
 use Rattle.picture_numbers.specs.Thousandths.{amount, thousandths, across, down}
-use Rattle.picture_elements.specs.Elements.{rectOf}
+use Rattle.picture_elements.specs.Elements.{rect_of}
 use Rattle.picture_elements.proofs.elements.put_rect.Statement.{statement}
 use Rattle.picture_elements.proofs.elements.put_rect.Tie as tie
 
@@ -38,7 +38,7 @@ minus-requires-2 : tie.Need-minus-requires-2
 minus-requires-2 c κs = simp b-y (omega (arith, c.before.before.requires.0.1, c.before.before.requires.1))
 
 put-across-requires : tie.Need-put-across-requires
-unfolding rectOf
+unfolding rect_of
 put-across-requires c κs =
     let c1 = c.before.before.before in
     let s = c1.before.before in
@@ -46,12 +46,12 @@ put-across-requires c κs =
     rw (left_is c1) (
       omega (arith, s.requires.0.0, s.requires.2, dif a.x (pos (2 * a.half))),
       room_after ((bytes "<rect x=\"") ++ (across (a.x -ℤ pos (2 * a.half))))
-          (rectOf a.measure a.x a.y a.half)
+          (rect_of a.measure a.x a.y a.half)
           (wrote_none a.out.now a.at) s.requires.3 (simp length-append (omega arith)),
     )
 
 put-word-requires : tie.Need-put-word-requires
-unfolding rectOf
+unfolding rect_of
 put-word-requires c κs =
     let c1 = c.before.before.before.before in
     let c2 = c1.before.before.before.before in
@@ -59,11 +59,11 @@ put-word-requires c κs =
     let a = s.args in
     let w1 = (rw (left_is c2) at c1.put-across.ensures) in
     room_after (bytes "\" y=\"")
-    (rectOf a.measure a.x a.y a.half)
+    (rect_of a.measure a.x a.y a.half)
     w1 s.requires.3 (simp length-append (omega arith))
 
 put-thousandths-requires : tie.Need-put-thousandths-requires
-unfolding rectOf
+unfolding rect_of
 put-thousandths-requires c κs =
     let c1 = c.before.before.before in
     let c2 = c1.before.before.before.before.before in
@@ -76,12 +76,12 @@ put-thousandths-requires c κs =
     rw (top-is c3) (
       omega (arith, s.requires.0.1, s.requires.1, dif (pos (1000 * a.y)) (pos (200 * a.measure))),
       room_after (thousandths (pos (1000 * a.y) -ℤ pos (200 * a.measure)))
-          (rectOf a.measure a.x a.y a.half)
+          (rect_of a.measure a.x a.y a.half)
           w2 s.requires.3 (simp length-append (omega arith)),
     )
 
 put-down-requires : tie.Need-put-down-requires
-unfolding rectOf
+unfolding rect_of
 put-down-requires c κs =
     let c1 = c.before.before.before.before in
     let c2 = c1.before.before.before.before in
@@ -95,12 +95,12 @@ put-down-requires c κs =
     let w3 = and_then w2 (rw (top-is c4) at c1.put-thousandths.ensures) in (
       omega (arith, s.requires.2),
       room_after ((bytes "\" width=\"") ++ (down (2 * a.half)))
-          (rectOf a.measure a.x a.y a.half)
+          (rect_of a.measure a.x a.y a.half)
           w3 s.requires.3 (simp length-append (omega arith)),
     )
 
 put-measured-requires : tie.Need-put-measured-requires
-unfolding rectOf
+unfolding rect_of
 put-measured-requires c κs =
     let c1 = c.before.before.before.before in
     let c2 = c1.before.before.before.before.before in
@@ -115,11 +115,11 @@ put-measured-requires c κs =
     let w3 = and_then w2 (rw (top-is c5) at c2.put-thousandths.ensures) in
     let w4 = and_both (bytes "\" width=\"") (down (2 * a.half)) w3 c1.put-down.ensures in
     room_after ((bytes "\" height=\"") ++ (amount (400 * a.measure)))
-    (rectOf a.measure a.x a.y a.half)
+    (rect_of a.measure a.x a.y a.half)
     w4 s.requires.3 (simp length-append (omega arith))
 
 put-word-requires-2 : tie.Need-put-word-requires-2
-unfolding rectOf
+unfolding rect_of
 put-word-requires-2 c κs =
     let c1 = c.before.before.before.before in
     let c2 = c1.before.before.before.before.before in
@@ -136,11 +136,11 @@ put-word-requires-2 c κs =
     let w4 = and_both (bytes "\" width=\"") (down (2 * a.half)) w3 c2.put-down.ensures in
     let w5 = and_both (bytes "\" height=\"") (amount (400 * a.measure)) w4 c1.put-measured.ensures in
     room_after (bytes "\"/>")
-    (rectOf a.measure a.x a.y a.half)
+    (rect_of a.measure a.x a.y a.half)
     w5 s.requires.3 (simp length-append (omega arith))
 
 returns : tie.Need-returns
-unfolding rectOf
+unfolding rect_of
 returns c =
     let c1 = c.before.before in
     let c2 = c1.before.before.before.before.before in

@@ -7,9 +7,9 @@ use native.Mathlib.Omega.{arith}
 use borrow.Author.Rules.{rules}
 use lib.ListN.{length}
 use lib.Seq.{length-take-le}
-use Rattle.plan.specs.inner.Held.{heldPlan}
-use Rattle.picture_marks.specs.Picture.{pictureOf}
-use Rattle.picture_marks.specs.inner.Asked.{namesIn, maxPicture}
+use Rattle.plan.specs.inner.Held.{held_plan}
+use Rattle.picture_marks.specs.Picture.{picture_of}
+use Rattle.picture_marks.specs.inner.Asked.{names_in, max_picture}
 use Rattle.picture_fit.proofs.FitLaws.{fits, asked-short, enough, copied-long, copied_is}
 use Rattle.picture_fit.proofs.fit.fit_picture.Statement.{statement}
 use Rattle.picture_fit.proofs.fit.fit_picture.Tie as tie
@@ -17,25 +17,25 @@ use Rattle.picture_fit.proofs.fit.fit_picture.Tie as tie
 abbrev picture : tie.Start → List ℕ
 picture c =
     let a = c.args in
-    pictureOf (heldPlan a.gap a.spacing a.sizes.now a.vias.now a.halves.now a.uppers.now a.lowers.now a.ratings.now) a.finals.now
-    (namesIn a.names.now a.starts.now a.ends.now (length a.vias.now))
+    picture_of (held_plan a.gap a.spacing a.sizes.now a.vias.now a.halves.now a.uppers.now a.lowers.now a.ratings.now) a.finals.now
+    (names_in a.names.now a.starts.now a.ends.now (length a.vias.now))
 
-short : (c : tie.Start) → length (picture c) ≤ maxPicture
+short : (c : tie.Start) → length (picture c) ≤ max_picture
 short c =
     let a = c.args in
-    asked-short (heldPlan a.gap a.spacing a.sizes.now a.vias.now a.halves.now a.uppers.now a.lowers.now a.ratings.now) a.finals.now
+    asked-short (held_plan a.gap a.spacing a.sizes.now a.vias.now a.halves.now a.uppers.now a.lowers.now a.ratings.now) a.finals.now
     a.names.now a.starts.now a.ends.now c.requires.0 c.requires.1
 
 slice-aggregate-put-picture : tie.Need-slice-aggregate-put-picture
 slice-aggregate-put-picture c = search rules
 
-long : (c : tie.After-room) → length c.before.blank.result ≡ maxPicture
+long : (c : tie.After-room) → length c.before.blank.result ≡ max_picture
 long c = sym (slice-aggregate-put-picture c)
 
 put-picture-requires : tie.Need-put-picture-requires
 put-picture-requires c κs =
     let s = c.before.before.before.before.before.before.before.before.before.before.before.before.before in
-    (s.requires.0, enough (picture s) c.before.blank.result maxPicture (short s) (long c))
+    (s.requires.0, enough (picture s) c.before.blank.result max_picture (short s) (long c))
 
 array-share-prefix-room : tie.Need-array-share-prefix-room
 array-share-prefix-room c =

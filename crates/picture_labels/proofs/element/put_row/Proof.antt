@@ -12,7 +12,7 @@ use Rattle.text.specs.Bytes.{bytes}
 use Rattle.text_write.proofs.Written.{wrote_none, and_then, room_after}
 use Rattle.picture_rows.specs.Escape.{escaped}
 use Rattle.picture_rows.specs.Rows.{row}
-use Rattle.picture_labels.specs.Label.{start_of, elementOf, sign, letters}
+use Rattle.picture_labels.specs.Label.{start_of, element_of, sign, letters}
 use Rattle.picture_labels.proofs.element.put_row.Statement.{statement}
 use Rattle.picture_labels.proofs.element.put_row.Tie as tie
 
@@ -20,48 +20,48 @@ b-x : (c : tie.Start) → to_z w64 (of_z w64 c.args.x) ≡ c.args.x
 b-x c = back c.ranges.x
 
 put-start-requires : tie.Need-put-start-requires
-unfolding elementOf
+unfolding element_of
 put-start-requires c κs =
     let s = c.before.before.before in let a = s.args in
     simp b-x (
       s.requires.0,
       s.requires.1,
-      room_after (start_of a.x a.y a.size a.k) (elementOf a.x a.y a.size a.k (letters (row a.front.now a.cut)))
+      room_after (start_of a.x a.y a.size a.k) (element_of a.x a.y a.size a.k (letters (row a.front.now a.cut)))
           (wrote_none a.out.now a.at) s.requires.2 (simp length-append (omega arith)),
     )
 
 put-escaped-requires : tie.Need-put-escaped-requires
-unfolding elementOf
+unfolding element_of
 put-escaped-requires c κs =
     let c3 = c.before.before.before in
     let c7 = c3.before.before.before.before in
     let s = c7 in let a = s.args in
-    room_after (escaped a.front.now) (elementOf a.x a.y a.size a.k (letters (row a.front.now a.cut))) (simp b-x at c3.put-start.ensures)
+    room_after (escaped a.front.now) (element_of a.x a.y a.size a.k (letters (row a.front.now a.cut))) (simp b-x at c3.put-start.ensures)
     s.requires.2 (simp length-append (omega arith))
 
 put-sign-requires : tie.Need-put-sign-requires
-unfolding elementOf
+unfolding element_of
 put-sign-requires c κs =
     let c3 = c.before.before.before in
     let c7 = c3.before.before.before.before in
     let c11 = c7.before.before.before.before in
     let s = c11 in let a = s.args in
-    room_after (cond a.cut sign []) (elementOf a.x a.y a.size a.k (letters (row a.front.now a.cut)))
+    room_after (cond a.cut sign []) (element_of a.x a.y a.size a.k (letters (row a.front.now a.cut)))
     (and_then (simp b-x at c7.put-start.ensures) c3.put-escaped.ensures) s.requires.2 (simp length-append (omega arith))
 
 put-word-requires : tie.Need-put-word-requires
-unfolding elementOf
+unfolding element_of
 put-word-requires c κs =
     let c4 = c.before.before.before.before in
     let c8 = c4.before.before.before.before in
     let c12 = c8.before.before.before.before in
     let c16 = c12.before.before.before.before in
     let s = c16 in let a = s.args in
-    room_after (bytes "</text>") (elementOf a.x a.y a.size a.k (letters (row a.front.now a.cut)))
+    room_after (bytes "</text>") (element_of a.x a.y a.size a.k (letters (row a.front.now a.cut)))
     (and_then (and_then (simp b-x at c12.put-start.ensures) c8.put-escaped.ensures) c4.put-sign.ensures) s.requires.2 (simp length-append (omega arith))
 
 returns : tie.Need-returns
-unfolding elementOf
+unfolding element_of
 returns c =
     let c7 = c.before.before.before.before.before.before.before in
     let c11 = c7.before.before.before.before in

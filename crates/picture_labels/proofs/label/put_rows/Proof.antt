@@ -13,7 +13,7 @@ use Rattle.report_lines.proofs.Partly.{Partly, nothing_yet, next-room, next-writ
 use Rattle.script_words.proofs.PartLaws.{rest}
 use Rattle.picture_rows.specs.Rows.{row, rows}
 use Rattle.picture_rows.proofs.RowLaws.{no_rows, row_on, row_inside, rows_end}
-use Rattle.picture_labels.specs.Label.{elementOf, letters, elements}
+use Rattle.picture_labels.specs.Label.{element_of, letters, elements}
 use Rattle.picture_labels.proofs.LabelLaws.{elements-on, elements-none}
 use Rattle.picture_labels.proofs.label.put_rows.Statement.{statement}
 use Rattle.picture_labels.proofs.label.put_rows.Tie as tie
@@ -71,7 +71,7 @@ splits : (c : tie.After-struct-known invariant-loop decreases-loop) →
     let c5 = c.before.before.before.before.before in let c8 = c5.before.before.before in
     let a = c8.args in let l = c5.loop in let r = c.before.first-row.result in let s = l.start in let n = a.name.now in let x = to_z w64 (of_z w64 a.x) in
     elements x a.y a.size l.k (rows a.cols l.left (drop s n))
-    ≡ elementOf x a.y a.size l.k (letters (row (take (s + r.end - s) (drop s n)) r.cut))
+    ≡ element_of x a.y a.size l.k (letters (row (take (s + r.end - s) (drop s n)) r.cut))
     ++ elements x a.y a.size (l.k + 2) (rows a.cols (l.left - 1) (drop (s + r.next) n))
 splits c =
     let c5 = c.before.before.before.before.before in
@@ -89,7 +89,7 @@ put-row-requires c κs =
     let room : Room (elements x a.y a.size a.first (rows a.cols 3 n)) a.out.now a.from = simp b-x s.requires.4 in (
       simp b-x s.requires.0,
       s.requires.1,
-      next-room (elementOf x a.y a.size l.k (letters (row (take (l.start + r.end - l.start) (drop l.start n)) r.cut)))
+      next-room (element_of x a.y a.size l.k (letters (row (take (l.start + r.end - l.start) (drop l.start n)) r.cut)))
           (elements x a.y a.size (l.k + 2) (rows a.cols (l.left - 1) (drop (l.start + r.next) n))) (splits c.before.before) l.invariant.4 room,
     )
 
@@ -106,7 +106,7 @@ loop-again c =
       omega (arith, l.invariant.1),
       omega (arith, l.invariant.2, c10.loop-test.true),
       c3.put-row.auto.0 ∙ l.invariant.3,
-      next-written (elementOf x a.y a.size l.k (letters (row (take (l.start + r.end - l.start) (drop l.start n)) r.cut)))
+      next-written (element_of x a.y a.size l.k (letters (row (take (l.start + r.end - l.start) (drop l.start n)) r.cut)))
           (elements x a.y a.size (l.k + 2) (rows a.cols (l.left - 1) (drop (l.start + r.next) n))) (splits (c6)) l.invariant.4 c3.put-row.ensures,
     )
 

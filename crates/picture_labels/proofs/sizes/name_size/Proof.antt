@@ -1,11 +1,11 @@
 -- `picture_labels::sizes::name_size` meets its contract: the definition, with the columns that are asked for.
 use borrow.Author.Rules.{rules}
-use Rattle.picture_labels.specs.Label.{nameSize}
+use Rattle.picture_labels.specs.Label.{name_size}
 use Rattle.picture_labels.proofs.sizes.name_size.Statement.{statement}
 use Rattle.picture_labels.proofs.sizes.name_size.Tie as tie
 
 returns : tie.Need-returns
-unfolding nameSize
+unfolding name_size
 returns c = rw (← c.before.asked.ensures.0) c.lesser.ensures
 
 pub name-size-spec : {M : Type 1} → statement M

@@ -1,11 +1,11 @@
 -- `picture_labels::sizes::number_size` meets its contract: the definition, with the digits counted.
 use borrow.Author.Rules.{rules}
-use Rattle.picture_labels.specs.Label.{numberSize}
+use Rattle.picture_labels.specs.Label.{number_size}
 use Rattle.picture_labels.proofs.sizes.number_size.Statement.{statement}
 use Rattle.picture_labels.proofs.sizes.number_size.Tie as tie
 
 returns : tie.Need-returns
-unfolding numberSize
+unfolding number_size
 returns c = rw (← c.before.digits.ensures.0) c.lesser.ensures
 
 pub number-size-spec : {M : Type 1} → statement M

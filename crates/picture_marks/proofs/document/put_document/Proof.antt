@@ -8,7 +8,7 @@ use Rattle.text.specs.Bytes.{bytes}
 use Rattle.text_write.proofs.Written.{wrote_none, wrote-long, and_then, and_both, room_after}
 use Rattle.picture_numbers.specs.Thousandths.{amount}
 use Rattle.picture_names.specs.inner.Indexed.{name_at}
-use Rattle.picture_marks.specs.inner.Listed.{openingIn, linesIn, bendsIn, boxesIn, documentIn}
+use Rattle.picture_marks.specs.inner.Listed.{opening_in, lines_in, bends_in, boxes_in, document_in}
 use Rattle.picture_marks.proofs.document.put_document.Statement.{statement}
 use Rattle.picture_marks.proofs.document.put_document.Tie as tie
 
@@ -17,8 +17,8 @@ put-opening-requires c κs =
     let s = c.before.before.before.before.before.before.before.before.before.before.before in
     let a = s.args in (
       s.requires.0.parts.opening,
-      room_after (openingIn a.measure a.height a.halves.now a.finals.now)
-          (documentIn a.measure a.height a.heights.now a.vias.now a.halves.now a.uppers.now a.lowers.now a.ratings.now a.finals.now
+      room_after (opening_in a.measure a.height a.halves.now a.finals.now)
+          (document_in a.measure a.height a.heights.now a.vias.now a.halves.now a.uppers.now a.lowers.now a.ratings.now a.finals.now
           (name_at a.names.now a.starts.now a.ends.now))
           (wrote_none a.out.now 0) s.requires.1 (simp length-append (omega arith)),
     )
@@ -30,8 +30,8 @@ put-lines-requires c κs =
     let a = s.args in
     let w1 = c1.put-opening.ensures in (
       s.requires.0.parts.lines,
-      room_after (linesIn a.measure a.heights.now a.uppers.now a.lowers.now a.ratings.now a.finals.now)
-          (documentIn a.measure a.height a.heights.now a.vias.now a.halves.now a.uppers.now a.lowers.now a.ratings.now a.finals.now
+      room_after (lines_in a.measure a.heights.now a.uppers.now a.lowers.now a.ratings.now a.finals.now)
+          (document_in a.measure a.height a.heights.now a.vias.now a.halves.now a.uppers.now a.lowers.now a.ratings.now a.finals.now
           (name_at a.names.now a.starts.now a.ends.now))
           w1 s.requires.1 (simp length-append (omega arith)),
     )
@@ -45,7 +45,7 @@ put-word-requires c κs =
     let w1 = c2.put-opening.ensures in
     let w2 = and_then w1 c1.put-lines.ensures in
     room_after (bytes "</g>\n<g class=\"bends\">\n")
-    (documentIn a.measure a.height a.heights.now a.vias.now a.halves.now a.uppers.now a.lowers.now a.ratings.now a.finals.now (name_at a.names.now a.starts.now a.ends.now))
+    (document_in a.measure a.height a.heights.now a.vias.now a.halves.now a.uppers.now a.lowers.now a.ratings.now a.finals.now (name_at a.names.now a.starts.now a.ends.now))
     w2 s.requires.1 (simp length-append (omega arith))
 
 put-bends-requires : tie.Need-put-bends-requires
@@ -59,8 +59,8 @@ put-bends-requires c κs =
     let w2 = and_then w1 c2.put-lines.ensures in
     let w3 = and_then w2 c1.put_word.ensures in (
       s.requires.0.parts.boxes.bends,
-      room_after (bendsIn a.measure a.heights.now a.vias.now a.finals.now)
-          (documentIn a.measure a.height a.heights.now a.vias.now a.halves.now a.uppers.now a.lowers.now a.ratings.now a.finals.now
+      room_after (bends_in a.measure a.heights.now a.vias.now a.finals.now)
+          (document_in a.measure a.height a.heights.now a.vias.now a.halves.now a.uppers.now a.lowers.now a.ratings.now a.finals.now
           (name_at a.names.now a.starts.now a.ends.now))
           w3 s.requires.1 (simp length-append (omega arith)),
     )
@@ -84,7 +84,7 @@ put-measured-requires c κs =
     let w3 = and_then w2 c2.put_word.ensures in
     let w4 = and_then w3 c1.put-bends.ensures in
     room_after ((bytes "</g>\n<g class=\"boxes\" stroke-width=\"") ++ (amount (20 * a.measure)))
-    (documentIn a.measure a.height a.heights.now a.vias.now a.halves.now a.uppers.now a.lowers.now a.ratings.now a.finals.now (name_at a.names.now a.starts.now a.ends.now))
+    (document_in a.measure a.height a.heights.now a.vias.now a.halves.now a.uppers.now a.lowers.now a.ratings.now a.finals.now (name_at a.names.now a.starts.now a.ends.now))
     w4 s.requires.1 (simp length-append (omega arith))
 
 put-word-requires-2 : tie.Need-put-word-requires-2
@@ -102,7 +102,7 @@ put-word-requires-2 c κs =
     let w4 = and_then w3 c2.put-bends.ensures in
     let w5 = and_both (bytes "</g>\n<g class=\"boxes\" stroke-width=\"") (amount (20 * a.measure)) w4 c1.put-measured.ensures in
     room_after (bytes "\">\n")
-    (documentIn a.measure a.height a.heights.now a.vias.now a.halves.now a.uppers.now a.lowers.now a.ratings.now a.finals.now (name_at a.names.now a.starts.now a.ends.now))
+    (document_in a.measure a.height a.heights.now a.vias.now a.halves.now a.uppers.now a.lowers.now a.ratings.now a.finals.now (name_at a.names.now a.starts.now a.ends.now))
     w5 s.requires.1 (simp length-append (omega arith))
 
 put-boxes-requires : tie.Need-put-boxes-requires
@@ -122,8 +122,8 @@ put-boxes-requires c κs =
     let w5 = and_both (bytes "</g>\n<g class=\"boxes\" stroke-width=\"") (amount (20 * a.measure)) w4 c2.put-measured.ensures in
     let w6 = and_then w5 c1.put-word2.ensures in (
       record { boxes = s.requires.0.parts.boxes; names = s.requires.0.names },
-      room_after (boxesIn a.measure a.heights.now a.vias.now a.halves.now a.finals.now (name_at a.names.now a.starts.now a.ends.now))
-          (documentIn a.measure a.height a.heights.now a.vias.now a.halves.now a.uppers.now a.lowers.now a.ratings.now a.finals.now
+      room_after (boxes_in a.measure a.heights.now a.vias.now a.halves.now a.finals.now (name_at a.names.now a.starts.now a.ends.now))
+          (document_in a.measure a.height a.heights.now a.vias.now a.halves.now a.uppers.now a.lowers.now a.ratings.now a.finals.now
           (name_at a.names.now a.starts.now a.ends.now))
           w6 s.requires.1 (simp length-append (omega arith)),
     )
@@ -147,7 +147,7 @@ put-word-requires-3 c κs =
     let w6 = and_then w5 c2.put-word2.ensures in
     let w7 = and_then w6 c1.put-boxes.ensures in
     room_after (bytes "</g>\n</svg>\n")
-    (documentIn a.measure a.height a.heights.now a.vias.now a.halves.now a.uppers.now a.lowers.now a.ratings.now a.finals.now (name_at a.names.now a.starts.now a.ends.now))
+    (document_in a.measure a.height a.heights.now a.vias.now a.halves.now a.uppers.now a.lowers.now a.ratings.now a.finals.now (name_at a.names.now a.starts.now a.ends.now))
     w7 s.requires.1 (simp length-append (omega arith))
 
 returns : tie.Need-returns

@@ -15,7 +15,7 @@ use Rattle.picture_view.specs.Measure.{leftmost, rightmost}
 use Rattle.picture_view.specs.View.{head_of, style}
 use Rattle.picture_view.specs.inner.Edges.{Ends}
 use Rattle.picture_view.proofs.MeasureLaws.{leftmost-size, rightmost-size}
-use Rattle.picture_marks.specs.inner.Listed.{openingIn}
+use Rattle.picture_marks.specs.inner.Listed.{opening_in}
 use Rattle.picture_marks.proofs.document.put_opening.Statement.{statement}
 use Rattle.picture_marks.proofs.document.put_opening.Tie as tie
 
@@ -51,7 +51,7 @@ put-head-requires c κs =
     rw (lo-is c2, hi-is c1) (
       ends s,
       room_after (head_of (leftmost a.halves.now a.finals.now) (rightmost a.halves.now a.finals.now) a.measure a.height)
-          (openingIn a.measure a.height a.halves.now a.finals.now)
+          (opening_in a.measure a.height a.halves.now a.finals.now)
           (wrote_none a.out.now 0) s.requires.1 (simp length-append (omega arith)),
     )
 
@@ -64,7 +64,7 @@ put-style-requires c κs =
     let a = s.args in
     let w1 = (rw (lo-is c3, hi-is c2) at c1.put-head.ensures) in
     room_after style
-    (openingIn a.measure a.height a.halves.now a.finals.now)
+    (opening_in a.measure a.height a.halves.now a.finals.now)
     w1 s.requires.1 (simp length-append (omega arith))
 
 put-measured-requires : tie.Need-put-measured-requires
@@ -78,7 +78,7 @@ put-measured-requires c κs =
     let w1 = (rw (lo-is c4, hi-is c3) at c2.put-head.ensures) in
     let w2 = and_then w1 c1.put-style.ensures in
     room_after ((bytes "<g class=\"lines\" stroke-width=\"") ++ (amount (20 * a.measure)))
-    (openingIn a.measure a.height a.halves.now a.finals.now)
+    (opening_in a.measure a.height a.halves.now a.finals.now)
     w2 s.requires.1 (simp length-append (omega arith))
 
 put-word-requires : tie.Need-put-word-requires
@@ -94,7 +94,7 @@ put-word-requires c κs =
     let w2 = and_then w1 c2.put-style.ensures in
     let w3 = and_both (bytes "<g class=\"lines\" stroke-width=\"") (amount (20 * a.measure)) w2 c1.put-measured.ensures in
     room_after (bytes "\">\n")
-    (openingIn a.measure a.height a.halves.now a.finals.now)
+    (opening_in a.measure a.height a.halves.now a.finals.now)
     w3 s.requires.1 (simp length-append (omega arith))
 
 returns : tie.Need-returns

@@ -7,23 +7,23 @@ use native.Mathlib.Omega.{arith}
 use lib.ListN.{length, get_or, length-append}
 use lib.Seq.{length-take-le, take_at}
 use borrow.Author.Rules.{rules}
-use Rattle.plan.specs.Plan.{PlanData, heightOf, levelOf}
+use Rattle.plan.specs.Plan.{PlanData, height_of, level_of}
 use Rattle.plan.proofs.LimitLaws.{Limits}
 use Rattle.plan.proofs.Sound.{sound}
-use Rattle.plan.specs.inner.Held.{heldPlan}
+use Rattle.plan.specs.inner.Held.{held_plan}
 use Rattle.marks.specs.Marks.{depth_of}
 use Rattle.picture_names.specs.inner.Indexed.{name_at}
 use Rattle.picture_view.specs.Measure.{measure}
-use Rattle.picture_view.specs.View.{viewHeight}
-use Rattle.picture_marks.specs.Picture.{pictureOf}
-use Rattle.picture_marks.specs.inner.Asked.{namesIn}
-use Rattle.picture_marks.specs.inner.Listed.{documentIn}
+use Rattle.picture_view.specs.View.{view_height}
+use Rattle.picture_marks.specs.Picture.{picture_of}
+use Rattle.picture_marks.specs.inner.Asked.{names_in}
+use Rattle.picture_marks.specs.inner.Listed.{document_in}
 use Rattle.picture_marks.proofs.ByLists.{picture-is, document-stands, view-low, given-at}
 use Rattle.picture_marks.proofs.picture.put_picture.Statement.{statement}
 use Rattle.picture_marks.proofs.picture.put_picture.Tie as tie
 
 abbrev plan-of : tie.Start → PlanData
-plan-of c = heldPlan c.args.gap c.args.spacing c.args.sizes.now c.args.vias.now c.args.halves.now c.args.uppers.now c.args.lowers.now c.args.ratings.now
+plan-of c = held_plan c.args.gap c.args.spacing c.args.sizes.now c.args.vias.now c.args.halves.now c.args.uppers.now c.args.lowers.now c.args.ratings.now
 
 of-plan : (c : tie.Start) → Limits (plan-of c)
 of-plan c = (sound (plan-of c) c.requires.0.drawn.plan).limits
@@ -42,7 +42,7 @@ stand : (c : tie.After-heights) →
     let s = c.before.before.before.before.before.before.before.before.before.before.before.before in
     let a = s.args in
     (v : ℕ) → v < length a.vias.now → depth_of (plan-of s) v ≡ get_or c.heights.new.1.1.0 v 0
-unfolding heightOf levelOf
+unfolding height_of level_of
 stand c v h = sym (c.heights.ensures.each v (omega (arith, long c)))
 
 measure-is : (c : tie.After-measure) →
@@ -54,8 +54,8 @@ measure-is c = c.measure.ensures
 high_is : (c : tie.After-measure) →
     let s = c.before.before.before.before.before.before.before.before.before.before.before.before.before.before in
     let a = s.args in
-    a.spacing * (length a.sizes.now - 1) + c.measure.result ≡ viewHeight (plan-of s)
-unfolding heightOf
+    a.spacing * (length a.sizes.now - 1) + c.measure.result ≡ view_height (plan-of s)
+unfolding height_of
 high_is c =
     let s = c.before.before.before.before.before.before.before.before.before.before.before.before.before.before in
     let a = s.args in
@@ -65,14 +65,14 @@ high_is c =
 same : (c : tie.After-heights) →
     let s = c.before.before.before.before.before.before.before.before.before.before.before.before in
     let a = s.args in
-    pictureOf (plan-of s) a.finals.now (namesIn a.names.now a.starts.now a.ends.now (length a.vias.now))
-    ≡ documentIn (measure (plan-of s)) (viewHeight (plan-of s)) c.heights.new.1.1.0 a.vias.now a.halves.now a.uppers.now a.lowers.now a.ratings.now a.finals.now
+    picture_of (plan-of s) a.finals.now (names_in a.names.now a.starts.now a.ends.now (length a.vias.now))
+    ≡ document_in (measure (plan-of s)) (view_height (plan-of s)) c.heights.new.1.1.0 a.vias.now a.halves.now a.uppers.now a.lowers.now a.ratings.now a.finals.now
     (name_at a.names.now a.starts.now a.ends.now)
 same c =
     let s = c.before.before.before.before.before.before.before.before.before.before.before.before in
     let a = s.args in
     let f = name_at a.names.now a.starts.now a.ends.now in
-    picture-is (plan-of s) a.finals.now c.heights.new.1.1.0 (stand c) s.requires.0.drawn.plan (namesIn a.names.now a.starts.now a.ends.now (length a.vias.now)) f
+    picture-is (plan-of s) a.finals.now c.heights.new.1.1.0 (stand c) s.requires.0.drawn.plan (names_in a.names.now a.starts.now a.ends.now (length a.vias.now)) f
     (λ v h. given-at f [] (length a.vias.now) v h)
 
 array-borrow-prefix-height : tie.Need-array-borrow-prefix-height
@@ -89,20 +89,20 @@ heights-requires c κs =
 
 measure-requires : tie.Need-measure-requires
 measure-requires c κs =
-    (of-plan c.before.before.before.before.before.before.before.before.before.before.before.before.before).gap-high
+    (of-plan c.before.before.before.before.before.before.before.before.before.before.before.before.before).gap_high
 
 sub-high : tie.Need-overflow-sub-high
 sub-high c =
     let s = c.before.before.before.before.before.before.before.before.before.before.before.before.before.before in
-    let l = of-plan s in omega (arith, l.levels-low)
+    let l = of-plan s in omega (arith, l.levels_low)
 
 mul-high : tie.Need-overflow-mul-high
 mul-high c =
     let s = c.before.before.before.before.before.before.before.before.before.before.before.before.before.before in
     let a = s.args in
     let l = of-plan s in
-    let few : length a.sizes.now - 1 ≤ 64 = omega (arith, l.levels-high) in
-    let low : a.spacing * (length a.sizes.now - 1) ≤ 10000 * 64 = mul-le-mul l.spacing-high few in
+    let few : length a.sizes.now - 1 ≤ 64 = omega (arith, l.levels_high) in
+    let low : a.spacing * (length a.sizes.now - 1) ≤ 10000 * 64 = mul-le-mul l.spacing_high few in
     omega arith
 
 add-high : tie.Need-overflow-add-high

@@ -5,13 +5,13 @@ use lib.ListN.{length}
 use borrow.Author.Rules.{rules}
 use Rattle.text_write.specs.inner.Written.{Wrote}
 use Rattle.text_write.proofs.Written.{wrote-long}
-use Rattle.picture_marks.specs.inner.Listed.{walked, vertexBend}
+use Rattle.picture_marks.specs.inner.Listed.{walked, vertex_bend}
 use Rattle.picture_marks.proofs.Walk.{walk_none, walk-room, walk_more, walked_all}
 use Rattle.picture_marks.proofs.walks.put_bends.Statement.{statement}
 use Rattle.picture_marks.proofs.walks.put_bends.Tie as tie
 
 abbrev invariant-loop : tie.invariant-loop
-invariant-loop out₀ at measure heights vias finals next₀ v₀ out next v = (v ≤ length vias) × Wrote (walked (vertexBend measure heights vias finals) v) out₀ at next out
+invariant-loop out₀ at measure heights vias finals next₀ v₀ out next v = (v ≤ length vias) × Wrote (walked (vertex_bend measure heights vias finals) v) out₀ at next out
 
 abbrev decreases-loop : tie.decreases-loop
 decreases-loop out₀ at measure heights vias finals next₀ v₀ out next v = length vias - v
@@ -20,7 +20,7 @@ loop-holds : tie.Need-loop-init invariant-loop decreases-loop
 loop-holds c =
     let s = c.before.before.before in
     let a = s.args in
-    (omega arith, walk_none (vertexBend a.measure a.heights.now a.vias.now a.finals.now) a.out.now a.at)
+    (omega arith, walk_none (vertex_bend a.measure a.heights.now a.vias.now a.finals.now) a.out.now a.at)
 
 put-via-requires : tie.Need-put-via-requires invariant-loop decreases-loop
 put-via-requires c κs =
@@ -28,7 +28,7 @@ put-via-requires c κs =
     let c2 = c1.before in
     let s = c2.before.before.before.before in
     let a = s.args in
-    let f = vertexBend a.measure a.heights.now a.vias.now a.finals.now in
+    let f = vertex_bend a.measure a.heights.now a.vias.now a.finals.now in
     (s.requires.0, c1.loop-test.true, walk-room f c2.loop.v (length a.vias.now) c1.loop-test.true s.requires.1 c2.loop.invariant.1)
 
 loop-again : tie.Need-loop-preserved invariant-loop decreases-loop
@@ -37,7 +37,7 @@ loop-again c =
     let c2 = c1.before.before.before in
     let s = c2.before.before.before.before in
     let a = s.args in
-    let f = vertexBend a.measure a.heights.now a.vias.now a.finals.now in
+    let f = vertex_bend a.measure a.heights.now a.vias.now a.finals.now in
     (omega arith, walk_more f c2.loop.v c2.loop.invariant.1 c1.put-via.ensures)
 
 same_length : tie.Need-same-length invariant-loop decreases-loop
@@ -48,7 +48,7 @@ returns c =
     let c1 = c.before in
     let s = c1.before.before.before.before in
     let a = s.args in
-    let f = vertexBend a.measure a.heights.now a.vias.now a.finals.now in
+    let f = vertex_bend a.measure a.heights.now a.vias.now a.finals.now in
     walked_all f c1.loop.invariant.0 c.loop-test.false c1.loop.invariant.1
 
 pub put-bends-spec : {M : Type 1} → statement M

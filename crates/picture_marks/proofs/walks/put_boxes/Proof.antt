@@ -6,14 +6,14 @@ use borrow.Author.Rules.{rules}
 use Rattle.text_write.specs.inner.Written.{Wrote}
 use Rattle.text_write.proofs.Written.{wrote-long}
 use Rattle.picture_names.specs.inner.Indexed.{name_at}
-use Rattle.picture_marks.specs.inner.Listed.{walked, vertexBox}
+use Rattle.picture_marks.specs.inner.Listed.{walked, vertex_box}
 use Rattle.picture_marks.proofs.Walk.{walk_none, walk-room, walk_more, walked_all}
 use Rattle.picture_marks.proofs.walks.put_boxes.Statement.{statement}
 use Rattle.picture_marks.proofs.walks.put_boxes.Tie as tie
 
 abbrev invariant-loop : tie.invariant-loop
 invariant-loop out₀ at measure heights vias halves finals names starts ends next₀ v₀ out next v =
-    (v ≤ length vias) × Wrote (walked (vertexBox measure heights vias halves finals (name_at names starts ends)) v) out₀ at next out
+    (v ≤ length vias) × Wrote (walked (vertex_box measure heights vias halves finals (name_at names starts ends)) v) out₀ at next out
 
 abbrev decreases-loop : tie.decreases-loop
 decreases-loop out₀ at measure heights vias halves finals names starts ends next₀ v₀ out next v = length vias - v
@@ -22,7 +22,7 @@ loop-holds : tie.Need-loop-init invariant-loop decreases-loop
 loop-holds c =
     let s = c.before.before.before.before.before.before.before in
     let a = s.args in
-    (omega arith, walk_none (vertexBox a.measure a.heights.now a.vias.now a.halves.now a.finals.now (name_at a.names.now a.starts.now a.ends.now)) a.out.now a.at)
+    (omega arith, walk_none (vertex_box a.measure a.heights.now a.vias.now a.halves.now a.finals.now (name_at a.names.now a.starts.now a.ends.now)) a.out.now a.at)
 
 put-boxed-requires : tie.Need-put-boxed-requires invariant-loop decreases-loop
 put-boxed-requires c κs =
@@ -30,7 +30,7 @@ put-boxed-requires c κs =
     let c2 = c1.before in
     let s = c2.before.before.before.before.before.before.before.before in
     let a = s.args in
-    let f = vertexBox a.measure a.heights.now a.vias.now a.halves.now a.finals.now (name_at a.names.now a.starts.now a.ends.now) in
+    let f = vertex_box a.measure a.heights.now a.vias.now a.halves.now a.finals.now (name_at a.names.now a.starts.now a.ends.now) in
     (s.requires.0, c1.loop-test.true, walk-room f c2.loop.v (length a.vias.now) c1.loop-test.true s.requires.1 c2.loop.invariant.1)
 
 loop-again : tie.Need-loop-preserved invariant-loop decreases-loop
@@ -39,7 +39,7 @@ loop-again c =
     let c2 = c1.before.before.before in
     let s = c2.before.before.before.before.before.before.before.before in
     let a = s.args in
-    let f = vertexBox a.measure a.heights.now a.vias.now a.halves.now a.finals.now (name_at a.names.now a.starts.now a.ends.now) in
+    let f = vertex_box a.measure a.heights.now a.vias.now a.halves.now a.finals.now (name_at a.names.now a.starts.now a.ends.now) in
     (omega arith, walk_more f c2.loop.v c2.loop.invariant.1 c1.put-boxed.ensures)
 
 same_length : tie.Need-same-length invariant-loop decreases-loop
@@ -50,7 +50,7 @@ returns c =
     let c1 = c.before in
     let s = c1.before.before.before.before.before.before.before.before in
     let a = s.args in
-    let f = vertexBox a.measure a.heights.now a.vias.now a.halves.now a.finals.now (name_at a.names.now a.starts.now a.ends.now) in
+    let f = vertex_box a.measure a.heights.now a.vias.now a.halves.now a.finals.now (name_at a.names.now a.starts.now a.ends.now) in
     walked_all f c1.loop.invariant.0 c.loop-test.false c1.loop.invariant.1
 
 pub put-boxes-spec : {M : Type 1} → statement M

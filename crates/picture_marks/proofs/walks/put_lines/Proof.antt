@@ -5,7 +5,7 @@ use lib.ListN.{length}
 use borrow.Author.Rules.{rules}
 use Rattle.text_write.specs.inner.Written.{Wrote}
 use Rattle.text_write.proofs.Written.{wrote-long}
-use Rattle.picture_marks.specs.inner.Listed.{walked, segmentLine}
+use Rattle.picture_marks.specs.inner.Listed.{walked, segment_line}
 use Rattle.picture_marks.proofs.ByLists.{line-pen}
 use Rattle.picture_marks.proofs.Walk.{walk_none, walk-room, walk_more, walked_all}
 use Rattle.picture_marks.proofs.walks.put_lines.Statement.{statement}
@@ -13,7 +13,7 @@ use Rattle.picture_marks.proofs.walks.put_lines.Tie as tie
 
 abbrev invariant-loop : tie.invariant-loop
 invariant-loop out₀ at measure heights uppers lowers ratings finals next₀ k₀ out next k =
-    (k ≤ length uppers) × Wrote (walked (segmentLine measure heights uppers lowers ratings finals) k) out₀ at next out
+    (k ≤ length uppers) × Wrote (walked (segment_line measure heights uppers lowers ratings finals) k) out₀ at next out
 
 abbrev decreases-loop : tie.decreases-loop
 decreases-loop out₀ at measure heights uppers lowers ratings finals next₀ k₀ out next k = length uppers - k
@@ -22,7 +22,7 @@ loop-holds : tie.Need-loop-init invariant-loop decreases-loop
 loop-holds c =
     let s = c.before.before.before.before.before in
     let a = s.args in
-    (omega arith, walk_none (segmentLine a.measure a.heights.now a.uppers.now a.lowers.now a.ratings.now a.finals.now) a.out.now a.at)
+    (omega arith, walk_none (segment_line a.measure a.heights.now a.uppers.now a.lowers.now a.ratings.now a.finals.now) a.out.now a.at)
 
 shared-slice-read-put-segment : tie.Need-shared-slice-read-put-segment invariant-loop decreases-loop
 shared-slice-read-put-segment c = omega (arith, c.before.before.before.before.before.before.before.before.before.requires.0.rated, c.before.before.loop-test.true)
@@ -37,7 +37,7 @@ put-segment-requires c κs =
     let c3 = c2.before in
     let s = c3.before.before.before.before.before.before in
     let a = s.args in
-    let f = segmentLine a.measure a.heights.now a.uppers.now a.lowers.now a.ratings.now a.finals.now in
+    let f = segment_line a.measure a.heights.now a.uppers.now a.lowers.now a.ratings.now a.finals.now in
     let k = c3.loop.k in
     let p = s.requires.0 in
     rw (c1.wide.ensures, c.wide2.ensures) (
@@ -56,7 +56,7 @@ loop-again c =
     let c4 = c3.before.before.before.before.before in
     let s = c4.before.before.before.before.before.before in
     let a = s.args in
-    let f = segmentLine a.measure a.heights.now a.uppers.now a.lowers.now a.ratings.now a.finals.now in
+    let f = segment_line a.measure a.heights.now a.uppers.now a.lowers.now a.ratings.now a.finals.now in
     (omega arith, walk_more f c4.loop.k c4.loop.invariant.1 (rw (c3.wide.ensures, c2.wide2.ensures) at c1.put-segment.ensures))
 
 same_length : tie.Need-same-length invariant-loop decreases-loop
@@ -67,7 +67,7 @@ returns c =
     let c1 = c.before in
     let s = c1.before.before.before.before.before.before in
     let a = s.args in
-    let f = segmentLine a.measure a.heights.now a.uppers.now a.lowers.now a.ratings.now a.finals.now in
+    let f = segment_line a.measure a.heights.now a.uppers.now a.lowers.now a.ratings.now a.finals.now in
     walked_all f c1.loop.invariant.0 c.loop-test.false c1.loop.invariant.1
 
 pub put-lines-spec : {M : Type 1} → statement M

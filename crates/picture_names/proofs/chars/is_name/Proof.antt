@@ -4,14 +4,14 @@ use mathlib.Core.Path.{◌≡◌, refl, sym, ◌∙◌, ap}
 use native.Mathlib.Omega.{arith}
 use borrow.Author.Rules.{rules}
 use lib.ListN.{length, drop}
-use Rattle.picture_names.specs.Chars.{seenAfter, isWhole, isName}
+use Rattle.picture_names.specs.Chars.{seen_after, is_whole, is_name}
 use Rattle.picture_names.specs.declared.types.Seen.TheVariants.{Start}
 use Rattle.picture_names.proofs.CharLaws.{after_on, after-end}
 use Rattle.picture_names.proofs.chars.is_name.Statement.{statement}
 use Rattle.picture_names.proofs.chars.is_name.Tie as tie
 
 abbrev invariant-loop : tie.invariant-loop
-invariant-loop name s₀ i₀ s i = (i ≤ length name) × (seenAfter s (drop i name) ≡ seenAfter Start name)
+invariant-loop name s₀ i₀ s i = (i ≤ length name) × (seen_after s (drop i name) ≡ seen_after Start name)
 
 abbrev decreases-loop : tie.decreases-loop
 decreases-loop name s₀ i₀ s i = length name - i
@@ -24,15 +24,15 @@ loop-again c =
     let l = c.before.before.before.loop in
     let name = c.before.before.before.before.before.args.name.now in (
       omega arith,
-      ap (λ s. seenAfter s (drop (l.i + 1) name)) c.more.ensures ∙ sym (after_on l.s name l.i (omega arith)) ∙ l.invariant.1,
+      ap (λ s. seen_after s (drop (l.i + 1) name)) c.more.ensures ∙ sym (after_on l.s name l.i (omega arith)) ∙ l.invariant.1,
     )
 
 returns : tie.Need-returns invariant-loop decreases-loop
-unfolding isName
+unfolding is_name
 returns c =
     let l = c.before.before.loop in
     let name = c.before.before.before.before.args.name.now in
-    c.is_whole.ensures ∙ ap isWhole (sym (after-end l.s name l.i (omega arith)) ∙ l.invariant.1)
+    c.is_whole.ensures ∙ ap is_whole (sym (after-end l.s name l.i (omega arith)) ∙ l.invariant.1)
 
 pub is-name-spec : {M : Type 1} → statement M
 is-name-spec =

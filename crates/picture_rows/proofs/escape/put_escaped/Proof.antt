@@ -5,7 +5,7 @@ use native.Mathlib.Omega.{arith}
 use borrow.Author.Rules.{rules}
 use lib.ListN.{length, get_or, drop}
 use Rattle.report_lines.proofs.Partly.{Partly, nothing_yet, next-room, next-written, all-written}
-use Rattle.picture_rows.specs.Escape.{escapedByte, escaped}
+use Rattle.picture_rows.specs.Escape.{escaped_byte, escaped}
 use Rattle.picture_rows.proofs.EscapeLaws.{escaped-on, escaped-end}
 use Rattle.picture_rows.proofs.escape.put_escaped.Statement.{statement}
 use Rattle.picture_rows.proofs.escape.put_escaped.Tie as tie
@@ -22,7 +22,7 @@ loop-holds c = let a = c.before.before.args in (omega arith, refl, nothing_yet (
 put-escaped-byte-requires : tie.Need-put-escaped-byte-requires invariant-loop decreases-loop
 put-escaped-byte-requires c κs =
     let s = c.before.before.before.before.before.before in let text = s.args.text.now in let l = c.before.before.before.loop in
-    next-room (escapedByte (get_or text l.i 0)) (escaped (drop (l.i + 1) text)) (escaped-on text l.i c.before.before.loop-test.true) l.invariant.2 s.requires
+    next-room (escaped_byte (get_or text l.i 0)) (escaped (drop (l.i + 1) text)) (escaped-on text l.i c.before.before.loop-test.true) l.invariant.2 s.requires
 
 loop-again : tie.Need-loop-preserved invariant-loop decreases-loop
 loop-again c =
@@ -32,7 +32,7 @@ loop-again c =
     let text = c9.args.text.now in let l = c6.loop in (
       omega arith,
       c.before.before.put-escaped-byte.auto.0 ∙ l.invariant.1,
-      next-written (escapedByte (get_or text l.i 0)) (escaped (drop (l.i + 1) text)) (escaped-on text l.i c5.loop-test.true) l.invariant.2
+      next-written (escaped_byte (get_or text l.i 0)) (escaped (drop (l.i + 1) text)) (escaped-on text l.i c5.loop-test.true) l.invariant.2
           c.before.before.put-escaped-byte.ensures,
     )
 

@@ -2,12 +2,12 @@
 use mathlib.Core.Path.{sym}
 use borrow.Author.Rules.{rules}
 use lib.ListN.{get_or-eq_default}
-use Rattle.ints.proofs.Lists.{getD-either}
+use Rattle.ints.proofs.Lists.{get_d-either}
 use Rattle.picture_rows.proofs.rows.byte_at.Statement.{statement}
 use Rattle.picture_rows.proofs.rows.byte_at.Tie as tie
 
 returns : tie.Need-returns
-returns c = getD-either c.before.before.args.name.now c.before.before.args.at 0 32 c.before.if1.true
+returns c = get_d-either c.before.before.args.name.now c.before.before.args.at 0 32 c.before.if1.true
 
 returns-2 : tie.Need-returns-2
 returns-2 c = sym (get_or-eq_default c.before.args.name.now 32 c.if1.false)

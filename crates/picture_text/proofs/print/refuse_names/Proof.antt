@@ -6,22 +6,22 @@ use borrow.Author.Rules.{rules}
 use Rattle.text.specs.Bytes.{bytes}
 use Rattle.text.specs.Decimal.{decimal}
 use Rattle.text_write.proofs.Written.{and_both, room_after, front_of}
-use Rattle.picture_text.specs.Printed.{namesRefusedLine}
+use Rattle.picture_text.specs.Printed.{names_refused_line}
 use Rattle.picture_text.proofs.PrintLaws.{line-short}
 use Rattle.picture_text.proofs.print.refuse_names.Statement.{statement}
 use Rattle.picture_text.proofs.print.refuse_names.Tie as tie
 
 put-then-requires : tie.Need-put-then-requires
-unfolding namesRefusedLine
+unfolding names_refused_line
 put-then-requires c κs =
     let c1 = c.before.before.before.before in
     let s = c1.before.before.before.before in
     let a = s.args in
     let n = a.line in
-    room_after (decimal n ++ bytes ")\n") (namesRefusedLine n) c1.put_word.ensures (omega (arith, line-short n (omega (arith, s.ranges.line)), s.requires)) (simp length-append (omega arith))
+    room_after (decimal n ++ bytes ")\n") (names_refused_line n) c1.put_word.ensures (omega (arith, line-short n (omega (arith, s.ranges.line)), s.requires)) (simp length-append (omega arith))
 
 returns : tie.Need-returns
-unfolding namesRefusedLine
+unfolding names_refused_line
 returns c =
     let c1 = c.before.before in
     let c2 = c1.before.before.before.before.before in

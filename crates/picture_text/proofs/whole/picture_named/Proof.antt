@@ -8,19 +8,19 @@ use lib.Seq.{length-take-le}
 use lib.IntN.{ℤ, pos}
 use Rattle.ints.proofs.FrontLaws.{first-fit, first-is, first_count}
 use Rattle.plan.specs.Plan.{PlanData}
-use Rattle.plan.specs.inner.Held.{heldPlan}
-use Rattle.plan.proofs.HeldLaws.{holds-held, few-vertices}
-use Rattle.passes.specs.Drawing.{drawingOf}
+use Rattle.plan.specs.inner.Held.{held_plan}
+use Rattle.plan.proofs.HeldLaws.{holds-held, few_vertices}
+use Rattle.passes.specs.Drawing.{drawing_of}
 use Rattle.picture_text.proofs.TextLaws.{leaves, picture-of, names-is, names-few, picture-asked}
 use Rattle.picture_text.proofs.whole.picture_named.Statement.{statement}
 use Rattle.picture_text.proofs.whole.picture_named.Tie as tie
 
 abbrev held : tie.Start → PlanData
-held c = let a = c.args in heldPlan a.gap a.spacing a.sizes.now a.vias.now a.halves.now a.uppers.now a.lowers.now a.ratings.now
+held c = let a = c.args in held_plan a.gap a.spacing a.sizes.now a.vias.now a.halves.now a.uppers.now a.lowers.now a.ratings.now
 
 -- as many zeros as there are vertices
 zeros : (c : tie.Start) → length (take (length c.args.vias.now) (replicate 1024 (pos 0))) ≡ length c.args.vias.now
-zeros c = length-take-le _ (replicate 1024 (pos 0)) (few-vertices (held c) c.requires.plan)
+zeros c = length-take-le _ (replicate 1024 (pos 0)) (few_vertices (held c) c.requires.plan)
 
 abbrev rest : ℕ → List ℤ
 rest n = drop n (replicate 1024 (pos 0))
@@ -38,17 +38,17 @@ drawn c = c.draw-positions.new.1.1.1.1.1.1.1.1.0
 long : (c : tie.After-draw-positions) → length (drawn c) ≡ count c
 long c = c.draw-positions.auto.1.1.1.1.1.1.1.1.0 ∙ zeros (start c)
 
-final : (c : tie.After-draw-positions) → take (count c) (drawn c ++ rest (count c)) ≡ (drawingOf (held (start c))).final
-final c = first-is (drawn c) (rest (count c)) (count c) (long c) ∙ (c.draw-positions.ensures (held (start c)) (record { lists = holds-held (start c).requires.plan; ratingsAre = refl })).ended
+final : (c : tie.After-draw-positions) → take (count c) (drawn c ++ rest (count c)) ≡ (drawing_of (held (start c))).final
+final c = first-is (drawn c) (rest (count c)) (count c) (long c) ∙ (c.draw-positions.ensures (held (start c)) (record { lists = holds-held (start c).requires.plan; ratings_are = refl })).ended
 
 array-borrow-prefix-preliminary : tie.Need-array-borrow-prefix-preliminary
-array-borrow-prefix-preliminary c = few-vertices (held c.before.before.before.before.before.before.before.before.before.before) c.before.before.before.before.before.before.before.before.before.before.requires.plan
+array-borrow-prefix-preliminary c = few_vertices (held c.before.before.before.before.before.before.before.before.before.before) c.before.before.before.before.before.before.before.before.before.before.requires.plan
 
 slice-aggregate-draw-positions : tie.Need-slice-aggregate-draw-positions
 slice-aggregate-draw-positions c = sym (zeros c.before.before.before.before.before.before.before.before.before.before.before)
 
 array-borrow-prefix-finals : tie.Need-array-borrow-prefix-finals
-array-borrow-prefix-finals c = few-vertices (held c.before.before.before.before.before.before.before.before.before.before.before) c.before.before.before.before.before.before.before.before.before.before.before.requires.plan
+array-borrow-prefix-finals c = few_vertices (held c.before.before.before.before.before.before.before.before.before.before.before) c.before.before.before.before.before.before.before.before.before.before.before.requires.plan
 
 slice-aggregate-draw-positions-2 : tie.Need-slice-aggregate-draw-positions-2
 slice-aggregate-draw-positions-2 c = sym (zeros c.before.before.before.before.before.before.before.before.before.before.before.before)
@@ -56,7 +56,7 @@ slice-aggregate-draw-positions-2 c = sym (zeros c.before.before.before.before.be
 draw-positions-requires : tie.Need-draw-positions-requires
 draw-positions-requires c κs =
     let s = c.before.before.before.before.before.before.before.before.before.before.before.before in
-    record { some = record { plan = held s; lists = record { lists = holds-held s.requires.plan; ratingsAre = refl } }; preliminaryRoom = zeros s; finalRoom = zeros s }
+    record { some = record { plan = held s; lists = record { lists = holds-held s.requires.plan; ratings_are = refl } }; preliminary_room = zeros s; final_room = zeros s }
 
 array-share-prefix-finals : tie.Need-array-share-prefix-finals
 array-share-prefix-finals c = let d = c.before.before in first-fit (drawn d) (rest (count d)) (count d) (long d)

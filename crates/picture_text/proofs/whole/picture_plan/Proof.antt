@@ -2,19 +2,19 @@
 use native.Mathlib.Omega.{arith}
 use borrow.Author.Rules.{rules}
 use Rattle.plan.specs.Plan.{PlanData}
-use Rattle.plan.specs.inner.Held.{heldPlan}
-use Rattle.plan.proofs.HeldLaws.{few-vertices}
+use Rattle.plan.specs.inner.Held.{held_plan}
+use Rattle.plan.proofs.HeldLaws.{few_vertices}
 use Rattle.picture_text.proofs.TextLaws.{good-named, bad-refused}
 use Rattle.picture_text.proofs.whole.picture_plan.Statement.{statement}
 use Rattle.picture_text.proofs.whole.picture_plan.Tie as tie
 
 abbrev held : tie.Start → PlanData
-held c = let a = c.args in heldPlan a.gap a.spacing a.sizes.now a.vias.now a.halves.now a.uppers.now a.lowers.now a.ratings.now
+held c = let a = c.args in held_plan a.gap a.spacing a.sizes.now a.vias.now a.halves.now a.uppers.now a.lowers.now a.ratings.now
 
 index-names-requires : tie.Need-index-names-requires
 index-names-requires c κs =
     let s = c.before.before.before.before.before.before.before.before.before.before in
-    (few-vertices (held s) s.requires, few-vertices (held s) s.requires)
+    (few_vertices (held s) s.requires, few_vertices (held s) s.requires)
 
 picture-named-requires : tie.Need-picture-named-requires
 picture-named-requires c κs =
@@ -26,8 +26,8 @@ picture-named-requires c κs =
       names = l.names;
       good = l.good;
       holds = l.holds;
-      starts-long = omega (arith, few-vertices (held s) s.requires, n.auto.1.1.0);
-      ends-long = omega (arith, few-vertices (held s) s.requires, n.auto.1.1.1.0);
+      starts_long = omega (arith, few_vertices (held s) s.requires, n.auto.1.1.0);
+      ends_long = omega (arith, few_vertices (held s) s.requires, n.auto.1.1.1.0);
     }
 
 returns-2 : tie.Need-returns-2

@@ -8,7 +8,7 @@ use Rattle.plan.specs.Acceptable.{acceptable}
 use Rattle.plan.proofs.HeldLaws.{held-is}
 use Rattle.text.specs.Reading.{accepted}
 use Rattle.text_read.specs.inner.Taken.{InFronts}
-use Rattle.picture_text.specs.Text.{pictureIn}
+use Rattle.picture_text.specs.Text.{picture_in}
 use Rattle.picture_text.proofs.TextLaws.{leaves, refused-so}
 use Rattle.picture_text.proofs.whole.picture_text.Statement.{statement}
 use Rattle.picture_text.proofs.whole.picture_text.Tie as tie
@@ -27,44 +27,44 @@ fronts c = ((done c).read-into.ensures.accepts c.if1.false).fronts
 returns : tie.Need-returns
 returns c =
     let a = c.before.before.before.before.before.before.before.before.before.before.before.before.before.before.before.before.before.before.args in
-    leaves (ap (λ g. pictureIn g a.names.now a.out.now) (c.before.before.before.before.before.before.before.before.read-into.ensures.refuses c.if1.true))
+    leaves (ap (λ g. picture_in g a.names.now a.out.now) (c.before.before.before.before.before.before.before.before.read-into.ensures.refuses c.if1.true))
     (refused-so _ a.names.now a.out.now)
 
 array-share-prefix-sizes : tie.Need-array-share-prefix-sizes
-array-share-prefix-sizes c = omega (arith, (fronts c.before.before).sizes-reach, c.wide.ensures)
+array-share-prefix-sizes c = omega (arith, (fronts c.before.before).sizes_reach, c.wide.ensures)
 
 slice-aggregate-picture-plan : tie.Need-slice-aggregate-picture-plan
-slice-aggregate-picture-plan c = sym (length-take-le _ _ (omega (arith, (fronts c.before.before.before).sizes-reach, c.before.wide.ensures)))
+slice-aggregate-picture-plan c = sym (length-take-le _ _ (omega (arith, (fronts c.before.before.before).sizes_reach, c.before.wide.ensures)))
 
 array-share-prefix-vias : tie.Need-array-share-prefix-vias
-array-share-prefix-vias c = (fronts c.before.before.before).vias-reach
+array-share-prefix-vias c = (fronts c.before.before.before).vias_reach
 
 slice-aggregate-picture-plan-2 : tie.Need-slice-aggregate-picture-plan-2
-slice-aggregate-picture-plan-2 c = sym (length-take-le _ _ (fronts c.before.before.before.before).vias-reach)
+slice-aggregate-picture-plan-2 c = sym (length-take-le _ _ (fronts c.before.before.before.before).vias_reach)
 
 array-share-prefix-halves : tie.Need-array-share-prefix-halves
-array-share-prefix-halves c = (fronts c.before.before.before.before).halves-reach
+array-share-prefix-halves c = (fronts c.before.before.before.before).halves_reach
 
 slice-aggregate-picture-plan-3 : tie.Need-slice-aggregate-picture-plan-3
-slice-aggregate-picture-plan-3 c = sym (length-take-le _ _ (fronts c.before.before.before.before.before).halves-reach)
+slice-aggregate-picture-plan-3 c = sym (length-take-le _ _ (fronts c.before.before.before.before.before).halves_reach)
 
 array-share-prefix-uppers : tie.Need-array-share-prefix-uppers
-array-share-prefix-uppers c = (fronts c.before.before.before.before.before).uppers-reach
+array-share-prefix-uppers c = (fronts c.before.before.before.before.before).uppers_reach
 
 slice-aggregate-picture-plan-4 : tie.Need-slice-aggregate-picture-plan-4
-slice-aggregate-picture-plan-4 c = sym (length-take-le _ _ (fronts c.before.before.before.before.before.before).uppers-reach)
+slice-aggregate-picture-plan-4 c = sym (length-take-le _ _ (fronts c.before.before.before.before.before.before).uppers_reach)
 
 array-share-prefix-lowers : tie.Need-array-share-prefix-lowers
-array-share-prefix-lowers c = (fronts c.before.before.before.before.before.before).lowers-reach
+array-share-prefix-lowers c = (fronts c.before.before.before.before.before.before).lowers_reach
 
 slice-aggregate-picture-plan-5 : tie.Need-slice-aggregate-picture-plan-5
-slice-aggregate-picture-plan-5 c = sym (length-take-le _ _ (fronts c.before.before.before.before.before.before.before).lowers-reach)
+slice-aggregate-picture-plan-5 c = sym (length-take-le _ _ (fronts c.before.before.before.before.before.before.before).lowers_reach)
 
 array-share-prefix-ratings : tie.Need-array-share-prefix-ratings
-array-share-prefix-ratings c = (fronts c.before.before.before.before.before.before.before).ratings-reach
+array-share-prefix-ratings c = (fronts c.before.before.before.before.before.before.before).ratings_reach
 
 slice-aggregate-picture-plan-6 : tie.Need-slice-aggregate-picture-plan-6
-slice-aggregate-picture-plan-6 c = sym (length-take-le _ _ (fronts c.before.before.before.before.before.before.before.before).ratings-reach)
+slice-aggregate-picture-plan-6 c = sym (length-take-le _ _ (fronts c.before.before.before.before.before.before.before.before).ratings_reach)
 
 picture-plan-requires : tie.Need-picture-plan-requires
 picture-plan-requires c κs =
@@ -78,7 +78,7 @@ returns-2 c =
     let r = (done e).read-into in
     let a = (done e).before.before.before.before.before.before.before.before.before.before.args in
     let f = fronts e in
-    leaves (ap (λ g. pictureIn g a.names.now a.out.now) ((r.ensures.accepts e.if1.false).reads ∙ ap accepted (held-is r.result.scanned.spacing f.lists f.spaced f.rated)))
+    leaves (ap (λ g. picture_in g a.names.now a.out.now) ((r.ensures.accepts e.if1.false).reads ∙ ap accepted (held-is r.result.scanned.spacing f.lists f.spaced f.rated)))
     (rw c.before.before.before.before.before.before.before.before.before.before.wide.ensures at c.before.before.picture-plan.ensures)
 
 pub picture-text-spec : {M : Type 1} → statement M

@@ -8,18 +8,18 @@ use mir.Syntax.{w64}
 use mir.Val.{to_z, of_z}
 use lib.IntN.{ℤ}
 use borrow.Author.Rules.{rules}
-use Rattle.ints.specs.Ints.{minZ}
+use Rattle.ints.specs.Ints.{min_z}
 use Rattle.ints.proofs.Laws.{back'}
 use Rattle.ints.proofs.Reach.{within-at}
 use Rattle.plan.specs.Plan.{numbers}
-use Rattle.picture_view.specs.Measure.{leftEdge, leastOf, leftmost}
+use Rattle.picture_view.specs.Measure.{left_edge, least_of, leftmost}
 use Rattle.picture_view.proofs.MeasureLaws.{least-next, least-end, stored_at}
 use Rattle.picture_view.proofs.bounds.left_end.Statement.{statement}
 use Rattle.picture_view.proofs.bounds.left_end.Tie as tie
 
 abbrev invariant-loop : tie.invariant-loop
 invariant-loop halves finals least₀ v₀ least v =
-    (v ≤ length finals) × (leastOf (to_z w64 least) (map (leftEdge halves finals) (numbers v (length finals - v))) ≡ leftmost halves finals)
+    (v ≤ length finals) × (least_of (to_z w64 least) (map (left_edge halves finals) (numbers v (length finals - v))) ≡ leftmost halves finals)
 
 abbrev decreases-loop : tie.decreases-loop
 decreases-loop halves finals least₀ v₀ least v = length finals - v
@@ -28,7 +28,7 @@ decreases-loop halves finals least₀ v₀ least v = length finals - v
 first : (c : tie.After-left-edge invariant-loop decreases-loop) →
     let s = c.before.before.before.before in
     let a = s.args in
-    to_z w64 (of_z w64 c.left-edge.result) ≡ leftEdge a.halves.now a.finals.now 0
+    to_z w64 (of_z w64 c.left-edge.result) ≡ left_edge a.halves.now a.finals.now 0
 first c =
     let s = c.before.before.before.before in
     let a = s.args in
@@ -38,7 +38,7 @@ next : (c : tie.After-left-edge2 invariant-loop decreases-loop) →
     let c1 = c.before.before.before.before in
     let s = c1.before.before.before.before.before in
     let a = s.args in
-    to_z w64 (of_z w64 c.left-edge2.result) ≡ leftEdge a.halves.now a.finals.now c1.loop.v
+    to_z w64 (of_z w64 c.left-edge2.result) ≡ left_edge a.halves.now a.finals.now c1.loop.v
 next c =
     let c1 = c.before.before.before.before in
     let s = c1.before.before.before.before.before in
@@ -49,10 +49,10 @@ lesser-of : (c : tie.After-lesser invariant-loop decreases-loop) →
     let c1 = c.before.before.before.before.before in
     let s = c1.before.before.before.before.before in
     let a = s.args in
-    to_z w64 (of_z w64 c.lesser.result) ≡ minZ (to_z w64 c1.loop.least) (leftEdge a.halves.now a.finals.now c1.loop.v)
+    to_z w64 (of_z w64 c.lesser.result) ≡ min_z (to_z w64 c1.loop.least) (left_edge a.halves.now a.finals.now c1.loop.v)
 lesser-of c =
     let c1 = c.before.before.before.before.before in
-    back' c.lesser.result c.lesser.type-inv ∙ c.lesser.ensures ∙ ap (λ (e : ℤ). minZ (to_z w64 c1.loop.least) e) (next c.before)
+    back' c.lesser.result c.lesser.type-inv ∙ c.lesser.ensures ∙ ap (λ (e : ℤ). min_z (to_z w64 c1.loop.least) e) (next c.before)
 
 shared-slice-copy-out-left-edge : tie.Need-shared-slice-copy-out-left-edge invariant-loop decreases-loop
 shared-slice-copy-out-left-edge c = c.before.requires.some
@@ -95,17 +95,17 @@ loop-again c =
     let c2 = c1.before in
     let s = c2.before.before.before.before.before in
     let a = s.args in
-    let e = leftEdge a.halves.now a.finals.now in
+    let e = left_edge a.halves.now a.finals.now in
     let n = length a.finals.now in
     let rest = map e (numbers (c2.loop.v + 1) (n - (c2.loop.v + 1))) in
-    (omega arith, ap (λ (x : ℤ). leastOf x rest) (lesser-of c) ∙ sym (least-next e (to_z w64 c2.loop.least) c2.loop.v n c1.loop-test.true) ∙ c2.loop.invariant.1)
+    (omega arith, ap (λ (x : ℤ). least_of x rest) (lesser-of c) ∙ sym (least-next e (to_z w64 c2.loop.least) c2.loop.v n c1.loop-test.true) ∙ c2.loop.invariant.1)
 
 returns : tie.Need-returns invariant-loop decreases-loop
 returns c =
     let c1 = c.before in
     let s = c1.before.before.before.before.before in
     let a = s.args in
-    let e = leftEdge a.halves.now a.finals.now in
+    let e = left_edge a.halves.now a.finals.now in
     sym (least-end e (to_z w64 c1.loop.least) c1.loop.v (length a.finals.now) c.loop-test.false) ∙ c1.loop.invariant.1
 
 pub left-end-spec : {M : Type 1} → statement M

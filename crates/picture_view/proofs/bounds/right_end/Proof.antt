@@ -8,18 +8,18 @@ use mir.Syntax.{w64}
 use mir.Val.{to_z, of_z}
 use lib.IntN.{ℤ}
 use borrow.Author.Rules.{rules}
-use Rattle.ints.specs.Ints.{maxZ}
+use Rattle.ints.specs.Ints.{max_z}
 use Rattle.ints.proofs.Laws.{back'}
 use Rattle.ints.proofs.Reach.{within-at}
 use Rattle.plan.specs.Plan.{numbers}
-use Rattle.picture_view.specs.Measure.{rightEdge, most_of, rightmost}
+use Rattle.picture_view.specs.Measure.{right_edge, most_of, rightmost}
 use Rattle.picture_view.proofs.MeasureLaws.{most-next, most-end, stored_at}
 use Rattle.picture_view.proofs.bounds.right_end.Statement.{statement}
 use Rattle.picture_view.proofs.bounds.right_end.Tie as tie
 
 abbrev invariant-loop : tie.invariant-loop
 invariant-loop halves finals most₀ v₀ most v =
-    (v ≤ length finals) × (most_of (to_z w64 most) (map (rightEdge halves finals) (numbers v (length finals - v))) ≡ rightmost halves finals)
+    (v ≤ length finals) × (most_of (to_z w64 most) (map (right_edge halves finals) (numbers v (length finals - v))) ≡ rightmost halves finals)
 
 abbrev decreases-loop : tie.decreases-loop
 decreases-loop halves finals most₀ v₀ most v = length finals - v
@@ -28,7 +28,7 @@ decreases-loop halves finals most₀ v₀ most v = length finals - v
 first : (c : tie.After-right-edge invariant-loop decreases-loop) →
     let s = c.before.before.before.before in
     let a = s.args in
-    to_z w64 (of_z w64 c.right-edge.result) ≡ rightEdge a.halves.now a.finals.now 0
+    to_z w64 (of_z w64 c.right-edge.result) ≡ right_edge a.halves.now a.finals.now 0
 first c =
     let s = c.before.before.before.before in
     let a = s.args in
@@ -38,7 +38,7 @@ next : (c : tie.After-right-edge2 invariant-loop decreases-loop) →
     let c1 = c.before.before.before.before in
     let s = c1.before.before.before.before.before in
     let a = s.args in
-    to_z w64 (of_z w64 c.right-edge2.result) ≡ rightEdge a.halves.now a.finals.now c1.loop.v
+    to_z w64 (of_z w64 c.right-edge2.result) ≡ right_edge a.halves.now a.finals.now c1.loop.v
 next c =
     let c1 = c.before.before.before.before in
     let s = c1.before.before.before.before.before in
@@ -49,10 +49,10 @@ greater-of : (c : tie.After-greater invariant-loop decreases-loop) →
     let c1 = c.before.before.before.before.before in
     let s = c1.before.before.before.before.before in
     let a = s.args in
-    to_z w64 (of_z w64 c.greater.result) ≡ maxZ (to_z w64 c1.loop.most) (rightEdge a.halves.now a.finals.now c1.loop.v)
+    to_z w64 (of_z w64 c.greater.result) ≡ max_z (to_z w64 c1.loop.most) (right_edge a.halves.now a.finals.now c1.loop.v)
 greater-of c =
     let c1 = c.before.before.before.before.before in
-    back' c.greater.result c.greater.type-inv ∙ c.greater.ensures ∙ ap (λ (e : ℤ). maxZ (to_z w64 c1.loop.most) e) (next c.before)
+    back' c.greater.result c.greater.type-inv ∙ c.greater.ensures ∙ ap (λ (e : ℤ). max_z (to_z w64 c1.loop.most) e) (next c.before)
 
 shared-slice-copy-out-right-edge : tie.Need-shared-slice-copy-out-right-edge invariant-loop decreases-loop
 shared-slice-copy-out-right-edge c = c.before.requires.some
@@ -95,7 +95,7 @@ loop-again c =
     let c2 = c1.before in
     let s = c2.before.before.before.before.before in
     let a = s.args in
-    let e = rightEdge a.halves.now a.finals.now in
+    let e = right_edge a.halves.now a.finals.now in
     let n = length a.finals.now in
     let rest = map e (numbers (c2.loop.v + 1) (n - (c2.loop.v + 1))) in
     (omega arith, ap (λ (x : ℤ). most_of x rest) (greater-of c) ∙ sym (most-next e (to_z w64 c2.loop.most) c2.loop.v n c1.loop-test.true) ∙ c2.loop.invariant.1)
@@ -105,7 +105,7 @@ returns c =
     let c1 = c.before in
     let s = c1.before.before.before.before.before in
     let a = s.args in
-    let e = rightEdge a.halves.now a.finals.now in
+    let e = right_edge a.halves.now a.finals.now in
     sym (most-end e (to_z w64 c1.loop.most) c1.loop.v (length a.finals.now) c.loop-test.false) ∙ c1.loop.invariant.1
 
 pub right-end-spec : {M : Type 1} → statement M

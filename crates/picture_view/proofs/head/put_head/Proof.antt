@@ -12,7 +12,7 @@ use Rattle.ints.proofs.Laws.{back, back', sum, dif}
 use Rattle.text.specs.Bytes.{bytes}
 use Rattle.text_write.proofs.Written.{wrote_none, and_then, and_both, room_after}
 use Rattle.picture_numbers.specs.Thousandths.{across, down}
-use Rattle.picture_view.specs.View.{viewLeft, viewTop, viewWidth, head_of}
+use Rattle.picture_view.specs.View.{view_left, view_top, view_width, head_of}
 use Rattle.picture_view.proofs.head.put_head.Statement.{statement}
 use Rattle.picture_view.proofs.head.put_head.Tie as tie
 
@@ -22,10 +22,10 @@ b-lo c = back c.ranges.lo
 b-hi : (c : tie.Start) → to_z w64 (of_z w64 c.args.hi) ≡ c.args.hi
 b-hi c = back c.ranges.hi
 
-left_is : (c : tie.After-minus) → to_z w64 (of_z w64 c.minus.result) ≡ viewLeft c.before.before.args.lo c.before.before.args.measure
+left_is : (c : tie.After-minus) → to_z w64 (of_z w64 c.minus.result) ≡ view_left c.before.before.args.lo c.before.before.args.measure
 left_is c = back' c.minus.result c.minus.type-inv ∙ (simp b-lo at c.minus.ensures)
 
-top-is : (c : tie.After-minus2) → to_z w64 (of_z w64 c.minus2.result) ≡ viewTop c.before.before.before.args.measure
+top-is : (c : tie.After-minus2) → to_z w64 (of_z w64 c.minus2.result) ≡ view_top c.before.before.before.args.measure
 top-is c = back' c.minus2.result c.minus2.type-inv ∙ c.minus2.ensures
 
 between_is : (c : tie.After-difference) →
@@ -37,7 +37,7 @@ between_is c = back' c.difference.result c.difference.type-inv ∙ (simp (b-lo, 
 width_is : (c : tie.After-plus) →
     let s = c.before.before.before.before.before in
     let a = s.args in
-    to_z w64 (of_z w64 c.plus.result) ≡ viewWidth a.lo a.hi a.measure
+    to_z w64 (of_z w64 c.plus.result) ≡ view_width a.lo a.hi a.measure
 width_is c = back' c.plus.result c.plus.type-inv ∙ (simp between_is at c.plus.ensures)
 
 minus-requires : tie.Need-minus-requires
@@ -64,7 +64,7 @@ put-across-requires c κs =
     let a = s.args in
     rw (left_is c1) (
       omega (arith, s.requires.0.left, s.requires.0.measure, dif a.lo (pos a.measure)),
-      room_after ((bytes "<svg xmlns=\"http://www.w3.org/2000/svg\" version=\"1.1\" class=\"drawing\" viewBox=\"") ++ (across (viewLeft a.lo a.measure)))
+      room_after ((bytes "<svg xmlns=\"http://www.w3.org/2000/svg\" version=\"1.1\" class=\"drawing\" view_box=\"") ++ (across (view_left a.lo a.measure)))
           (head_of a.lo a.hi a.measure a.height)
           (wrote_none a.out.now a.at) s.requires.1 (simp length-append (omega arith)),
     )
@@ -80,7 +80,7 @@ put-across-requires-2 c κs =
     let w1 = (rw (left_is c3) at c1.put-across.ensures) in
     rw (top-is c2) (
       omega (arith, s.requires.0.measure, dif (pos 0) (pos a.measure)),
-      room_after ((bytes " ") ++ (across (viewTop a.measure)))
+      room_after ((bytes " ") ++ (across (view_top a.measure)))
           (head_of a.lo a.hi a.measure a.height)
           w1 s.requires.1 (simp length-append (omega arith)),
     )
@@ -96,10 +96,10 @@ put-across-requires-3 c κs =
     let s = c5.before.before in
     let a = s.args in
     let w1 = (rw (left_is c5) at c2.put-across.ensures) in
-    let w2 = and_both (bytes " ") (across (viewTop a.measure)) w1 (rw (top-is c4) at c1.put-across2.ensures) in
+    let w2 = and_both (bytes " ") (across (view_top a.measure)) w1 (rw (top-is c4) at c1.put-across2.ensures) in
     rw (width_is c3) (
       omega (arith, s.requires.0.left, s.requires.0.right, s.requires.0.measure, dif a.hi a.lo, sum (a.hi -ℤ a.lo) (pos (2 * a.measure))),
-      room_after ((bytes " ") ++ (across (viewWidth a.lo a.hi a.measure)))
+      room_after ((bytes " ") ++ (across (view_width a.lo a.hi a.measure)))
           (head_of a.lo a.hi a.measure a.height)
           w2 s.requires.1 (simp length-append (omega arith)),
     )
@@ -116,8 +116,8 @@ put-down-requires c κs =
     let s = c6.before.before in
     let a = s.args in
     let w1 = (rw (left_is c6) at c3.put-across.ensures) in
-    let w2 = and_both (bytes " ") (across (viewTop a.measure)) w1 (rw (top-is c5) at c2.put-across2.ensures) in
-    let w3 = and_both (bytes " ") (across (viewWidth a.lo a.hi a.measure)) w2 (rw (width_is c4) at c1.put-across3.ensures) in (
+    let w2 = and_both (bytes " ") (across (view_top a.measure)) w1 (rw (top-is c5) at c2.put-across2.ensures) in
+    let w3 = and_both (bytes " ") (across (view_width a.lo a.hi a.measure)) w2 (rw (width_is c4) at c1.put-across3.ensures) in (
       omega (arith, s.requires.0.high),
       room_after ((bytes " ") ++ (down a.height))
           (head_of a.lo a.hi a.measure a.height)
@@ -137,8 +137,8 @@ put-word-requires c κs =
     let s = c7.before.before in
     let a = s.args in
     let w1 = (rw (left_is c7) at c4.put-across.ensures) in
-    let w2 = and_both (bytes " ") (across (viewTop a.measure)) w1 (rw (top-is c6) at c3.put-across2.ensures) in
-    let w3 = and_both (bytes " ") (across (viewWidth a.lo a.hi a.measure)) w2 (rw (width_is c5) at c2.put-across3.ensures) in
+    let w2 = and_both (bytes " ") (across (view_top a.measure)) w1 (rw (top-is c6) at c3.put-across2.ensures) in
+    let w3 = and_both (bytes " ") (across (view_width a.lo a.hi a.measure)) w2 (rw (width_is c5) at c2.put-across3.ensures) in
     let w4 = and_both (bytes " ") (down a.height) w3 c1.put-down.ensures in
     room_after (bytes "\">\n")
     (head_of a.lo a.hi a.measure a.height)
@@ -158,8 +158,8 @@ returns c =
     let s = c8.before.before in
     let a = s.args in
     let w1 = (rw (left_is c8) at c5.put-across.ensures) in
-    let w2 = and_both (bytes " ") (across (viewTop a.measure)) w1 (rw (top-is c7) at c4.put-across2.ensures) in
-    let w3 = and_both (bytes " ") (across (viewWidth a.lo a.hi a.measure)) w2 (rw (width_is c6) at c3.put-across3.ensures) in
+    let w2 = and_both (bytes " ") (across (view_top a.measure)) w1 (rw (top-is c7) at c4.put-across2.ensures) in
+    let w3 = and_both (bytes " ") (across (view_width a.lo a.hi a.measure)) w2 (rw (width_is c6) at c3.put-across3.ensures) in
     let w4 = and_both (bytes " ") (down a.height) w3 c2.put-down.ensures in
     let w5 = and_then w4 c1.put_word.ensures in
     w5

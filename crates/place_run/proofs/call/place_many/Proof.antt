@@ -5,12 +5,12 @@ use native.Mathlib.Omega.{arith}
 use Prim.Native.Nat.{◌+◌, ◌≤◌}
 use lib.ListN.{length}
 use lib.Seq.{length-take-le}
-use Rattle.run.specs.Call.{maxNeighbours}
+use Rattle.run.specs.Call.{max_neighbours}
 use Rattle.place_run.proofs.Taken.{taken}
 use Rattle.place_run.proofs.call.place_many.Statement.{statement}
 use Rattle.place_run.proofs.call.place_many.Tie as tie
 
-few : (c : tie.Start) → length c.args.ratings.now ≤ maxNeighbours
+few : (c : tie.Start) → length c.args.ratings.now ≤ max_neighbours
 few c = let a = c.args in let t = taken a.left a.right a.old.now a.distances.now a.counts.now a.neighbours.now a.ratings.now a.answer.now c.requires in omega (arith, t.ratings, t.neighbours)
 
 slice-aggregate-place-summed : tie.Need-slice-aggregate-place-summed

@@ -4,7 +4,7 @@ use mathlib.Core.Path.{◌≡◌, ◌∙◌, ap}
 use native.Mathlib.Omega.{arith}
 use Prim.Native.Nat.{◌+◌}
 use lib.ListN.{length}
-use Rattle.run_columns.specs.inner.Sums.{ratingsBetween}
+use Rattle.run_columns.specs.inner.Sums.{ratings_between}
 use Rattle.run_halves.proofs.Middles.{sum-most}
 use Rattle.place_run.proofs.Taken.{Taken, taken}
 use Rattle.place_run.proofs.Summed.{sums-between}
@@ -17,8 +17,8 @@ known c = let a = c.args in taken a.left a.right a.old.now a.distances.now a.cou
 fill-offsets-requires : tie.Need-fill-offsets-requires
 fill-offsets-requires c κs = let s = c.before.before.before.before.before in let t = known s in omega (arith, sum-most s.args.ratings.now t.rated, t.ratings, t.neighbours)
 
-filled : (c : tie.After-fill-offsets) → ratingsBetween c.fill-offsets.new.1.0 ≡ c.before.before.before.before.before.before.args.ratings.now
-filled c = let s = c.before.before.before.before.before.before in ap ratingsBetween c.fill-offsets.ensures ∙ sums-between s.args.ratings.now (length s.args.sums.now) s.requires.1
+filled : (c : tie.After-fill-offsets) → ratings_between c.fill-offsets.new.1.0 ≡ c.before.before.before.before.before.before.args.ratings.now
+filled c = let s = c.before.before.before.before.before.before in ap ratings_between c.fill-offsets.ensures ∙ sums-between s.args.ratings.now (length s.args.sums.now) s.requires.1
 
 long : (c : tie.After-fill-offsets) → length c.fill-offsets.new.1.0 ≡ length c.before.before.before.before.before.before.args.neighbours.now + 1
 long c = let s = c.before.before.before.before.before.before in omega (arith, c.fill-offsets.auto.1.0, s.requires.1, (known s).ratings)

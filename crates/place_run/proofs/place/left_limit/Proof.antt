@@ -7,23 +7,23 @@ use lib.IntN.{pos, ◌+ℤ◌}
 use Rattle.ints.specs.Ints.{size}
 use Rattle.ints.proofs.Laws.{back'}
 use Rattle.run.specs.Run.{at}
-use Rattle.run.specs.inner.Coordinates.{leftLimit}
-use Rattle.run.specs.Call.{limitOf, leftDistance}
-use Rattle.run_columns.specs.inner.Columns.{maxSize}
+use Rattle.run.specs.inner.Coordinates.{left_limit}
+use Rattle.run.specs.Call.{limit_of, left_distance}
+use Rattle.run_columns.specs.inner.Columns.{max_size}
 use Rattle.run_halves.specs.inner.Halves.{SmallLimit}
 use Rattle.place_run.proofs.place.left_limit.Statement.{statement}
 use Rattle.place_run.proofs.place.left_limit.Tie as tie
 
 plus-requires : tie.Need-plus-requires
 plus-requires c κs = let s = c.before.before.before.before.before in let g = c.before.before.left.given in let v = g.0.0 in
-    let q : size v ≤ maxSize = subst (λ w. SmallLimit (limitOf w)) g.1 s.requires.0 in
+    let q : size v ≤ max_size = subst (λ w. SmallLimit (limit_of w)) g.1 s.requires.0 in
     simp (back' v c.before.known-told.given.0.1) (omega (arith, q, c.distance-at.ensures, s.requires.1))
 
 returns-2 : tie.Need-returns-2
 returns-2 c = let a = c.before.before.before.before.before.before.args in let g = c.before.before.before.left.given in let v = g.0.0 in
     let e = simp (back' v c.before.before.known-told.given.0.1) at c.plus.ensures in
     ap at (back' c.plus.result c.plus.type-inv ∙ e ∙ ap (λ n. v +ℤ pos n) c.before.distance-at.ensures)
-    ∙ sym (ap (λ w. leftLimit (limitOf w) (leftDistance w a.distances.now)) g.1)
+    ∙ sym (ap (λ w. left_limit (limit_of w) (left_distance w a.distances.now)) g.1)
 
 pub left-limit-spec : {M : Type 1} → statement M
 left-limit-spec =

@@ -7,24 +7,24 @@ use lib.IntN.{pos, ◌-ℤ◌}
 use Rattle.ints.specs.Ints.{size}
 use Rattle.ints.proofs.Laws.{back'}
 use Rattle.run.specs.Run.{at}
-use Rattle.run.specs.inner.Coordinates.{rightLimit}
+use Rattle.run.specs.inner.Coordinates.{right_limit}
 use Rattle.ints.specs.Lists.{sum}
-use Rattle.run.specs.Call.{limitOf}
-use Rattle.run_columns.specs.inner.Columns.{maxSize}
+use Rattle.run.specs.Call.{limit_of}
+use Rattle.run_columns.specs.inner.Columns.{max_size}
 use Rattle.run_halves.specs.inner.Halves.{SmallLimit}
 use Rattle.place_run.proofs.place.right_limit.Statement.{statement}
 use Rattle.place_run.proofs.place.right_limit.Tie as tie
 
 minus-requires : tie.Need-minus-requires
 minus-requires c κs = let s = c.before.before.before.before.before in let g = c.before.before.right.given in let v = g.0.0 in
-    let q : size v ≤ maxSize = subst (λ w. SmallLimit (limitOf w)) g.1 s.requires.0 in
+    let q : size v ≤ max_size = subst (λ w. SmallLimit (limit_of w)) g.1 s.requires.0 in
     simp (back' v c.before.known-told.given.0.1) (omega (arith, q, c.total.ensures, s.requires.1))
 
 returns-2 : tie.Need-returns-2
 returns-2 c = let a = c.before.before.before.before.before.before.args in let g = c.before.before.before.right.given in let v = g.0.0 in
     let e = simp (back' v c.before.before.known-told.given.0.1) at c.minus.ensures in
     ap at (back' c.minus.result c.minus.type-inv ∙ e ∙ ap (λ n. v -ℤ pos n) c.before.total.ensures)
-    ∙ sym (ap (λ w. rightLimit (limitOf w) (sum a.steps.now)) g.1)
+    ∙ sym (ap (λ w. right_limit (limit_of w) (sum a.steps.now)) g.1)
 
 pub right-limit-spec : {M : Type 1} → statement M
 right-limit-spec =

@@ -5,13 +5,13 @@ use native.Mathlib.Omega.{arith}
 use borrow.Author.Tests.{not-true, not-false}
 use borrow.Author.Rules.{rules}
 use lib.ListN.{length, drop}
-use Rattle.run.specs.Call.{allDistances}
+use Rattle.run.specs.Call.{all_distances}
 use Rattle.place_run.proofs.RefusalLaws.{distances-step, distances-end}
 use Rattle.place_run.proofs.refusal.all_distances.Statement.{statement}
 use Rattle.place_run.proofs.refusal.all_distances.Tie as tie
 
 abbrev invariant-loop : tie.invariant-loop
-invariant-loop distances i₀ i = (i ≤ length distances) × (allDistances (drop i distances) ≡ allDistances distances)
+invariant-loop distances i₀ i = (i ≤ length distances) × (all_distances (drop i distances) ≡ all_distances distances)
 
 abbrev decreases-loop : tie.decreases-loop
 decreases-loop distances i₀ i = length distances - i

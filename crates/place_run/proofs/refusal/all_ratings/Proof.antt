@@ -5,13 +5,13 @@ use native.Mathlib.Omega.{arith}
 use borrow.Author.Tests.{not-true, not-false}
 use borrow.Author.Rules.{rules}
 use lib.ListN.{length, drop}
-use Rattle.ints.specs.Ratings.{allRatings}
+use Rattle.ints.specs.Ratings.{all_ratings}
 use Rattle.ints.proofs.Ratings.{ratings-on, ratings-stop, ratings-end}
 use Rattle.place_run.proofs.refusal.all_ratings.Statement.{statement}
 use Rattle.place_run.proofs.refusal.all_ratings.Tie as tie
 
 abbrev invariant-loop : tie.invariant-loop
-invariant-loop ratings i₀ i = (i ≤ length ratings) × (allRatings (drop i ratings) ≡ allRatings ratings)
+invariant-loop ratings i₀ i = (i ≤ length ratings) × (all_ratings (drop i ratings) ≡ all_ratings ratings)
 
 abbrev decreases-loop : tie.decreases-loop
 decreases-loop ratings i₀ i = length ratings - i

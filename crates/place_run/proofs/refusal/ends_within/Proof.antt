@@ -8,16 +8,16 @@ use borrow.Author.Rules.{rules}
 use lib.ListN.{length, get_or}
 use lib.IntN.{ℤ, pos}
 use Rattle.ints.proofs.Laws.{back'}
-use Rattle.ints.specs.Reach.{isWithin}
+use Rattle.ints.specs.Reach.{is_within}
 use Rattle.place_run.proofs.refusal.ends_within.Statement.{statement}
 use Rattle.place_run.proofs.refusal.ends_within.Tie as tie
 
-none : (xs : List ℤ) → length xs ≡ 0 → true ≡ (isWithin (get_or xs 0 (pos 0)) && isWithin (get_or xs (length xs - 1) (pos 0)))
+none : (xs : List ℤ) → length xs ≡ 0 → true ≡ (is_within (get_or xs 0 (pos 0)) && is_within (get_or xs (length xs - 1) (pos 0)))
 none [] e = refl
 none (x ∷ xs) e = absurd (omega arith)
 
 -- what the call says of the first
-first : (c : tie.After-is-within) → c.is_Within.result ≡ isWithin (get_or c.before.before.before.args.positions.now 0 (pos 0))
+first : (c : tie.After-is-within) → c.is_Within.result ≡ is_within (get_or c.before.before.before.args.positions.now 0 (pos 0))
 first c = simp (back' (get_or c.before.before.before.args.positions.now 0 (pos 0)) c.before.is-within-arg.given) at c.is_Within.ensures
 
 returns : tie.Need-returns

@@ -1,4 +1,4 @@
--- `place_run::refusal::is_distance` meets its contract: its tests are those of `isDistance`.
+-- `place_run::refusal::is_distance` meets its contract: its tests are those of `is_distance`.
 use borrow.Author.Tests.{le-leb, lt-leb}
 use Rattle.place_run.proofs.refusal.is_distance.Statement.{statement}
 use Rattle.place_run.proofs.refusal.is_distance.Tie as tie

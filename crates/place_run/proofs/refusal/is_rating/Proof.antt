@@ -1,4 +1,4 @@
--- `place_run::refusal::is_rating` meets its contract: its tests are those of `isRating`.
+-- `place_run::refusal::is_rating` meets its contract: its tests are those of `is_rating`.
 use borrow.Author.Tests.{le-leb, lt-leb}
 use Rattle.place_run.proofs.refusal.is_rating.Statement.{statement}
 use Rattle.place_run.proofs.refusal.is_rating.Tie as tie

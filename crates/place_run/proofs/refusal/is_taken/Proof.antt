@@ -13,9 +13,9 @@ use lib.IntN.{ℤ}
 use lib.ListN.{length}
 use Rattle.ints.specs.Lists.{sum}
 use Rattle.ints.proofs.Tests.{and_left}
-use Rattle.run.specs.Call.{Request, otherDistances, maxNeighbours, isSmall}
+use Rattle.run.specs.Call.{Request, other_distances, max_neighbours, is_small}
 use Rattle.place_run.proofs.RefusalLaws.{min-leb, member-le, in-order-same}
-use Rattle.place_run.proofs.TakenLaws.{toAnswer, toOld, toCounts, toNeighbours, toRatings, toDistances, toLeftWithin, toRightWithin, toOldWithin, toAllDistances, toAllRatings, toNeighboursTaken, taken-list, total_of, few-of, Reached, reached, rated, ordered}
+use Rattle.place_run.proofs.TakenLaws.{to_answer, to_old, to_counts, to_neighbours, to_ratings, to_distances, to_left_within, to_right_within, to_old_within, to_all_distances, to_all_ratings, to_neighbours_taken, taken-list, total_of, few-of, Reached, reached, rated, ordered}
 use Rattle.place_run.proofs.refusal.is_taken.Statement.{statement}
 use Rattle.place_run.proofs.refusal.is_taken.Tie as tie
 
@@ -67,27 +67,27 @@ s12 c = s11 c.before
 abbrev s13 : tie.Joined13 → tie.Start
 s13 c = s12 c.before
 
-to-small : (c : tie.Joined1) → c.if1.if2 ≡ isSmall (request (s1 c))
+to-small : (c : tie.Joined1) → c.if1.if2 ≡ is_small (request (s1 c))
 to-small c =
-    let e = min-leb c.before.neighbours-in-all.result (sum (s1 c).args.counts.now) maxNeighbours c.before.neighbours-in-all.ensures in
+    let e = min-leb c.before.neighbours-in-all.result (sum (s1 c).args.counts.now) max_neighbours c.before.neighbours-in-all.ensures in
     ⊎_elim (λ w. rw (le-leb _ _ w.0.taken) (w.1 ∙ e)) (λ w. rw (lt-leb _ _ w.0.left) (w.1 ∙ lt-leb _ _ w.0.left)) c.if1.branch
 
-to-answer : (c : tie.Joined2) → c.if2.if3 ≡ tests toAnswer (s2 c)
+to-answer : (c : tie.Joined2) → c.if2.if3 ≡ tests to_answer (s2 c)
 to-answer c =
     let p = sym (to-small c.before) in
     ⊎_elim (λ w. rw (p ∙ w.0.taken) w.1) (λ w. rw (p ∙ w.0.left) (w.1 ∙ w.0.left)) c.if2.branch
 
-to-old : (c : tie.Joined3) → c.if3.if4 ≡ tests toOld (s3 c)
+to-old : (c : tie.Joined3) → c.if3.if4 ≡ tests to_old (s3 c)
 to-old c =
     let p = sym (to-answer c.before) in
     ⊎_elim (λ w. rw (p ∙ w.0.taken) w.1) (λ w. rw (p ∙ w.0.left) (w.1 ∙ w.0.left)) c.if3.branch
 
-to-counts : (c : tie.Joined4) → c.if4.if5 ≡ tests toCounts (s4 c)
+to-counts : (c : tie.Joined4) → c.if4.if5 ≡ tests to_counts (s4 c)
 to-counts c =
     let p = sym (to-old c.before) in
     ⊎_elim (λ w. rw (p ∙ w.0.taken) w.1) (λ w. rw (p ∙ w.0.left) (w.1 ∙ w.0.left)) c.if4.branch
 
-to-neighbours : (c : tie.Joined5) → c.if5.if6 ≡ tests toNeighbours (s5 c)
+to-neighbours : (c : tie.Joined5) → c.if5.if6 ≡ tests to_neighbours (s5 c)
 to-neighbours c =
     let p = sym (to-counts c.before) in
     ⊎_elim
@@ -97,57 +97,57 @@ to-neighbours c =
     (λ w. rw (p ∙ w.0.left) (w.1 ∙ w.0.left))
     c.if5.branch
 
-to-ratings : (c : tie.Joined6) → c.if6.if7 ≡ tests toRatings (s6 c)
+to-ratings : (c : tie.Joined6) → c.if6.if7 ≡ tests to_ratings (s6 c)
 to-ratings c =
     let p = sym (to-neighbours c.before) in
     ⊎_elim
     (λ w.
     let q = request (s6 c) in let a = (s6 c).args.answer.now in
-    let e = c.before.before.before.before.before.before.neighbours-in-all.ensures ∙ total_of q a (and_left (toCounts q a) (eqb (length q.neighbours) (sum q.counts)) (p ∙ w.0.taken)) in
+    let e = c.before.before.before.before.before.before.neighbours-in-all.ensures ∙ total_of q a (and_left (to_counts q a) (eqb (length q.neighbours) (sum q.counts)) (p ∙ w.0.taken)) in
     rw (p ∙ w.0.taken) (w.1 ∙ ap (λ t. eqb (length (s6 c).args.ratings.now) t) e))
     (λ w. rw (p ∙ w.0.left) (w.1 ∙ w.0.left))
     c.if6.branch
 
-to-distances : (c : tie.Joined7) → c.if7.if8 ≡ tests toDistances (s7 c)
+to-distances : (c : tie.Joined7) → c.if7.if8 ≡ tests to_distances (s7 c)
 to-distances c =
     let p = sym (to-ratings c.before) in
     ⊎_elim (λ w. rw (p ∙ w.0.taken) (w.2 ∙ rw w.1.ensures)) (λ w. rw (p ∙ w.0.left) (w.1 ∙ w.0.left)) c.if7.branch
 
-to-left-within : (c : tie.Joined8) → c.if8.if9 ≡ tests toLeftWithin (s8 c)
+to-left-within : (c : tie.Joined8) → c.if8.if9 ≡ tests to_left_within (s8 c)
 to-left-within c =
     let p = sym (to-distances c.before) in
     ⊎_elim (λ w. rw (p ∙ w.0.taken) (w.2 ∙ w.1.ensures)) (λ w. rw (p ∙ w.0.left) (w.1 ∙ w.0.left)) c.if8.branch
 
-to-right-within : (c : tie.Joined9) → c.if9.if10 ≡ tests toRightWithin (s9 c)
+to-right-within : (c : tie.Joined9) → c.if9.if10 ≡ tests to_right_within (s9 c)
 to-right-within c =
     let p = sym (to-left-within c.before) in
     ⊎_elim (λ w. rw (p ∙ w.0.taken) (w.2 ∙ w.1.ensures)) (λ w. rw (p ∙ w.0.left) (w.1 ∙ w.0.left)) c.if9.branch
 
-to-old-within : (c : tie.Joined10) → c.if10.if11 ≡ tests toOldWithin (s10 c)
+to-old-within : (c : tie.Joined10) → c.if10.if11 ≡ tests to_old_within (s10 c)
 to-old-within c =
     let p = sym (to-right-within c.before) in
     ⊎_elim (λ w. rw (p ∙ w.0.taken) (w.2 ∙ w.1.ensures)) (λ w. rw (p ∙ w.0.left) (w.1 ∙ w.0.left)) c.if10.branch
 
-to-all-distances : (c : tie.Joined11) → c.if11.if12 ≡ tests toAllDistances (s11 c)
+to-all-distances : (c : tie.Joined11) → c.if11.if12 ≡ tests to_all_distances (s11 c)
 to-all-distances c =
     let p = sym (to-old-within c.before) in
     ⊎_elim (λ w. rw (p ∙ w.0.taken) (w.2 ∙ w.1.ensures)) (λ w. rw (p ∙ w.0.left) (w.1 ∙ w.0.left)) c.if11.branch
 
-to-all-ratings : (c : tie.Joined12) → c.if12.if13 ≡ tests toAllRatings (s12 c)
+to-all-ratings : (c : tie.Joined12) → c.if12.if13 ≡ tests to_all_ratings (s12 c)
 to-all-ratings c =
     let p = sym (to-all-distances c.before) in
     ⊎_elim (λ w. rw (p ∙ w.0.taken) (w.2 ∙ w.1.ensures)) (λ w. rw (p ∙ w.0.left) (w.1 ∙ w.0.left)) c.if12.branch
 
-reach : (s : tie.Start) → tests toAllRatings s ≡ true → Reached (request s) s.args.answer.now
+reach : (s : tie.Start) → tests to_all_ratings s ≡ true → Reached (request s) s.args.answer.now
 reach s e = reached (request s) s.args.answer.now (rated (request s) s.args.answer.now e)
 
-to-neighbours-taken : (c : tie.Joined13) → c.if13.if14 ≡ tests toNeighboursTaken (s13 c)
+to-neighbours-taken : (c : tie.Joined13) → c.if13.if14 ≡ tests to_neighbours_taken (s13 c)
 to-neighbours-taken c =
     let p = sym (to-all-ratings c.before) in
     ⊎_elim
     (λ w.
     let a = (s13 c).args in let h = reach (s13 c) (p ∙ w.0.taken) in
-    rw (p ∙ w.0.taken, in-order-same a.old.now (otherDistances a.left a.distances.now) a.counts.now a.neighbours.now a.ratings.now (omega arith) (omega arith)) (w.2 ∙ w.1.ensures))
+    rw (p ∙ w.0.taken, in-order-same a.old.now (other_distances a.left a.distances.now) a.counts.now a.neighbours.now a.ratings.now (omega arith) (omega arith)) (w.2 ∙ w.1.ensures))
     (λ w. rw (p ∙ w.0.left) (w.1 ∙ w.0.left))
     c.if13.branch
 

@@ -8,12 +8,12 @@ use borrow.Author.Rules.{rules}
 use lib.ListN.{length, drop, get_or}
 use Rattle.ints.specs.Lists.{sum}
 use Rattle.ints.proofs.Lists.{sum-on, sum-end}
-use Rattle.place_run.proofs.RefusalLaws.{takenParts, parts-step, parts-end}
+use Rattle.place_run.proofs.RefusalLaws.{taken_parts, parts-step, parts-end}
 use Rattle.place_run.proofs.refusal.neighbours_are_taken.Statement.{statement}
 use Rattle.place_run.proofs.refusal.neighbours_are_taken.Tie as tie
 
 abbrev invariant-loop : tie.invariant-loop
-invariant-loop counts neighbours from₀ i₀ from i = (i ≤ length counts) × (from + sum (drop i counts) ≡ length neighbours) × (takenParts (drop i counts) (drop from neighbours) ≡ takenParts counts neighbours)
+invariant-loop counts neighbours from₀ i₀ from i = (i ≤ length counts) × (from + sum (drop i counts) ≡ length neighbours) × (taken_parts (drop i counts) (drop from neighbours) ≡ taken_parts counts neighbours)
 
 abbrev decreases-loop : tie.decreases-loop
 decreases-loop counts neighbours from₀ i₀ from i = length counts - i

@@ -6,13 +6,13 @@ use native.Mathlib.Omega.{arith}
 use borrow.Author.Rules.{rules}
 use lib.ListN.{length, drop}
 use Rattle.ints.specs.Lists.{sum}
-use Rattle.run.specs.Call.{maxNeighbours}
+use Rattle.run.specs.Call.{max_neighbours}
 use Rattle.ints.proofs.Lists.{sum-on, sum-end}
 use Rattle.place_run.proofs.refusal.neighbours_in_all.Statement.{statement}
 use Rattle.place_run.proofs.refusal.neighbours_in_all.Tie as tie
 
 abbrev invariant-loop : tie.invariant-loop
-invariant-loop counts total₀ i₀ total i = (i ≤ length counts) × (total ≤ maxNeighbours) × (total + sum (drop i counts) ≡ sum counts)
+invariant-loop counts total₀ i₀ total i = (i ≤ length counts) × (total ≤ max_neighbours) × (total + sum (drop i counts) ≡ sum counts)
 
 abbrev decreases-loop : tie.decreases-loop
 decreases-loop counts total₀ i₀ total i = length counts - i

@@ -1,4 +1,4 @@
--- `plan::questions::comes_before` meets its contract: its tests are those of `comesBefore`.
+-- `plan::questions::comes_before` meets its contract: its tests are those of `comes_before`.
 use borrow.Author.Tests.{lt-ltb, le-ltb, eq-eqb, ne_eqb}
 use Rattle.plan.proofs.questions.comes_before.Statement.{statement}
 use Rattle.plan.proofs.questions.comes_before.Tie as tie

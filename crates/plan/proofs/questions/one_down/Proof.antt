@@ -1,4 +1,4 @@
--- `plan::questions::one_down` meets its contract: its tests are those of `oneDown`.
+-- `plan::questions::one_down` meets its contract: its tests are those of `one_down`.
 use borrow.Author.Rules.{rules}
 use borrow.Author.Tests.{lt-ltb, le-ltb}
 use native.Mathlib.Omega.{arith}

@@ -6,14 +6,14 @@ use borrow.Author.Tests.{not-true, not-false}
 use native.Mathlib.Omega.{arith}
 use lib.ListN.{length}
 use Rattle.plan.specs.Checks.{every}
-use Rattle.plan.specs.inner.Graph.{oneDown}
+use Rattle.plan.specs.inner.Graph.{one_down}
 use Rattle.plan_walks.specs.inner.Walks.{after}
 use Rattle.plan_checks.proofs.SegmentLaws.{every-on, every-stop, every-end, check3-same}
 use Rattle.plan_checks.proofs.checks.check_ends.Statement.{statement}
 use Rattle.plan_checks.proofs.checks.check_ends.Tie as tie
 
 abbrev invariant-loop : tie.invariant-loop
-invariant-loop level uppers lowers i₀ i = (i ≤ length uppers) × (every (oneDown level) (after uppers lowers i) ≡ every (oneDown level) (after uppers lowers 0))
+invariant-loop level uppers lowers i₀ i = (i ≤ length uppers) × (every (one_down level) (after uppers lowers i) ≡ every (one_down level) (after uppers lowers 0))
 
 abbrev decreases-loop : tie.decreases-loop
 decreases-loop level uppers lowers i₀ i = length uppers - i
@@ -26,7 +26,7 @@ returns c =
     let s = c.before.before.before.before.before.before.before.before.before in
     let l = c.before.before.before.before.before.loop in
     let stop = sym c.before.one_down.ensures ∙ not-true _ c.if1.true in
-    let none = every-stop (oneDown s.args.level.now) s.args.uppers.now s.args.lowers.now l.i s.requires (omega arith) stop in
+    let none = every-stop (one_down s.args.level.now) s.args.uppers.now s.args.lowers.now l.i s.requires (omega arith) stop in
     λ sizes vias w e. sym none ∙ l.invariant.1 ∙ sym (check3-same sizes vias s.args.level.now w e s.args.uppers.now s.args.lowers.now)
 
 loop-again : tie.Need-loop-preserved invariant-loop decreases-loop
@@ -34,13 +34,13 @@ loop-again c =
     let s = c.before.before.before.before.before.before.before.before.before in
     let l = c.before.before.before.before.before.loop in
     let on = sym c.before.one_down.ensures ∙ not-false _ c.if1.false in
-    (omega arith, sym (every-on (oneDown s.args.level.now) s.args.uppers.now s.args.lowers.now l.i s.requires (omega arith) on) ∙ l.invariant.1)
+    (omega arith, sym (every-on (one_down s.args.level.now) s.args.uppers.now s.args.lowers.now l.i s.requires (omega arith) on) ∙ l.invariant.1)
 
 returns-2 : tie.Need-returns-2 invariant-loop decreases-loop
 returns-2 c =
     let s = c.before.before.before.before.before in
     let l = c.before.loop in
-    let all = every-end (oneDown s.args.level.now) s.args.uppers.now s.args.lowers.now l.i (omega arith) in
+    let all = every-end (one_down s.args.level.now) s.args.uppers.now s.args.lowers.now l.i (omega arith) in
     λ sizes vias w e. sym all ∙ l.invariant.1 ∙ sym (check3-same sizes vias s.args.level.now w e s.args.uppers.now s.args.lowers.now)
 
 pub check-ends-spec : {M : Type 1} → statement M

@@ -5,7 +5,7 @@ use borrow.Author.Rules.{rules}
 use borrow.Author.Tests.{not-true, not-false}
 use native.Mathlib.Omega.{arith}
 use lib.ListN.{length}
-use Rattle.plan.specs.Segments.{segmentsOf}
+use Rattle.plan.specs.Segments.{segments_of}
 use Rattle.plan.specs.Checks.{rising, check4}
 use Rattle.plan_walks.specs.inner.Walks.{after}
 use Rattle.plan_checks.proofs.SegmentLaws.{order-on, order-stop, order-end}
@@ -22,7 +22,7 @@ loop-holds : tie.Need-loop-init invariant-loop decreases-loop
 loop-holds c = (omega arith, refl)
 
 returns : tie.Need-returns invariant-loop decreases-loop
-unfolding check4 segmentsOf
+unfolding check4 segments_of
 returns c =
     let s = c.before.before.before.before.before.before.before.before.before.before in
     let l = c.before.before.before.before.before.before.before.loop in
@@ -35,7 +35,7 @@ loop-again c =
     (omega arith, sym (order-on s.args.uppers.now s.args.lowers.now l.i s.requires (omega arith) (sym c.before.comes-before.ensures ∙ not-false _ c.if1.false)) ∙ l.invariant.1)
 
 returns-2 : tie.Need-returns-2 invariant-loop decreases-loop
-unfolding check4 segmentsOf
+unfolding check4 segments_of
 returns-2 c =
     let s = c.before.before.before.before in
     let l = c.before.loop in

@@ -1,10 +1,10 @@
--- `plan_checks::checks::check_plan` meets its contract: two by two, the checks are those of `checksOf`, and check 3 makes every end
+-- `plan_checks::checks::check_plan` meets its contract: two by two, the checks are those of `checks_of`, and check 3 makes every end
 -- a vertex, which checks 5 and 6 ask for.
 use mathlib.Core.Bool.{true, false}
 use mathlib.Core.Path.{◌≡◌, sym, ◌∙◌}
 use borrow.Author.Rules.{rules}
 use borrow.Author.Tests.{not-true}
-use Rattle.ints.specs.Refusals.{firstRefusal}
+use Rattle.ints.specs.Refusals.{first_refusal}
 use Rattle.plan.specs.Plan.{PlanData}
 use Rattle.plan.specs.Checks.{check3, check4, check5}
 use Rattle.plan.specs.inner.Graph.{graph_of, Within}
@@ -20,7 +20,7 @@ abbrev start : tie.After-first-of → tie.Start
 start c = c.before.before.before.before.before.before.before
 
 -- checks 3 and 4
-first : (c : tie.After-first-of) → c.first_of.result ≡ firstRefusal (early (graph (start c)))
+first : (c : tie.After-first-of) → c.first_of.result ≡ first_refusal (early (graph (start c)))
 first c =
     let a = (start c).args in
     rw (← c.before.before.check-levels.ensures, ← c.before.check-order.ensures a.sizes.now a.vias.now) c.first_of.ensures
@@ -39,8 +39,8 @@ returns c = fails-early (graph (start c.before)) c.before.first_of.result (first
 check-vias-requires : tie.Need-check-vias-requires
 check-vias-requires c κs = within c
 
-five-fails : (p : PlanData) → check5 p ≡ false → 5 ≡ firstRefusal (late p)
-unfolding firstRefusal
+five-fails : (p : PlanData) → check5 p ≡ false → 5 ≡ first_refusal (late p)
+unfolding first_refusal
 five-fails p e = rw e
 
 returns-2 : tie.Need-returns-2

@@ -3,7 +3,7 @@ use mathlib.Core.Path.{refl}
 use Prim.Native.Nat.{◌-◌, ◌≤◌}
 use native.Mathlib.Nat.{mul-le-mul_left}
 use native.Mathlib.Omega.{arith}
-use Rattle.plan.specs.Plan.{heightOf}
+use Rattle.plan.specs.Plan.{height_of}
 use borrow.Author.Rules.{rules}
 use Rattle.plan_checks.proofs.levels.level_height.Statement.{statement}
 use Rattle.plan_checks.proofs.levels.level_height.Tie as tie
@@ -12,7 +12,7 @@ mul-result : tie.Need-overflow-mul-result
 mul-result c = let few : c.args.l - 1 ≤ 64 = omega arith in omega (arith, mul-le-mul_left c.args.spacing few)
 
 returns : tie.Need-returns
-unfolding heightOf
+unfolding height_of
 returns c = refl
 
 pub level-height-spec : {M : Type 1} → statement M

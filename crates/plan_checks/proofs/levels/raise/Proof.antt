@@ -3,14 +3,14 @@ use mathlib.Core.Path.{◌≡◌, refl, ◌∙◌}
 use Prim.Native.Nat.{ℕ, ◌-◌, ◌<◌}
 use native.Mathlib.Omega.{arith}
 use lib.ListN.{length, get_or, length-set}
-use Rattle.plan_checks.specs.inner.Heights.{levelHeight}
+use Rattle.plan_checks.specs.inner.Heights.{level_height}
 use Rattle.plan_checks.proofs.HeightLaws.{raised-more}
 use borrow.Author.Rules.{rules}
 use Rattle.plan_checks.proofs.levels.raise.Statement.{statement}
 use Rattle.plan_checks.proofs.levels.raise.Tie as tie
 
 abbrev invariant-loop : tie.invariant-loop
-invariant-loop spacing level out₀ v₀ out v = (length out ≡ length out₀) × ((w : ℕ) → w < v → get_or out w 0 ≡ levelHeight spacing (get_or level w 0))
+invariant-loop spacing level out₀ v₀ out v = (length out ≡ length out₀) × ((w : ℕ) → w < v → get_or out w 0 ≡ level_height spacing (get_or level w 0))
 
 abbrev decreases-loop : tie.decreases-loop
 decreases-loop spacing level out₀ v₀ out v = length level - v

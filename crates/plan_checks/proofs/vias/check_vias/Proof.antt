@@ -6,13 +6,13 @@ use borrow.Author.Rules.{rules}
 use borrow.Author.Tests.{not-true, not-false}
 use native.Mathlib.Omega.{arith}
 use lib.ListN.{length}
-use Rattle.plan.specs.Limits.{maxVertices}
-use Rattle.plan.proofs.CountLaws.{throughFrom, check5-same, through-none, through-on, through-stop}
+use Rattle.plan.specs.Limits.{max_vertices}
+use Rattle.plan.proofs.CountLaws.{through_from, check5-same, through-none, through-on, through-stop}
 use Rattle.plan_checks.proofs.vias.check_vias.Statement.{statement}
 use Rattle.plan_checks.proofs.vias.check_vias.Tie as tie
 
 abbrev invariant-loop : tie.invariant-loop
-invariant-loop vias uppers lowers up down v₀ v = (v ≤ length vias) × (throughFrom vias uppers lowers v (length vias - v) ≡ throughFrom vias uppers lowers 0 (length vias))
+invariant-loop vias uppers lowers up down v₀ v = (v ≤ length vias) × (through_from vias uppers lowers v (length vias - v) ≡ through_from vias uppers lowers 0 (length vias))
 
 abbrev decreases-loop : tie.decreases-loop
 decreases-loop vias uppers lowers up down v₀ v = length vias - v
@@ -32,7 +32,7 @@ returns c =
     let l = c.before.before.before.before.loop in
     let n = length s.args.vias.now - l.v in
     let stop = sym c.before.is-through.ensures ∙ not-true _ c.if1.true in
-    let none = through-stop s.args.vias.now s.args.uppers.now s.args.lowers.now maxVertices c.before.before.before.before.before.before.before.before.before.count.new.1.0 c.before.before.before.before.before.before.count2.new.1.0 c.before.before.before.before.before.before.before.before.before.count.ensures c.before.before.before.before.before.before.count2.ensures s.requires.ends l.v (omega arith) n (omega arith) stop in
+    let none = through-stop s.args.vias.now s.args.uppers.now s.args.lowers.now max_vertices c.before.before.before.before.before.before.before.before.before.count.new.1.0 c.before.before.before.before.before.before.count2.new.1.0 c.before.before.before.before.before.before.before.before.before.count.ensures c.before.before.before.before.before.before.count2.ensures s.requires.ends l.v (omega arith) n (omega arith) stop in
     λ sizes. sym none ∙ l.invariant.1 ∙ sym (check5-same s.args.vias.now s.args.uppers.now s.args.lowers.now sizes)
 
 loop-again : tie.Need-loop-preserved invariant-loop decreases-loop
@@ -42,7 +42,7 @@ loop-again c =
     let n = length s.args.vias.now - l.v in
     let m = length s.args.vias.now - (l.v + 1) in
     let go = sym c.before.is-through.ensures ∙ not-false _ c.if1.false in
-    let on = through-on s.args.vias.now s.args.uppers.now s.args.lowers.now maxVertices c.before.before.before.before.before.before.before.before.before.count.new.1.0 c.before.before.before.before.before.before.count2.new.1.0 c.before.before.before.before.before.before.before.before.before.count.ensures c.before.before.before.before.before.before.count2.ensures s.requires.ends l.v (omega arith) n m (omega arith) go in
+    let on = through-on s.args.vias.now s.args.uppers.now s.args.lowers.now max_vertices c.before.before.before.before.before.before.before.before.before.count.new.1.0 c.before.before.before.before.before.before.count2.new.1.0 c.before.before.before.before.before.before.before.before.before.count.ensures c.before.before.before.before.before.before.count2.ensures s.requires.ends l.v (omega arith) n m (omega arith) go in
     (omega arith, sym on ∙ l.invariant.1)
 
 returns-2 : tie.Need-returns-2 invariant-loop decreases-loop

@@ -5,25 +5,25 @@ use mathlib.Core.Path.{◌≡◌, sym, ◌∙◌, ap, subst}
 use borrow.Author.Rules.{rules}
 use native.Mathlib.Omega.{arith}
 use lib.ListN.{length, get_or, length-set, length-replicate}
-use Rattle.plan.specs.Limits.{maxVertices}
+use Rattle.plan.specs.Limits.{max_vertices}
 use Rattle.plan.proofs.CountLaws.{Counting, count-start, count-on, count-end, count_small}
 use Rattle.plan_checks.proofs.vias.count.Statement.{statement}
 use Rattle.plan_checks.proofs.vias.count.Tie as tie
 
 abbrev invariant-loop : tie.invariant-loop
-invariant-loop ends counts₀ i₀ counts i = (i ≤ length ends) × (length counts ≡ maxVertices) × Counting ends counts i
+invariant-loop ends counts₀ i₀ counts i = (i ≤ length ends) × (length counts ≡ max_vertices) × Counting ends counts i
 
 abbrev decreases-loop : tie.decreases-loop
 decreases-loop ends counts₀ i₀ counts i = length ends - i
 
 -- the end that is counted is a vertex
-is-vertex : (c : tie.After-shared-slice-known invariant-loop decreases-loop) → get_or c.before.before.before.args.ends.now c.before.before.loop.i 0 < maxVertices
+is-vertex : (c : tie.After-shared-slice-known invariant-loop decreases-loop) → get_or c.before.before.before.args.ends.now c.before.before.loop.i 0 < max_vertices
 is-vertex c = c.before.before.before.requires.0 c.before.before.loop.i (omega arith)
 
 loop-holds : tie.Need-loop-init invariant-loop decreases-loop
 loop-holds c =
     let e = c.requires.2 in
-    (omega arith, ap length e ∙ length-replicate {A = ℕ} maxVertices 0, subst (λ (ns : List ℕ). Counting c.args.ends.now ns 0) (sym e) (count-start maxVertices c.args.ends.now))
+    (omega arith, ap length e ∙ length-replicate {A = ℕ} max_vertices 0, subst (λ (ns : List ℕ). Counting c.args.ends.now ns 0) (sym e) (count-start max_vertices c.args.ends.now))
 
 cast-v : tie.Need-overflow-cast-v invariant-loop decreases-loop
 cast-v c = omega (arith, is-vertex c)
@@ -54,7 +54,7 @@ loop-again c =
     (omega arith, simp length-set l.invariant.1, count-on xs l.counts l.i l.invariant.2 (omega arith) (omega (arith, is-vertex c.before, l.invariant.1)))
 
 same_length : tie.Need-same-length invariant-loop decreases-loop
-same_length c = c.before.loop.invariant.1 ∙ sym (ap length c.before.before.requires.2 ∙ length-replicate {A = ℕ} maxVertices 0)
+same_length c = c.before.loop.invariant.1 ∙ sym (ap length c.before.before.requires.2 ∙ length-replicate {A = ℕ} max_vertices 0)
 
 returns : tie.Need-returns invariant-loop decreases-loop
 returns c =

@@ -1,4 +1,4 @@
--- `plan_renumber::remembered::is_new` meets its contract: its tests are those of `isNew`.
+-- `plan_renumber::remembered::is_new` meets its contract: its tests are those of `is_new`.
 use borrow.Author.Rules.{rules}
 use borrow.Author.Tests.{lt-ltb, le-ltb, eq-eqb, ne_eqb}
 use Rattle.plan_renumber.proofs.remembered.is_new.Statement.{statement}

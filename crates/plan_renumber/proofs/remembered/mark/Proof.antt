@@ -6,7 +6,7 @@ use mathlib.Core.Bool.{true, true≢false, false≢true}
 use borrow.Author.Tests.{not-true, not-false}
 use native.Mathlib.Omega.{arith}
 use lib.ListN.{length}
-use Rattle.plan_renumber.specs.inner.Own.{Marked, isNew}
+use Rattle.plan_renumber.specs.inner.Own.{Marked, is_new}
 use Rattle.plan_renumber.proofs.Marks.{mark-start, mark_on, mark-fails, new-below}
 use Rattle.plan_renumber.proofs.remembered.mark.Statement.{statement}
 use Rattle.plan_renumber.proofs.remembered.mark.Tie as tie
@@ -36,7 +36,7 @@ returns : tie.Need-returns invariant-loop decreases-loop
 returns c = record {
   new = λ e. absurd (false≢true e);
   fails = λ e. mark-fails c.before.before.before.before.before.before.before.before.before.before.before.args.level.now c.before.before.before.before.before.before.before.before.before.before.before.args.numbers.now c.before.before.before.before.before.before.before.loop.seen c.before.before.before.before.before.before.before.loop.i c.before.before.before.before.before.before.before.loop.invariant c.before.before.before.before.before.before.loop-test.true c.before.before.before.before.before.before.before.before.before.before.before.requires.levels
-      (ap (isNew c.before.before.before.before.before.before.before.before.before.before.before.args.level.now c.before.before.before.before.before.before.before.loop.seen _) (sym c.before.before.before.before.wide.ensures) ∙ sym c.before.is-new.ensures ∙ not-true _ c.if1.true);
+      (ap (is_new c.before.before.before.before.before.before.before.before.before.before.before.args.level.now c.before.before.before.before.before.before.before.loop.seen _) (sym c.before.before.before.before.wide.ensures) ∙ sym c.before.is-new.ensures ∙ not-true _ c.if1.true);
 }
 
 slice-write-seen : tie.Need-slice-write-seen invariant-loop decreases-loop
@@ -46,7 +46,7 @@ slice-write-seen c =
 
 loop-again : tie.Need-loop-preserved invariant-loop decreases-loop
 loop-again c =
-    let new = ap (isNew c.before.before.before.before.before.before.before.before.before.before.before.args.level.now c.before.before.before.before.before.before.before.loop.seen _) (sym c.before.before.before.before.wide.ensures) ∙ sym c.before.is-new.ensures ∙ not-false _ c.if1.false in
+    let new = ap (is_new c.before.before.before.before.before.before.before.before.before.before.before.args.level.now c.before.before.before.before.before.before.before.loop.seen _) (sym c.before.before.before.before.wide.ensures) ∙ sym c.before.is-new.ensures ∙ not-false _ c.if1.false in
     rw c.before.before.before.before.wide.ensures (mark_on c.before.before.before.before.before.before.before.before.before.before.before.args.level.now c.before.before.before.before.before.before.before.before.before.before.before.args.numbers.now c.before.before.before.before.before.before.before.loop.seen c.before.before.before.before.before.before.before.loop.i c.before.before.before.before.before.before.before.loop.invariant c.before.before.before.before.before.before.loop-test.true c.before.before.before.before.before.before.before.before.before.before.before.requires.levels new)
 
 same-length-2 : tie.Need-same-length-2 invariant-loop decreases-loop

@@ -3,7 +3,7 @@ use borrow.Author.Rules.{rules}
 use mathlib.Core.Path.{sym}
 use lib.ListN.{length}
 use lib.Seq.{length-take-le}
-use Rattle.plan.specs.Limits.{maxVertices}
+use Rattle.plan.specs.Limits.{max_vertices}
 use Rattle.plan_renumber.proofs.Marks.{none-set}
 use Rattle.plan_renumber.proofs.remembered.own_numbers.Statement.{statement}
 use Rattle.plan_renumber.proofs.remembered.own_numbers.Tie as tie
@@ -16,7 +16,7 @@ slice-aggregate-own-by-2 c = sym (length-take-le _ _ c.before.before.before.befo
 
 own-by-requires : tie.Need-own-by-requires
 own-by-requires c κs =
-    (c.before.before.before.before.requires, record { levels = length-take-le _ _ c.before.before.before.before.requires.vertices; long = length-take-le _ _ c.before.before.before.before.requires.vertices; none = λ v. none-set (length c.before.before.before.before.args.numbers.now) maxVertices v })
+    (c.before.before.before.before.requires, record { levels = length-take-le _ _ c.before.before.before.before.requires.vertices; long = length-take-le _ _ c.before.before.before.before.requires.vertices; none = λ v. none-set (length c.before.before.before.before.args.numbers.now) max_vertices v })
 
 pub own-numbers-spec : {M : Type 1} → statement M
 own-numbers-spec =

@@ -10,16 +10,16 @@ use Rattle.plan_renumber.proofs.whole.renumber.Statement.{statement}
 use Rattle.plan_renumber.proofs.whole.renumber.Tie as tie
 
 copy-flags-requires : tie.Need-copy-flags-requires
-copy-flags-requires c κs = c.before.before.before.before.before.before.before.before.before.before.before.before.requires.flags_long ∙ sym c.before.before.before.before.before.before.before.before.before.before.before.before.requires.vias-long
+copy-flags-requires c κs = c.before.before.before.before.before.before.before.before.before.before.before.before.requires.flags_long ∙ sym c.before.before.before.before.before.before.before.before.before.before.before.before.requires.vias_long
 
 gather-flags-requires : tie.Need-gather-flags-requires
 gather-flags-requires c κs =
     let pre = c.before.before.before.before.before.before.before.before.before.before.before.before.before.before.before.before.before.requires in
     let copy-flags = c.before.before.before.before.copy-flags in
-    (pre.vias-long, λ i h. omega (arith, pre.movable.numbers.once.below i h, ap length copy-flags.ensures, pre.vias-long))
+    (pre.vias_long, λ i h. omega (arith, pre.movable.numbers.once.below i h, ap length copy-flags.ensures, pre.vias_long))
 
 copy-requires : tie.Need-copy-requires
-copy-requires c κs = c.before.before.before.before.before.before.before.before.before.before.before.before.before.before.before.before.before.before.before.before.before.before.requires.spare-long ∙ sym c.before.before.before.before.before.before.before.before.before.before.before.before.before.before.before.before.before.before.before.before.before.before.requires.halves_long
+copy-requires c κs = c.before.before.before.before.before.before.before.before.before.before.before.before.before.before.before.before.before.before.before.before.before.before.requires.spare_long ∙ sym c.before.before.before.before.before.before.before.before.before.before.before.before.before.before.before.before.before.before.before.before.before.before.requires.halves_long
 
 gather-requires : tie.Need-gather-requires
 gather-requires c κs =

@@ -16,7 +16,7 @@ count-up-requires : tie.Need-count-up-requires
 count-up-requires c κs =
     let pre = c.before.before.before.before.before.before.before.before.before.before.before.before.before.before.requires in
     let a = c.before.before.before.before.before.before.before.before.before.before.before.before.before.before.args in
-    omega (arith, some-few a.sizes.now a.vias.now a.uppers.now a.lowers.now a.order.now a.turn.now a.upper.now a.places.now a.codes.now pre.0 pre.1, pre.1.uppers-long)
+    omega (arith, some-few a.sizes.now a.vias.now a.uppers.now a.lowers.now a.order.now a.turn.now a.upper.now a.places.now a.codes.now pre.0 pre.1, pre.1.uppers_long)
 
 upper-ends-requires : tie.Need-upper-ends-requires
 upper-ends-requires c κs =
@@ -38,7 +38,7 @@ count-up-requires-2 : tie.Need-count-up-requires-2
 count-up-requires-2 c κs =
     let pre = c.before.before.before.before.before.before.before.before.before.before.before.before.before.before.before.before.before.before.before.before.before.before.before.before.before.before.before.requires in
     let a = c.before.before.before.before.before.before.before.before.before.before.before.before.before.before.before.before.before.before.before.before.before.before.before.before.before.before.before.args in
-    omega (arith, some-few a.sizes.now a.vias.now a.uppers.now a.lowers.now a.order.now a.turn.now a.upper.now a.places.now a.codes.now pre.0 pre.1, pre.1.order-long)
+    omega (arith, some-few a.sizes.now a.vias.now a.uppers.now a.lowers.now a.order.now a.turn.now a.upper.now a.places.now a.codes.now pre.0 pre.1, pre.1.order_long)
 
 share-levels-requires : tie.Need-share-levels-requires
 share-levels-requires c κs =

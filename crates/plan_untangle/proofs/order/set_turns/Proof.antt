@@ -19,13 +19,13 @@ loop-holds : tie.Need-loop-init invariant-loop decreases-loop
 loop-holds c = turning-start c.before.before.before.args.vias.now c.before.before.before.args.upper.now c.before.before.before.args.turn.now
 
 mul_wide : tie.Need-overflow-mul-wide invariant-loop decreases-loop
-mul_wide c = omega (arith, c.before.loop.invariant.long, c.before.before.before.before.before.requires.uppers-long, c.loop-test.true)
+mul_wide c = omega (arith, c.before.loop.invariant.long, c.before.before.before.before.before.requires.uppers_long, c.loop-test.true)
 
 shared-slice-read-wide : tie.Need-shared-slice-read-wide invariant-loop decreases-loop
-shared-slice-read-wide c = omega (arith, c.before.before.loop.invariant.long, c.before.before.before.before.before.before.requires.uppers-long, c.before.loop-test.true)
+shared-slice-read-wide c = omega (arith, c.before.before.loop.invariant.long, c.before.before.before.before.before.before.requires.uppers_long, c.before.loop-test.true)
 
 shared-slice-read-turn-of : tie.Need-shared-slice-read-turn-of invariant-loop decreases-loop
-shared-slice-read-turn-of c = omega (arith, c.before.before.before.before.loop.invariant.long, c.before.before.before.before.before.before.before.before.requires.vias-long, c.before.before.before.loop-test.true)
+shared-slice-read-turn-of c = omega (arith, c.before.before.before.before.loop.invariant.long, c.before.before.before.before.before.before.before.before.requires.vias_long, c.before.before.before.loop-test.true)
 
 shared-slice-read-turn-of-2 : tie.Need-shared-slice-read-turn-of-2 invariant-loop decreases-loop
 shared-slice-read-turn-of-2 c =
@@ -33,7 +33,7 @@ shared-slice-read-turn-of-2 c =
     let pre = c.before.before.before.before.before.before.before.before.before.requires in
     let loop = c.before.before.before.before.before.loop in
     let loop-test = c.before.before.before.before.loop-test in
-    omega (arith, wide.ensures, pre.ends loop.v (omega (arith, loop.invariant.long, pre.uppers-long, loop-test.true)), pre.vias-long)
+    omega (arith, wide.ensures, pre.ends loop.v (omega (arith, loop.invariant.long, pre.uppers_long, loop-test.true)), pre.vias_long)
 
 loop-less : tie.Need-loop-smaller invariant-loop decreases-loop
 loop-less c = omega (arith, c.before.before.before.before.before.before.before.loop.invariant.long, c.before.before.before.before.before.before.loop-test.true)

@@ -60,7 +60,7 @@ add-end c =
 cast-share-level : tie.Need-overflow-cast-share-level invariant-loop decreases-loop
 cast-share-level c =
     let pre = c.before.before.before.before.before.before.before.before.before.before.before.before.requires in
-    omega (arith, c.before.before.before.before.loop-test.true, (limits pre.0.plan pre.0.tables.limits).levels-high, pre.0.tables.levelsAre)
+    omega (arith, c.before.before.before.before.loop-test.true, (limits pre.0.plan pre.0.tables.limits).levels_high, pre.0.tables.levels_are)
 
 share-level-requires : tie.Need-share-level-requires invariant-loop decreases-loop
 share-level-requires c κs =
@@ -75,7 +75,7 @@ share-level-requires c κs =
 add-l : tie.Need-overflow-add-l invariant-loop decreases-loop
 add-l c =
     let pre = c.before.before.before.before.before.before.before.before.before.before.before.before.before.before.before.before.before.before.before.before.before.before.requires in
-    omega (arith, c.before.before.before.before.before.before.before.before.before.before.before.before.before.before.loop-test.true, (limits pre.0.plan pre.0.tables.limits).levels-high, pre.0.tables.levelsAre)
+    omega (arith, c.before.before.before.before.before.before.before.before.before.before.before.before.before.before.loop-test.true, (limits pre.0.plan pre.0.tables.limits).levels_high, pre.0.tables.levels_are)
 
 loop-less : tie.Need-loop-smaller invariant-loop decreases-loop
 loop-less c = omega (arith, c.before.before.before.before.before.before.before.before.before.before.before.before.before.before.loop-test.true)
@@ -92,13 +92,13 @@ loop-again c =
     share-level.auto.1.1.1.0 share-level.auto.1.1.1.1.1.1.0 share-level.auto.1.1.1.1.1.1.1.0 share-level.ensures
 
 same_length : tie.Need-same-length invariant-loop decreases-loop
-same_length c = c.before.loop.invariant.order-long
+same_length c = c.before.loop.invariant.order_long
 
 same-length-2 : tie.Need-same-length-2 invariant-loop decreases-loop
-same-length-2 c = c.before.loop.invariant.places-long
+same-length-2 c = c.before.loop.invariant.places_long
 
 same-length-3 : tie.Need-same-length-3 invariant-loop decreases-loop
-same-length-3 c = c.before.loop.invariant.codes-long
+same-length-3 c = c.before.loop.invariant.codes_long
 
 returns : tie.Need-returns invariant-loop decreases-loop
 returns c =

@@ -4,14 +4,14 @@ use Prim.Native.Nat.{◌-◌, ◌+◌, ◌<◌}
 use mathlib.Core.Path.{◌≡◌, sym}
 use native.Mathlib.Omega.{arith}
 use lib.ListN.{length}
-use Rattle.plan.specs.Segments.{segmentsFrom}
+use Rattle.plan.specs.Segments.{segments_from}
 use Rattle.plan.proofs.SegmentLaws.{segments-count}
 use Rattle.plan_untangle.proofs.Tables.{Ending, ending-start, ending-on, ending-end}
 use Rattle.plan_untangle.proofs.order.upper_ends.Statement.{statement}
 use Rattle.plan_untangle.proofs.order.upper_ends.Tie as tie
 
 abbrev invariant-loop : tie.invariant-loop
-invariant-loop uppers lowers upper₀ i₀ upper i = Ending (segmentsFrom uppers lowers) upper₀ upper i
+invariant-loop uppers lowers upper₀ i₀ upper i = Ending (segments_from uppers lowers) upper₀ upper i
 
 abbrev decreases-loop : tie.decreases-loop
 decreases-loop uppers lowers upper₀ i₀ upper i = i
@@ -40,7 +40,7 @@ cast-upper c =
     let loop = c.before.before.before.loop in
     let args = c.before.before.before.before.args in
     let loop-test = c.before.before.loop-test in
-    omega (arith, pre.upperEnds (loop.i - 1) (omega (arith, loop.invariant.within, segments-count args.uppers.now args.lowers.now (sym pre.ends), loop-test.true)), pre.few)
+    omega (arith, pre.upper_ends (loop.i - 1) (omega (arith, loop.invariant.within, segments-count args.uppers.now args.lowers.now (sym pre.ends), loop-test.true)), pre.few)
 
 mul-upper-2 : tie.Need-overflow-mul-upper-2 invariant-loop decreases-loop
 mul-upper-2 c =
@@ -48,7 +48,7 @@ mul-upper-2 c =
     let loop = c.before.before.before.loop in
     let args = c.before.before.before.before.args in
     let loop-test = c.before.before.loop-test in
-    omega (arith, pre.lowerEnds (loop.i - 1) (omega (arith, loop.invariant.within, segments-count args.uppers.now args.lowers.now (sym pre.ends), pre.ends, loop-test.true)), loop.invariant.long)
+    omega (arith, pre.lower_ends (loop.i - 1) (omega (arith, loop.invariant.within, segments-count args.uppers.now args.lowers.now (sym pre.ends), pre.ends, loop-test.true)), loop.invariant.long)
 
 slice-write-upper : tie.Need-slice-write-upper invariant-loop decreases-loop
 slice-write-upper c =
@@ -56,7 +56,7 @@ slice-write-upper c =
     let loop = c.before.before.before.loop in
     let args = c.before.before.before.before.args in
     let loop-test = c.before.before.loop-test in
-    omega (arith, pre.lowerEnds (loop.i - 1) (omega (arith, loop.invariant.within, segments-count args.uppers.now args.lowers.now (sym pre.ends), pre.ends, loop-test.true)), loop.invariant.long)
+    omega (arith, pre.lower_ends (loop.i - 1) (omega (arith, loop.invariant.within, segments-count args.uppers.now args.lowers.now (sym pre.ends), pre.ends, loop-test.true)), loop.invariant.long)
 
 loop-again : tie.Need-loop-preserved invariant-loop decreases-loop
 loop-again c =
@@ -68,7 +68,7 @@ loop-again c =
     let i = loop.i - 1 in
     let e : loop.i ≡ i + 1 = omega (arith, loop-test.true) in
     let h : i < length a.uppers.now = omega (arith, loop.invariant.within, segments-count a.uppers.now a.lowers.now (sym g.ends), loop-test.true) in
-    ending-on a.uppers.now a.lowers.now a.upper.now loop.upper i g.ends (rw e at loop.invariant) h (g.lowerEnds i (omega (arith, g.ends)))
+    ending-on a.uppers.now a.lowers.now a.upper.now loop.upper i g.ends (rw e at loop.invariant) h (g.lower_ends i (omega (arith, g.ends)))
 
 same_length : tie.Need-same-length invariant-loop decreases-loop
 same_length c = c.before.loop.invariant.long

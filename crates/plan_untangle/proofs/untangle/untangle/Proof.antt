@@ -53,15 +53,15 @@ untangle-by-requires c κs =
       pre.0,
       record {
         tables = record {
-          order-long = pre.1.numbers-long;
-          turns-long = length-take-le _ _ w.vertices;
-          uppers-long = length-take-le _ _ w.vertices;
-          places-long = length-take-le _ _ w.vertices;
+          order_long = pre.1.numbers_long;
+          turns_long = length-take-le _ _ w.vertices;
+          uppers_long = length-take-le _ _ w.vertices;
+          places_long = length-take-le _ _ w.vertices;
           enough = at_least _ _ (length-take-le _ _ w.vertices);
         };
         halves_long = pre.1.halves_long;
         rated = pre.1.rated;
-        keys-long = length-take-le _ _ w.segments;
+        keys_long = length-take-le _ _ w.segments;
         flags_long = length-take-le _ _ w.vertices;
       },
     )

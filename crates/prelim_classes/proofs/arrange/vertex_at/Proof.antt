@@ -1,4 +1,4 @@
--- `prelim_classes::arrange::vertex_at` meets its contract: its test is that of `vertexBy`.
+-- `prelim_classes::arrange::vertex_at` meets its contract: its test is that of `vertex_by`.
 use borrow.Author.Rules.{rules}
 use Rattle.prelim_classes.proofs.arrange.vertex_at.Statement.{statement}
 use Rattle.prelim_classes.proofs.arrange.vertex_at.Tie as tie

@@ -4,7 +4,7 @@ use mathlib.Core.Path.{◌≡◌, refl, sym, ◌∙◌}
 use native.Mathlib.Omega.{arith}
 use lib.ListN.{length, drop, length-set}
 use lib.Seq.{sets}
-use Rattle.prelim_classes.specs.inner.Arranged.{levelBy}
+use Rattle.prelim_classes.specs.inner.Arranged.{level_by}
 use Rattle.prelim_classes.proofs.ArrangeLaws.{sets-on, sets_end, level-long, level-at, level-below}
 use borrow.Author.Rules.{rules}
 use Rattle.prelim_classes.proofs.arrange.write_order.Statement.{statement}
@@ -14,7 +14,7 @@ use Rattle.prelim_classes.proofs.arrange.write_order.Lts as lts
 use Rattle.prelim_classes.proofs.arrange.vertex_at.Reads as vertex-at-reads
 
 abbrev invariant-loop : tie.invariant-loop
-invariant-loop reversed v n order₀ j₀ order j = (j ≤ n) × (length order ≡ length order₀) × (sets order (v + j) (drop j (levelBy reversed v n)) ≡ sets order₀ v (levelBy reversed v n))
+invariant-loop reversed v n order₀ j₀ order j = (j ≤ n) × (length order ≡ length order₀) × (sets order (v + j) (drop j (level_by reversed v n)) ≡ sets order₀ v (level_by reversed v n))
 
 abbrev decreases-loop : tie.decreases-loop
 decreases-loop reversed v n order₀ j₀ order j = n - j
@@ -30,10 +30,10 @@ loop-again c =
     let a = c.before.before.before.before.args in
     let l = c.before.before.loop in
     let is = c.vertex-at.ensures ∙ sym (level-at a.reversed a.v a.n l.j (omega arith)) in
-    (omega arith, simp length-set l.invariant.1, sym (sets-on l.order (a.v + l.j) (a.v + (l.j + 1)) l.j (levelBy a.reversed a.v a.n) c.vertex-at.result (omega (arith, level-long a.reversed a.v a.n)) (omega arith) is) ∙ l.invariant.2)
+    (omega arith, simp length-set l.invariant.1, sym (sets-on l.order (a.v + l.j) (a.v + (l.j + 1)) l.j (level_by a.reversed a.v a.n) c.vertex-at.result (omega (arith, level-long a.reversed a.v a.n)) (omega arith) is) ∙ l.invariant.2)
 
 returns : tie.Need-returns invariant-loop decreases-loop
-returns c = let a = c.before.before.before.args in let l = c.before.loop in sym (sets_end l.order (a.v + l.j) l.j (levelBy a.reversed a.v a.n) (omega (arith, level-long a.reversed a.v a.n))) ∙ l.invariant.2
+returns c = let a = c.before.before.before.args in let l = c.before.loop in sym (sets_end l.order (a.v + l.j) l.j (level_by a.reversed a.v a.n) (omega (arith, level-long a.reversed a.v a.n))) ∙ l.invariant.2
 
 pub write-order-spec : {M : Type 1} → statement M
 write-order-spec =

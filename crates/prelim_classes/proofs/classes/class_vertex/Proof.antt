@@ -1,4 +1,4 @@
--- `prelim_classes::classes::class_vertex` meets its contract: its test is that of `classesAfter`.
+-- `prelim_classes::classes::class_vertex` meets its contract: its test is that of `classes_after`.
 use mathlib.Core.Path.{refl}
 use borrow.Author.Tests.{eq-eqb, ne_eqb}
 use borrow.Author.Rules.{rules}

@@ -7,9 +7,9 @@ use Rattle.preliminary.specs.Classes.{give}
 use mathlib.Core.List.{List}
 use native.Mathlib.Omega.{arith}
 use lib.ListN.{length, get_or}
-use Rattle.plan.specs.inner.Distances.{distanceBy}
+use Rattle.plan.specs.inner.Distances.{distance_by}
 use Rattle.prelim_classes.specs.inner.Links.{chain}
-use Rattle.preliminary.specs.Place.{markAll}
+use Rattle.preliminary.specs.Place.{mark_all}
 use Rattle.prelim_classes.specs.inner.Walks.{unbegun, Placeable}
 use Rattle.prelim_classes.proofs.PlaceLaws.{still, begin-falls, begun-placeable, strand-kept, strand-placed, strand-kept-already, strand-placed-already, siblings-kept-none, siblings-placed-none, member-long, siblings-placed-without, siblings-placed-with, siblings-kept-with, near}
 use borrow.Author.Rules.{rules}
@@ -183,7 +183,7 @@ place-siblings-returns-3 t c =
     let k = c.before.before.before.before.before.before.before.before.before.before.before.before.before.before.place-strand.ensures.0 in
     let at1 = c.before.before.before.before.before.before.before.before.before.before.before.before.before.before.place-strand.new.1.1.1.1.1.1.0 in
     let begun1 = c.before.before.before.before.before.before.before.before.before.before.before.before.before.before.place-strand.new.1.1.1.1.1.1.1.0 in
-    let asked : c.before.before.before.before.before.before.before.greater.result ≡ max a.most (get_or at1 (get_or a.sibling.now a.w 0) 0 + distanceBy a.gap a.halves.now (get_or a.sibling.now a.w 0) a.w) = rw (c.before.before.before.before.before.before.before.before.distance.ensures, c.before.before.before.before.before.before.before.before.before.before.before.before.before.before.before.before.before.before.before.before.wide.ensures) at c.before.before.before.before.before.before.before.greater.ensures in
+    let asked : c.before.before.before.before.before.before.before.greater.result ≡ max a.most (get_or at1 (get_or a.sibling.now a.w 0) 0 + distance_by a.gap a.halves.now (get_or a.sibling.now a.w 0) a.w) = rw (c.before.before.before.before.before.before.before.before.distance.ensures, c.before.before.before.before.before.before.before.before.before.before.before.before.before.before.before.before.before.before.before.before.wide.ensures) at c.before.before.before.before.before.before.before.greater.ensures in
     let kept = rw asked at c.before.before.before.before.place-siblings2.ensures.0 in
     let placed = rw (asked, c.before.before.before.before.before.before.before.before.before.before.before.before.before.before.before.before.before.before.wide2.ensures) at c.before.before.before.before.place-siblings2.ensures.1 in (
       siblings-kept-with a.gap a.halves.now a.next.now a.top.now a.sibling.now a.at.now a.begun.now p a.w c.before.before.before.before.before.before.before.before.before.before.before.before.before.before.before.before.before.before.before.before.before.before.if1.false (rw c.before.before.before.before.before.before.before.before.before.before.before.before.before.before.before.before.before.before.before.before.wide.ensures at c.before.before.before.before.before.before.before.before.before.before.before.before.before.before.before.before.before.if2.false) a.most _ at1 begun1 _ _ k kept,
@@ -216,7 +216,7 @@ place-strand-place-siblings-requires t c κs =
     let a = c.before.before.before.before.before.before.before.before.before.before.before.before.before.before.before.before.args in
     let p = c.before.before.before.before.before.before.before.before.before.before.before.before.before.before.before.before.requires.1.0 in
     let f = c.before.before.before.before.before.before.wide.ensures in
-    let b : c.before.before.before.before.mark.new.1.1.0 ≡ markAll (chain a.next.now (get_or a.top.now a.v 0)) a.begun.now = rw f at c.before.before.before.before.mark.ensures in
+    let b : c.before.before.before.before.mark.new.1.1.0 ≡ mark_all (chain a.next.now (get_or a.top.now a.v 0)) a.begun.now = rw f at c.before.before.before.before.mark.ensures in
     let less = begin-falls a.gap a.halves.now a.next.now a.top.now a.sibling.now a.at.now a.begun.now p a.v c.before.before.before.before.before.before.before.before.before.before.before.before.before.before.before.before.requires.1.1 c.before.before.before.before.before.before.before.before.if1.false in (
       omega (arith, less, c.before.before.before.before.before.before.before.before.before.before.before.before.before.before.before.before.requires.0, ap unbegun b, ap (λ (x : ℕ). length (chain a.next.now x)) f),
       subst (λ (x : List Bool). Placeable a.gap a.halves.now a.next.now a.top.now a.sibling.now a.at.now x) (sym b)
@@ -237,7 +237,7 @@ place-strand-returns-2 t c =
     let a = c.before.before.before.before.before.before.before.before.before.before.before.before.before.before.before.before.before.before.before.before.before.before.before.before.before.args in
     let p = c.before.before.before.before.before.before.before.before.before.before.before.before.before.before.before.before.before.before.before.before.before.before.before.before.before.requires.1.0 in
     let f = c.before.before.before.before.before.before.before.before.before.before.before.before.before.before.before.wide.ensures in
-    let b : c.before.before.before.before.before.before.before.before.before.before.before.before.before.mark.new.1.1.0 ≡ markAll (chain a.next.now (get_or a.top.now a.v 0)) a.begun.now = rw f at c.before.before.before.before.before.before.before.before.before.before.before.before.before.mark.ensures in
+    let b : c.before.before.before.before.before.before.before.before.before.before.before.before.before.mark.new.1.1.0 ≡ mark_all (chain a.next.now (get_or a.top.now a.v 0)) a.begun.now = rw f at c.before.before.before.before.before.before.before.before.before.before.before.before.before.mark.ensures in
     let at1 = c.before.before.before.before.before.before.before.before.place-siblings.new.1.1.1.1.1.1.1.0 in
     let begun1 = c.before.before.before.before.before.before.before.before.place-siblings.new.1.1.1.1.1.1.1.1.0 in
     let r = c.before.before.before.before.before.before.before.before.place-siblings.result in

@@ -1,4 +1,4 @@
--- `prelim_classes::siblings::same_class` meets its contract: its test is that of `sameClass`.
+-- `prelim_classes::siblings::same_class` meets its contract: its test is that of `same_class`.
 use borrow.Author.Tests.{eq-eqb, ne_eqb}
 use borrow.Author.Rules.{rules}
 use Rattle.prelim_classes.proofs.siblings.same_class.Statement.{statement}

@@ -4,7 +4,7 @@ use mathlib.Core.Path.{◌≡◌, sym, ◌∙◌, ap, subst}
 use mathlib.Core.List.{List}
 use native.Mathlib.Omega.{arith}
 use lib.ListN.{length, get_or, set, length-replicate}
-use Rattle.prelim_classes.specs.inner.Walks.{sameClass}
+use Rattle.prelim_classes.specs.inner.Walks.{same_class}
 use Rattle.prelim_classes.proofs.SiblingLaws.{SiblingsFrom, siblings-start, siblings-on}
 use borrow.Author.Rules.{rules}
 use Rattle.prelim_classes.proofs.siblings.siblings.Statement.{statement}
@@ -37,7 +37,7 @@ loop-again c =
     let i = l.i - 1 in
     let e : l.i ≡ i + 1 = omega arith in
     let w = subst (λ (x : ℕ). SiblingsFrom a.order.now a.right.now a.classes.now l.sibling x) e l.invariant.2 in
-    let now : c.before.before.write-sibling.new.1.1.1.0 ≡ set l.sibling (get_or a.right.now i 0) (sameClass (get_or a.order.now i 0) (get_or a.right.now i 0) a.classes.now) = rw c.before.before.before.before.wide.ensures at c.before.before.write-sibling.ensures in (
+    let now : c.before.before.write-sibling.new.1.1.1.0 ≡ set l.sibling (get_or a.right.now i 0) (same_class (get_or a.order.now i 0) (get_or a.right.now i 0) a.classes.now) = rw c.before.before.before.before.wide.ensures at c.before.before.write-sibling.ensures in (
       omega arith,
       c.before.before.write-sibling.auto.1.1.1.0 ∙ l.invariant.1,
       subst (λ (x : List ℕ). SiblingsFrom a.order.now a.right.now a.classes.now x i) (sym now)

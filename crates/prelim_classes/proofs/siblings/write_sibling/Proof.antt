@@ -4,7 +4,7 @@ use mathlib.Core.Path.{sym, ap}
 use lib.ListN.{set}
 use lib.Seq.{set_out}
 use borrow.Author.Rules.{rules}
-use Rattle.prelim_classes.specs.inner.Walks.{sameClass}
+use Rattle.prelim_classes.specs.inner.Walks.{same_class}
 use Rattle.prelim_classes.proofs.siblings.write_sibling.Statement.{statement}
 use Rattle.prelim_classes.proofs.siblings.write_sibling.Tie as tie
 use Rattle.prelim_classes.proofs.siblings.write_sibling.Reads as reads
@@ -15,7 +15,7 @@ returns : tie.Need-returns
 returns c = ap (λ (x : ℕ). set c.before.before.before.before.args.sibling.now c.before.before.before.before.args.v x) c.same_Class.ensures
 
 returns-2 : tie.Need-returns-2
-returns-2 c = let a = c.before.before.before.args in sym (set_out a.sibling.now a.v (sameClass a.u a.v a.classes.now) c.if1.false)
+returns-2 c = let a = c.before.before.before.args in sym (set_out a.sibling.now a.v (same_class a.u a.v a.classes.now) c.if1.false)
 
 pub write-sibling-spec : {M : Type 1} → statement M
 write-sibling-spec = tie.close

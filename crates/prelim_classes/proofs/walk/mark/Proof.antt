@@ -4,7 +4,7 @@ use mathlib.Core.Path.{◌≡◌, refl, sym, ◌∙◌}
 use native.Mathlib.Omega.{arith}
 use lib.ListN.{length, length-set}
 use Rattle.prelim_classes.specs.inner.Links.{chain}
-use Rattle.preliminary.specs.Place.{markAll}
+use Rattle.preliminary.specs.Place.{mark_all}
 use Rattle.prelim_classes.proofs.ChainLaws.{mark_on, mark-end}
 use borrow.Author.Rules.{rules}
 use Rattle.prelim_classes.proofs.walk.mark.Statement.{statement}
@@ -14,7 +14,7 @@ use Rattle.prelim_classes.proofs.walk.mark.Lts as lts
 use Rattle.ints.proofs.wide.Reads as wide-reads
 
 abbrev invariant-loop : tie.invariant-loop
-invariant-loop top next begun₀ v₀ begun v = (length begun ≡ length begun₀) × (markAll (chain next v) begun ≡ markAll (chain next top) begun₀)
+invariant-loop top next begun₀ v₀ begun v = (length begun ≡ length begun₀) × (mark_all (chain next v) begun ≡ mark_all (chain next top) begun₀)
 
 abbrev decreases-loop : tie.decreases-loop
 decreases-loop top next begun₀ v₀ begun v = length next - v

@@ -4,7 +4,7 @@ use mathlib.Core.Path.{◌≡◌, sym, ◌∙◌, ap}
 use mathlib.Core.List.{List}
 use native.Mathlib.Omega.{arith}
 use lib.ListN.{length, replicate, length-replicate}
-use Rattle.preliminary.specs.Classes.{classesFrom}
+use Rattle.preliminary.specs.Classes.{classes_from}
 use Rattle.prelim_classes.specs.inner.Strands.{StrandsBy}
 use Rattle.prelim_classes.proofs.StrungLaws.{ready}
 use Rattle.prelim_classes.specs.inner.Walks.{cut}
@@ -55,7 +55,7 @@ shift-requires c κs =
     let right = c.before.before.before.before.before.before.before.before.before.before.before.before.before.before.before.before.before.before.before.arrange.new.1.1.1.0 in
     let classes = c.before.before.before.before.before.before.before.before.before.before.before.before.class.new.1.1.1.1.0 in
     let lc = c.before.before.before.before.before.before.before.before.before.before.before.before.class.auto.1.1.1.1.0 ∙ ap length f.unclassed ∙ length-replicate n 0 in
-    let known : (strand : ℕ → List ℕ) → StrandsBy strand a.next.now a.top.now → classes ≡ classesFrom strand 1 (cut a.sizes.now order) (replicate n 0) = λ strand s. c.before.before.before.before.before.before.before.before.before.before.before.before.class.ensures strand s ∙ ap (classesFrom strand 1 (cut a.sizes.now order)) f.unclassed in
+    let known : (strand : ℕ → List ℕ) → StrandsBy strand a.next.now a.top.now → classes ≡ classes_from strand 1 (cut a.sizes.now order) (replicate n 0) = λ strand s. c.before.before.before.before.before.before.before.before.before.before.before.before.class.ensures strand s ∙ ap (classes_from strand 1 (cut a.sizes.now order)) f.unclassed in
     let most = classed a.gap a.sizes.now a.halves.now a.next.now a.top.now a.uppers.now a.lowers.now r order classes known in (
       to-shift a.gap a.sizes.now a.halves.now a.next.now a.top.now a.uppers.now a.lowers.now r a.reversed order right c.before.before.before.before.before.before.before.before.before.before.before.before.before.before.before.before.before.before.before.arrange.ensures.0 (c.before.before.before.before.before.before.before.before.before.before.before.before.before.before.before.before.before.before.before.arrange.auto.1.1.0 ∙ f.orders) classes (c.before.before.before.before.before.before.before.before.before.before.before.before.before.before.before.before.before.before.before.arrange.auto.1.1.1.0 ∙ f.rights) lc most,
       (r.levels, c.before.before.before.before.before.stand.auto.1.1.1.1.1.1.1.0 ∙ f.places ∙ sym lc, spread-start a.gap a.halves.now a.next.now a.top.now order right classes c.before.before.before.before.before.stand.new.1.1.1.1.1.1.1.0 c.before.before.before.before.before.stand.ensures),
@@ -83,7 +83,7 @@ returns c =
     let right = c.before.before.before.before.before.before.before.before.before.before.before.before.before.before.before.before.before.before.before.before.before.arrange.new.1.1.1.0 in
     let classes = c.before.before.before.before.before.before.before.before.before.before.before.before.before.before.class.new.1.1.1.1.0 in
     let lc = c.before.before.before.before.before.before.before.before.before.before.before.before.before.before.class.auto.1.1.1.1.0 ∙ ap length f.unclassed ∙ length-replicate n 0 in
-    let known : (strand : ℕ → List ℕ) → StrandsBy strand a.next.now a.top.now → classes ≡ classesFrom strand 1 (cut a.sizes.now order) (replicate n 0) = λ strand s. c.before.before.before.before.before.before.before.before.before.before.before.before.before.before.class.ensures strand s ∙ ap (classesFrom strand 1 (cut a.sizes.now order)) f.unclassed in
+    let known : (strand : ℕ → List ℕ) → StrandsBy strand a.next.now a.top.now → classes ≡ classes_from strand 1 (cut a.sizes.now order) (replicate n 0) = λ strand s. c.before.before.before.before.before.before.before.before.before.before.before.before.before.before.class.ensures strand s ∙ ap (classes_from strand 1 (cut a.sizes.now order)) f.unclassed in
     side-is a.gap a.sizes.now a.halves.now a.next.now a.top.now a.uppers.now a.lowers.now r a.reversed order right c.before.before.before.before.before.before.before.before.before.before.before.before.before.before.before.before.before.before.before.before.before.arrange.ensures.0 (c.before.before.before.before.before.before.before.before.before.before.before.before.before.before.before.before.before.before.before.before.before.arrange.auto.1.1.0 ∙ f.orders) classes (c.before.before.before.before.before.before.before.before.before.before.before.before.before.before.before.before.before.before.before.before.before.arrange.auto.1.1.1.0 ∙ f.rights) lc
     c.before.before.before.before.before.before.before.stand.new.1.1.1.1.1.1.1.0 c.before.shift.new.1.1.1.1.1.1.1.1.0 c.before.before.before.before.before.before.before.before.before.before.before.before.before.before.before.before.before.before.before.before.before.arrange.ensures.1 known c.before.before.before.before.before.before.before.stand.ensures c.before.shift.ensures
 

@@ -1,4 +1,4 @@
--- `prelim_shifts::keys::gap_key` meets its contract: its tests are those of `gapKey`.
+-- `prelim_shifts::keys::gap_key` meets its contract: its tests are those of `gap_key`.
 use borrow.Author.Tests.{lt-ltb, le-ltb, eq-eqb, ne_eqb}
 use borrow.Author.Rules.{rules}
 use Rattle.prelim_shifts.proofs.keys.gap_key.Statement.{statement}

@@ -4,7 +4,7 @@ use mathlib.Core.Path.{◌≡◌, sym, ◌∙◌, ap}
 use native.Mathlib.Omega.{arith}
 use lib.ListN.{length, get_or, length-replicate}
 use Rattle.prelim_classes.proofs.ChainLaws.{Linking}
-use Rattle.prelim_shifts.specs.inner.Shifts.{gapKey, keysBy}
+use Rattle.prelim_shifts.specs.inner.Shifts.{gap_key, keys_by}
 use Rattle.prelim_shifts.proofs.KeyLaws.{keyed-start, keyed-next, keyed-end, heads-none, gap-key-small}
 use borrow.Author.Rules.{rules}
 use Rattle.prelim_shifts.proofs.keys.link_pairs.Statement.{statement}
@@ -17,7 +17,7 @@ use Rattle.prelim_classes.proofs.links.put_first.Reads as put-first-reads
 use Rattle.ints.proofs.wide.Reads as wide-reads
 
 abbrev invariant-loop : tie.invariant-loop
-invariant-loop order right classes head₀ link₀ i₀ head link i = (i ≤ length order) × (length head ≡ 65) × (length link ≡ length order) × Linking (keysBy (gapKey classes) order right) head link i
+invariant-loop order right classes head₀ link₀ i₀ head link i = (i ≤ length order) × (length head ≡ 65) × (length link ≡ length order) × Linking (keys_by (gap_key classes) order right) head link i
 
 abbrev decreases-loop : tie.decreases-loop
 decreases-loop order right classes head₀ link₀ i₀ head link i = i
@@ -27,7 +27,7 @@ loop-holds c =
     let a = c.before.before.before.before.before.args in
     let p = c.before.before.before.before.before.requires.0 in
     let q = c.before.before.before.before.before.requires.1 in
-    (omega arith, ap length q.3 ∙ length-replicate {A = ℕ} 65 2048, q.2 ∙ sym p.0, keyed-start (gapKey a.classes.now) a.order.now a.right.now a.head.now a.link.now (p.1 ∙ sym p.0) (q.2 ∙ sym p.0) (omega (arith, p.0, p.2)) (heads-none a.head.now q.3))
+    (omega arith, ap length q.3 ∙ length-replicate {A = ℕ} 65 2048, q.2 ∙ sym p.0, keyed-start (gap_key a.classes.now) a.order.now a.right.now a.head.now a.link.now (p.1 ∙ sym p.0) (q.2 ∙ sym p.0) (omega (arith, p.0, p.2)) (heads-none a.head.now q.3))
 
 gap-key-requires : tie.Need-gap-key-requires invariant-loop decreases-loop
 gap-key-requires c κs = rw c.before.before.wide.ensures (c.before.before.before.before.before.before.before.before.before.before.before.requires.1.0 (c.before.before.before.before.before.loop.i - 1) (omega arith))
@@ -51,7 +51,7 @@ loop-again c =
       omega arith,
       f.auto.1.1.0 ∙ l.invariant.1,
       f.auto.1.1.1.0 ∙ l.invariant.2,
-      keyed-next (gapKey a.classes.now) a.order.now a.right.now l.head l.link (p.1 ∙ sym p.0) l.invariant.2 l.i (omega arith) (omega arith) l.invariant.3 c.before.before.before.before.before.before.before.index.result k
+      keyed-next (gap_key a.classes.now) a.order.now a.right.now l.head l.link (p.1 ∙ sym p.0) l.invariant.2 l.i (omega arith) (omega arith) l.invariant.3 c.before.before.before.before.before.before.before.index.result k
           (omega (arith, k, gap-key-small 64 a.classes.now c.before.before.before.before.before.before.before.before.before.before.before.before.before.before.before.before.before.before.before.before.requires.1.1 (get_or a.order.now (l.i - 1) 0) (get_or a.right.now (l.i - 1) 0), l.invariant.1)) _ _ f.ensures.0 f.ensures.1,
     )
 
@@ -67,7 +67,7 @@ returns c =
     let p = c.before.before.before.before.before.before.before.requires.0 in
     let l = c.before.loop in
     let z : l.i ≡ 0 = omega arith in
-    keyed-end (gapKey a.classes.now) a.order.now a.right.now l.head l.link (p.1 ∙ sym p.0) l.invariant.2 (rw z at l.invariant.3)
+    keyed-end (gap_key a.classes.now) a.order.now a.right.now l.head l.link (p.1 ∙ sym p.0) l.invariant.2 (rw z at l.invariant.3)
 
 pub link-pairs-spec : {M : Type 1} → statement M
 link-pairs-spec =

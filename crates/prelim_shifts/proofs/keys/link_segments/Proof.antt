@@ -4,7 +4,7 @@ use mathlib.Core.Path.{◌≡◌, sym, ◌∙◌, ap}
 use native.Mathlib.Omega.{arith}
 use lib.ListN.{length, get_or, length-replicate}
 use Rattle.prelim_classes.proofs.ChainLaws.{Linking}
-use Rattle.prelim_shifts.specs.inner.Shifts.{offsetKey, keysBy}
+use Rattle.prelim_shifts.specs.inner.Shifts.{offset_key, keys_by}
 use Rattle.prelim_shifts.proofs.KeyLaws.{keyed-start, keyed-next, keyed-end, heads-none, offset-key-small}
 use borrow.Author.Rules.{rules}
 use Rattle.prelim_shifts.proofs.keys.link_segments.Statement.{statement}
@@ -16,7 +16,7 @@ use Rattle.prelim_classes.proofs.links.index.Reads as index_Reads
 use Rattle.prelim_classes.proofs.links.put_first.Reads as put-first-reads
 
 abbrev invariant-loop : tie.invariant-loop
-invariant-loop uppers lowers classes head₀ link₀ i₀ head link i = (i ≤ length uppers) × (length head ≡ 65) × (length link ≡ length uppers) × Linking (keysBy (offsetKey classes) uppers lowers) head link i
+invariant-loop uppers lowers classes head₀ link₀ i₀ head link i = (i ≤ length uppers) × (length head ≡ 65) × (length link ≡ length uppers) × Linking (keys_by (offset_key classes) uppers lowers) head link i
 
 abbrev decreases-loop : tie.decreases-loop
 decreases-loop uppers lowers classes head₀ link₀ i₀ head link i = i
@@ -26,7 +26,7 @@ loop-holds c =
     let a = c.before.before.before.before.before.args in
     let p = c.before.before.before.before.before.requires.0 in
     let q = c.before.before.before.before.before.requires.1 in
-    (omega arith, ap length q.2 ∙ length-replicate {A = ℕ} 65 2048, q.1, keyed-start (offsetKey a.classes.now) a.uppers.now a.lowers.now a.head.now a.link.now (sym p.0) q.1 p.1 (heads-none a.head.now q.2))
+    (omega arith, ap length q.2 ∙ length-replicate {A = ℕ} 65 2048, q.1, keyed-start (offset_key a.classes.now) a.uppers.now a.lowers.now a.head.now a.link.now (sym p.0) q.1 p.1 (heads-none a.head.now q.2))
 
 offset-key-requires : tie.Need-offset-key-requires invariant-loop decreases-loop
 offset-key-requires c κs =
@@ -53,7 +53,7 @@ loop-again c =
       omega arith,
       f.auto.1.1.0 ∙ l.invariant.1,
       f.auto.1.1.1.0 ∙ l.invariant.2,
-      keyed-next (offsetKey a.classes.now) a.uppers.now a.lowers.now l.head l.link (sym p.0) l.invariant.2 l.i (omega arith) (omega arith) l.invariant.3 c.before.before.before.before.before.before.before.index3.result k
+      keyed-next (offset_key a.classes.now) a.uppers.now a.lowers.now l.head l.link (sym p.0) l.invariant.2 l.i (omega arith) (omega arith) l.invariant.3 c.before.before.before.before.before.before.before.index3.result k
           (omega (arith, k, offset-key-small 64 a.classes.now c.before.before.before.before.before.before.before.before.before.before.before.before.before.before.before.before.before.before.before.before.requires.1.0 (get_or a.uppers.now (l.i - 1) 0) (get_or a.lowers.now (l.i - 1) 0), l.invariant.1)) _ _ f.ensures.0 f.ensures.1,
     )
 
@@ -69,7 +69,7 @@ returns c =
     let p = c.before.before.before.before.before.before.before.requires.0 in
     let l = c.before.loop in
     let z : l.i ≡ 0 = omega arith in
-    keyed-end (offsetKey a.classes.now) a.uppers.now a.lowers.now l.head l.link (sym p.0) l.invariant.2 (rw z at l.invariant.3)
+    keyed-end (offset_key a.classes.now) a.uppers.now a.lowers.now l.head l.link (sym p.0) l.invariant.2 (rw z at l.invariant.3)
 
 pub link-segments-spec : {M : Type 1} → statement M
 link-segments-spec =

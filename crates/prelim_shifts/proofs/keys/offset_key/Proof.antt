@@ -1,4 +1,4 @@
--- `prelim_shifts::keys::offset_key` meets its contract: its tests are those of `offsetKey`.
+-- `prelim_shifts::keys::offset_key` meets its contract: its tests are those of `offset_key`.
 use borrow.Author.Tests.{lt-ltb, le-ltb}
 use borrow.Author.Rules.{rules}
 use Rattle.prelim_shifts.proofs.keys.offset_key.Statement.{statement}

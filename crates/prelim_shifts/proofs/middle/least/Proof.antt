@@ -6,7 +6,7 @@ use native.Mathlib.Omega.{arith}
 use lib.ListN.{length, drop, get_or}
 use lib.IntN.{pos}
 use Rattle.ints.proofs.Laws.{back'}
-use Rattle.preliminary.specs.Shift.{leastOf}
+use Rattle.preliminary.specs.Shift.{least_of}
 use Rattle.prelim_shifts.proofs.MiddleLaws.{least_on, least-end, least_start}
 use borrow.Author.Rules.{rules}
 use Rattle.prelim_shifts.proofs.middle.least.Statement.{statement}
@@ -15,7 +15,7 @@ use Rattle.prelim_shifts.proofs.middle.least.Reads as reads
 use Rattle.prelim_shifts.proofs.middle.least.Lts as lts
 
 abbrev invariant-loop : tie.invariant-loop
-invariant-loop xs best₀ i₀ best i = (i ≤ length xs) × (best < length xs) × (leastOf (get_or xs best (pos 0)) (drop i xs) ≡ leastOf (get_or xs 0 (pos 0)) (drop 1 xs))
+invariant-loop xs best₀ i₀ best i = (i ≤ length xs) × (best < length xs) × (least_of (get_or xs best (pos 0)) (drop i xs) ≡ least_of (get_or xs 0 (pos 0)) (drop 1 xs))
 
 abbrev decreases-loop : tie.decreases-loop
 decreases-loop xs best₀ i₀ best i = length xs - i

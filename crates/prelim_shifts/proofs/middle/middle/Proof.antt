@@ -9,7 +9,7 @@ use mir.Val.{to_z, of_z}
 use Rattle.ints.specs.Ints.{size, gap}
 use Rattle.ints.proofs.Laws.{sum, back'}
 use Rattle.prelim_shifts.specs.inner.Counts.{count_to}
-use Rattle.prelim_shifts.proofs.MiddleLaws.{countBelow, middle-is, middle-none, base-sized, below-base, to-top, reach-small, below_next}
+use Rattle.prelim_shifts.proofs.MiddleLaws.{count_below, middle-is, middle-none, base-sized, below-base, to-top, reach-small, below_next}
 use borrow.Author.Rules.{rules}
 use Rattle.prelim_shifts.proofs.middle.middle.Statement.{statement}
 use Rattle.prelim_shifts.proofs.middle.middle.Tie as tie
@@ -22,7 +22,7 @@ use Rattle.prelim_shifts.proofs.middle.greatest.Reads as greatest-reads
 use Rattle.prelim_shifts.proofs.middle.least.Reads as least-reads
 
 abbrev invariant-loop : tie.invariant-loop
-invariant-loop xs enough base low₀ high₀ low high = (low ≤ high) × (high ≤ 536870912) × (size (to_z w64 base) ≤ 268435456) × (countBelow (to_z w64 base +ℤ pos low) xs < enough) × (enough ≤ count_to (to_z w64 base +ℤ pos high) xs)
+invariant-loop xs enough base low₀ high₀ low high = (low ≤ high) × (high ≤ 536870912) × (size (to_z w64 base) ≤ 268435456) × (count_below (to_z w64 base +ℤ pos low) xs < enough) × (enough ≤ count_to (to_z w64 base +ℤ pos high) xs)
 
 abbrev decreases-loop : tie.decreases-loop
 decreases-loop xs enough base low₀ high₀ low high = high - low

@@ -8,7 +8,7 @@ use mir.Syntax.{w64}
 use mir.Val.{to_z, of_z}
 use Rattle.ints.proofs.Laws.{back, back'}
 use Rattle.prelim_classes.specs.inner.Links.{chain}
-use Rattle.prelim_shifts.specs.inner.Counts.{movedAt}
+use Rattle.prelim_shifts.specs.inner.Counts.{moved_at}
 use Rattle.prelim_shifts.proofs.MoveLaws.{AheadSized, ahead-set, moved_on, moved-end}
 use borrow.Author.Rules.{rules}
 use Rattle.prelim_shifts.proofs.shift.move_all.Statement.{statement}
@@ -19,7 +19,7 @@ use Rattle.ints.proofs.sum.Reads as sum-reads
 use Rattle.ints.proofs.wide.Reads as wide-reads
 
 abbrev invariant-loop : tie.invariant-loop
-invariant-loop d first link xs₀ v₀ xs v = (length xs ≡ length xs₀) × AheadSized v 134217728 xs × (movedAt (to_z w64 d) (chain link v) xs ≡ movedAt (to_z w64 d) (chain link first) xs₀)
+invariant-loop d first link xs₀ v₀ xs v = (length xs ≡ length xs₀) × AheadSized v 134217728 xs × (moved_at (to_z w64 d) (chain link v) xs ≡ moved_at (to_z w64 d) (chain link first) xs₀)
 
 abbrev decreases-loop : tie.decreases-loop
 decreases-loop d first link xs₀ v₀ xs v = length link - v

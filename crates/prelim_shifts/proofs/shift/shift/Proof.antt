@@ -33,7 +33,7 @@ slice-aggregate-link-segments-2 : tie.Need-slice-aggregate-link-segments-2
 slice-aggregate-link-segments-2 c = sym (length-take-le (length c.before.before.before.before.before.before.before.before.before.before.before.before.before.args.uppers.now) (replicate 2048 0) c.before.before.before.before.before.before.before.before.before.before.before.before.before.requires.0.segments)
 
 link-segments-requires : tie.Need-link-segments-requires
-link-segments-requires c κs = let p = c.before.before.before.before.before.before.before.before.before.before.before.before.before.requires.0 in ((p.ends, p.segments, p.upperEnds, p.lowerEnds), (p.classed, length-take-le (length c.before.before.before.before.before.before.before.before.before.before.before.before.before.args.uppers.now) (replicate 2048 0) p.segments, refl))
+link-segments-requires c κs = let p = c.before.before.before.before.before.before.before.before.before.before.before.before.before.requires.0 in ((p.ends, p.segments, p.upper_ends, p.lower_ends), (p.classed, length-take-le (length c.before.before.before.before.before.before.before.before.before.before.before.before.before.args.uppers.now) (replicate 2048 0) p.segments, refl))
 
 array-borrow-prefix-member-link : tie.Need-array-borrow-prefix-member-link
 array-borrow-prefix-member-link c = c.before.before.before.before.before.before.before.before.before.before.before.before.before.before.before.before.before.requires.0.few

@@ -11,9 +11,9 @@ use mir.Val.{to_z, of_z}
 use Rattle.ints.proofs.Laws.{back'}
 use Rattle.preliminary.specs.Shift.{moved}
 use Rattle.prelim_classes.specs.inner.Links.{chain}
-use Rattle.prelim_shifts.specs.inner.Counts.{movedAt}
-use Rattle.prelim_shifts.specs.inner.Shifts.{gapKey, offsetKey, Spread}
-use Rattle.prelim_shifts.proofs.KeyLaws.{keys-long}
+use Rattle.prelim_shifts.specs.inner.Counts.{moved_at}
+use Rattle.prelim_shifts.specs.inner.Shifts.{gap_key, offset_key, Spread}
+use Rattle.prelim_shifts.proofs.KeyLaws.{keys_long}
 use Rattle.prelim_shifts.proofs.MoveLaws.{moved-class}
 use Rattle.prelim_shifts.proofs.SpreadLaws.{spread-on}
 use Rattle.prelim_shifts.proofs.ShiftLaws.{shift_is, shift-range, pairs_below, Shifting, shifting-start, shifting-on, shifting-end}
@@ -36,10 +36,10 @@ loop-holds : tie.Need-loop-init invariant-loop decreases-loop
 loop-holds c = (omega arith, c.before.before.before.before.before.before.before.before.before.before.before.before.requires.1.0.heads, refl, refl, c.before.before.before.before.before.before.before.before.before.before.before.before.requires.1.1.1, shifting-start _ _ _ _ _ _ _ _ _)
 
 cast-shift-of : tie.Need-overflow-cast-shift-of invariant-loop decreases-loop
-cast-shift-of c = omega (arith, c.loop-test.true, c.before.before.before.before.before.before.before.before.before.before.before.before.before.before.requires.1.0.pairHeads)
+cast-shift-of c = omega (arith, c.loop-test.true, c.before.before.before.before.before.before.before.before.before.before.before.before.before.before.requires.1.0.pair_heads)
 
 shared-slice-read-wide-2 : tie.Need-shared-slice-read-wide-2 invariant-loop decreases-loop
-shared-slice-read-wide-2 c = omega (arith, c.before.before.before.loop-test.true, c.before.before.before.before.before.before.before.before.before.before.before.before.before.before.before.before.before.requires.1.0.pairHeads, c.before.before.before.before.before.before.before.before.before.before.before.before.before.before.before.before.before.requires.1.0.segmentHeads)
+shared-slice-read-wide-2 c = omega (arith, c.before.before.before.loop-test.true, c.before.before.before.before.before.before.before.before.before.before.before.before.before.before.before.before.before.requires.1.0.pair_heads, c.before.before.before.before.before.before.before.before.before.before.before.before.before.before.before.before.before.requires.1.0.segment_heads)
 
 slice-aggregate-shift-of : tie.Need-slice-aggregate-shift-of invariant-loop decreases-loop
 slice-aggregate-shift-of c = sym c.before.before.before.before.before.before.before.loop.invariant.3
@@ -54,20 +54,20 @@ shift-of-requires c κs =
     let t = c.before.before.before.before.before.before.loop-test.true in (
       s,
       (
-        (k.pairs.rising, k.pairs.long ∙ keys-long (gapKey a.classes.now) a.order.now a.right.now (s.rights ∙ sym s.orders), k.segments.rising, k.segments.long ∙ keys-long (offsetKey a.classes.now) a.uppers.now a.lowers.now (sym s.ends), l.invariant.3),
+        (k.pairs.rising, k.pairs.long ∙ keys_long (gap_key a.classes.now) a.order.now a.right.now (s.rights ∙ sym s.orders), k.segments.rising, k.segments.long ∙ keys_long (offset_key a.classes.now) a.uppers.now a.lowers.now (sym s.ends), l.invariant.3),
         (
           l.invariant.2 ∙ q.0,
-          record { each = λ v. omega (arith, l.invariant.4.each v, t, k.pairHeads) },
+          record { each = λ v. omega (arith, l.invariant.4.each v, t, k.pair_heads) },
           λ i h. omega (arith, l.invariant.2, q.0, pairs_below a.gap a.halves.now a.order.now a.right.now a.uppers.now a.lowers.now a.classes.now a.pair-head.now a.pair-link.now a.segment-head.now a.segment-link.now a.member-head.now a.member-link.now s k l.c (omega arith) t l.xs i (rw c.before.before.before.before.wide.ensures at h)),
         ),
       ),
     )
 
 mul-wide-3 : tie.Need-overflow-mul-wide-3 invariant-loop decreases-loop
-mul-wide-3 c = omega (arith, c.before.before.before.before.before.before.before.before.loop-test.true, c.before.before.before.before.before.before.before.before.before.before.before.before.before.before.before.before.before.before.before.before.before.before.requires.1.0.pairHeads)
+mul-wide-3 c = omega (arith, c.before.before.before.before.before.before.before.before.loop-test.true, c.before.before.before.before.before.before.before.before.before.before.before.before.before.before.before.before.before.before.before.before.before.before.requires.1.0.pair_heads)
 
 shared-slice-read-wide-3 : tie.Need-shared-slice-read-wide-3 invariant-loop decreases-loop
-shared-slice-read-wide-3 c = omega (arith, c.before.before.before.before.before.before.before.before.before.loop-test.true, c.before.before.before.before.before.before.before.before.before.before.before.before.before.before.before.before.before.before.before.before.before.before.before.requires.1.0.pairHeads, c.before.before.before.before.before.before.before.before.before.before.before.before.before.before.before.before.before.before.before.before.before.before.before.requires.1.0.memberHeads)
+shared-slice-read-wide-3 c = omega (arith, c.before.before.before.before.before.before.before.before.before.loop-test.true, c.before.before.before.before.before.before.before.before.before.before.before.before.before.before.before.before.before.before.before.before.before.before.before.requires.1.0.pair_heads, c.before.before.before.before.before.before.before.before.before.before.before.before.before.before.before.before.before.before.before.before.before.before.before.requires.1.0.member_heads)
 
 move-all-requires : tie.Need-move-all-requires invariant-loop decreases-loop
 move-all-requires c κs =
@@ -79,10 +79,10 @@ move-all-requires c κs =
     let t = c.before.before.before.before.before.before.before.before.before.before.before.loop-test.true in
     let d-is = back' c.before.before.before.before.Shift-of.result c.before.before.before.before.Shift-of.type-inv ∙ rw (c.before.before.before.before.before.before.before.before.before.wide.ensures, c.before.before.before.before.before.before.before.wide2.ensures) at c.before.before.before.before.Shift-of.ensures in
     let r = shift-range a.gap a.halves.now a.order.now a.right.now a.uppers.now a.lowers.now a.classes.now a.pair-head.now a.pair-link.now a.segment-head.now a.segment-link.now a.member-head.now a.member-link.now s k l.c (omega arith) t l.xs (512500 * l.c - 500) l.invariant.4 (to_z w64 (of_z w64 c.before.before.before.before.Shift-of.result)) d-is in
-    (k.members.rising, l.invariant.2 ∙ q.0 ∙ sym k.members.long, record { each = λ v. omega (arith, l.invariant.4.each v, t, k.pairHeads) }, omega (arith, r.up, r.down, t, k.pairHeads))
+    (k.members.rising, l.invariant.2 ∙ q.0 ∙ sym k.members.long, record { each = λ v. omega (arith, l.invariant.4.each v, t, k.pair_heads) }, omega (arith, r.up, r.down, t, k.pair_heads))
 
 add-c : tie.Need-overflow-add-c invariant-loop decreases-loop
-add-c c = omega (arith, c.before.before.before.before.before.before.before.before.before.before.before.before.before.loop-test.true, c.before.before.before.before.before.before.before.before.before.before.before.before.before.before.before.before.before.before.before.before.before.before.before.before.before.before.before.requires.1.0.pairHeads)
+add-c c = omega (arith, c.before.before.before.before.before.before.before.before.before.before.before.before.before.loop-test.true, c.before.before.before.before.before.before.before.before.before.before.before.before.before.before.before.before.before.before.before.before.before.before.before.before.before.before.before.requires.1.0.pair_heads)
 
 loop-less : tie.Need-loop-smaller invariant-loop decreases-loop
 loop-less c = omega (arith, c.before.before.before.before.before.before.before.before.before.before.before.before.before.loop-test.true)
@@ -100,7 +100,7 @@ loop-again c =
     let long : length l.xs ≡ length a.classes.now = l.invariant.2 ∙ q.0 in
     let r = shift-range a.gap a.halves.now a.order.now a.right.now a.uppers.now a.lowers.now a.classes.now a.pair-head.now a.pair-link.now a.segment-head.now a.segment-link.now a.member-head.now a.member-link.now s k l.c (omega arith) few l.xs (512500 * l.c - 500) l.invariant.4 d d-is in
     let xs1 = c.before.move_all.new.1.1.1.0 in
-    let now : xs1 ≡ moved l.c d a.classes.now l.xs = c.before.move_all.ensures ∙ ap (λ (v : ℕ). movedAt d (chain a.member-link.now v) l.xs) c.before.before.before.wide3.ensures ∙ ap (λ (vs : List ℕ). movedAt d vs l.xs) (k.members.each l.c (omega (arith, few, k.pairHeads, k.memberHeads))) ∙ moved-class l.c d a.classes.now l.xs long in
+    let now : xs1 ≡ moved l.c d a.classes.now l.xs = c.before.move_all.ensures ∙ ap (λ (v : ℕ). moved_at d (chain a.member-link.now v) l.xs) c.before.before.before.wide3.ensures ∙ ap (λ (vs : List ℕ). moved_at d vs l.xs) (k.members.each l.c (omega (arith, few, k.pair_heads, k.member_heads))) ∙ moved-class l.c d a.classes.now l.xs long in
     let far : 512500 * l.c - 500 + 512500 ≡ 512500 * (l.c + 1) - 500 = omega arith in (
       omega arith,
       omega (arith, few),
@@ -120,7 +120,7 @@ returns c =
     let k = c.before.before.before.before.before.before.before.before.before.before.before.before.before.before.requires.1.0 in
     let l = c.before.loop in
     record {
-      small = record { each = λ v. omega (arith, l.invariant.4.each v, l.invariant.1, k.pairHeads) };
+      small = record { each = λ v. omega (arith, l.invariant.4.each v, l.invariant.1, k.pair_heads) };
       each = shifting-end a.gap a.halves.now a.order.now a.right.now a.uppers.now a.lowers.now a.classes.now (length a.pair-head.now - 1) l.c l.xs a.xs.now l.invariant.5 (omega (arith, c.loop-test.false, k.heads));
     }
 

@@ -1,7 +1,7 @@
 -- `prelim_shifts::shift::shift_of` meets its contract: the buffer's first entries are the collected list.
 use lib.ListN.{length-map, length, get_or}
 use Rattle.prelim_shifts.specs.inner.Shifts.{slack, offset, slacks, offsets}
-use Rattle.preliminary.specs.Shift.{leastOr, middle}
+use Rattle.preliminary.specs.Shift.{least_or, middle}
 use Rattle.ints.specs.Ints.{SizedTo}
 use Rattle.ints.proofs.Reach.{sized-map}
 use Rattle.prelim_shifts.proofs.ShiftLaws.{over-take, least-none, offset-sized}
@@ -53,14 +53,14 @@ returns c =
     let l = slacks a.gap a.halves.now a.xs.now a.order.now a.right.now (chain a.pair-link.now a.pair) in
     let n : c.before.before.before.before.slacks.result ≡ length l = c.before.before.before.before.slacks.ensures.0 ∙ sym (length-map (chain a.pair-link.now a.pair) (λ (i : ℕ). slack a.gap a.halves.now a.xs.now (get_or a.order.now i 0) (get_or a.right.now i 0))) in
     let other = middle (offsets a.c a.classes.now a.xs.now a.uppers.now a.lowers.now (chain a.segment-link.now a.segment)) in
-    back' c.least.result c.least.type-inv ∙ c.least.ensures other ∙ ap (leastOr other) (over-take l a.buffer.now _ _ c.before.before.before.before.slacks.ensures.1 n)
+    back' c.least.result c.least.type-inv ∙ c.least.ensures other ∙ ap (least_or other) (over-take l a.buffer.now _ _ c.before.before.before.before.slacks.ensures.1 n)
 
 offsets-requires : tie.Need-offsets-requires
 offsets-requires c κs =
     let p = c.before.before.before.before.before.before.before.before.before.before.before.before.before.requires.0 in
     let q = c.before.before.before.before.before.before.before.before.before.before.before.before.before.requires.1.0 in
     let r = c.before.before.before.before.before.before.before.before.before.before.before.before.before.requires.1.1 in
-    ((q.2, sym q.3, omega (arith, q.3, p.ends), omega (arith, q.3, q.4, p.segments, c.before.before.before.slacks.auto.1.1.1.1.1.1.1.0)), (sym r.0, r.1, λ i h. omega (arith, p.upperEnds i h, r.0), λ i h. omega (arith, p.lowerEnds i h, r.0)))
+    ((q.2, sym q.3, omega (arith, q.3, p.ends), omega (arith, q.3, q.4, p.segments, c.before.before.before.slacks.auto.1.1.1.1.1.1.1.0)), (sym r.0, r.1, λ i h. omega (arith, p.upper_ends i h, r.0), λ i h. omega (arith, p.lower_ends i h, r.0)))
 
 slice-reshare-prefix-middle : tie.Need-slice-reshare-prefix-middle
 slice-reshare-prefix-middle c = let a = c.before.before.before.before.before.before.before.before.before.before.before.before.before.before.before.args in omega (arith, c.before.offsets.ensures.0, chain-short a.segment-link.now a.segment, c.before.offsets.auto.1.1.1.1.1.1.1.0, c.before.before.before.before.before.slacks.auto.1.1.1.1.1.1.1.0, c.before.before.before.before.before.before.before.before.before.before.before.before.before.before.before.requires.0.segments, c.before.before.before.before.before.before.before.before.before.before.before.before.before.before.before.requires.1.0.3, c.before.before.before.before.before.before.before.before.before.before.before.before.before.before.before.requires.1.0.4)

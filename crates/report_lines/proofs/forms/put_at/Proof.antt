@@ -10,7 +10,7 @@ use Rattle.ints.proofs.Laws.{back}
 use Rattle.text.specs.Bytes.{bytes}
 use Rattle.text.specs.Decimal.{decimal, signed}
 use Rattle.text_write.proofs.Written.{wrote_none, and_then, and_both, room_after}
-use Rattle.report.specs.Lines.{atLine}
+use Rattle.report.specs.Lines.{at_line}
 use Rattle.report_lines.proofs.forms.put_at.Statement.{statement}
 use Rattle.report_lines.proofs.forms.put_at.Tie as tie
 
@@ -23,38 +23,38 @@ b-x c = back c.ranges.x
 ruleset backs = (b-p, b-x)
 
 put-word-requires : tie.Need-put-word-requires
-unfolding atLine
+unfolding at_line
 put-word-requires c κs = let a = c.before.before.before.args in
-    room_after (bytes "(at ") (atLine a.n a.p a.x a.y) (wrote_none a.out.now a.at) c.before.before.before.requires.2 (simp length-append (omega arith))
+    room_after (bytes "(at ") (at_line a.n a.p a.x a.y) (wrote_none a.out.now a.at) c.before.before.before.requires.2 (simp length-append (omega arith))
 
 put-then-requires : tie.Need-put-then-requires
-unfolding atLine
+unfolding at_line
 put-then-requires c κs = let a = c.before.before.before.before.before.before.before.before.args in
-    room_after (decimal a.n ++ bytes " ") (atLine a.n a.p a.x a.y) c.before.before.before.before.put_word.ensures c.before.before.before.before.before.before.before.before.requires.2 (simp length-append (omega arith))
+    room_after (decimal a.n ++ bytes " ") (at_line a.n a.p a.x a.y) c.before.before.before.before.put_word.ensures c.before.before.before.before.before.before.before.before.requires.2 (simp length-append (omega arith))
 
 put-position-requires : tie.Need-put-position-requires
-unfolding atLine
+unfolding at_line
 put-position-requires c κs =
     let s = c.before.before.before.before.before.before.before.before.before.before.before.before.before in
     let a = s.args in
     let h = and_then c.before.before.before.before.before.before.before.before.before.put_word.ensures c.before.before.before.before.put_then.ensures in
     simp backs
-    (omega (arith, s.requires.0, s.requires.1), room_after (signed a.p ++ bytes " ") (atLine a.n a.p a.x a.y) h s.requires.2 (simp length-append (omega arith)))
+    (omega (arith, s.requires.0, s.requires.1), room_after (signed a.p ++ bytes " ") (at_line a.n a.p a.x a.y) h s.requires.2 (simp length-append (omega arith)))
 
 put-position-requires-2 : tie.Need-put-position-requires-2
-unfolding atLine
+unfolding at_line
 put-position-requires-2 c κs = let a = c.before.before.before.before.before.before.before.before.before.before.before.before.before.before.before.before.before.before.args in
     let h = and_then (and_then c.before.before.before.before.before.before.before.before.before.before.before.before.before.before.put_word.ensures c.before.before.before.before.before.before.before.before.before.put_then.ensures) (simp backs at c.before.before.before.before.put-position.ensures) in
-    simp backs (c.before.before.before.before.before.before.before.before.before.before.before.before.before.before.before.before.before.before.requires.1, room_after (signed a.x ++ bytes " ") (atLine a.n a.p a.x a.y) h c.before.before.before.before.before.before.before.before.before.before.before.before.before.before.before.before.before.before.requires.2 (simp length-append (omega arith)))
+    simp backs (c.before.before.before.before.before.before.before.before.before.before.before.before.before.before.before.before.before.before.requires.1, room_after (signed a.x ++ bytes " ") (at_line a.n a.p a.x a.y) h c.before.before.before.before.before.before.before.before.before.before.before.before.before.before.before.before.before.before.requires.2 (simp length-append (omega arith)))
 
 put-then-requires-2 : tie.Need-put-then-requires-2
-unfolding atLine
+unfolding at_line
 put-then-requires-2 c κs = let a = c.before.before.before.before.before.before.before.before.before.before.before.before.before.before.before.before.before.before.before.before.before.before.before.args in
     let h = and_then (and_then (and_then c.before.before.before.before.before.before.before.before.before.before.before.before.before.before.before.before.before.before.before.put_word.ensures c.before.before.before.before.before.before.before.before.before.before.before.before.before.before.put_then.ensures) (simp backs at c.before.before.before.before.before.before.before.before.before.put-position.ensures)) (simp backs at c.before.before.before.before.put-position2.ensures) in
-    room_after (decimal a.y ++ bytes ")\n") (atLine a.n a.p a.x a.y) h c.before.before.before.before.before.before.before.before.before.before.before.before.before.before.before.before.before.before.before.before.before.before.before.requires.2 (simp length-append (omega arith))
+    room_after (decimal a.y ++ bytes ")\n") (at_line a.n a.p a.x a.y) h c.before.before.before.before.before.before.before.before.before.before.before.before.before.before.before.before.before.before.before.before.before.before.before.requires.2 (simp length-append (omega arith))
 
 returns : tie.Need-returns
-unfolding atLine
+unfolding at_line
 returns c = let a = c.before.before.before.before.before.before.before.before.before.before.before.before.before.before.before.before.before.before.before.before.before.before.before.before.before.before.args in
     let number = and_both (decimal a.n) (bytes " ") c.before.before.before.before.before.before.before.before.before.before.before.before.before.before.before.before.before.before.before.before.before.before.put_word.ensures c.before.before.before.before.before.before.before.before.before.before.before.before.before.before.before.before.before.put_then.ensures in
     let before = and_both (signed a.p) (bytes " ") number (simp backs at c.before.before.before.before.before.before.before.before.before.before.before.before.put-position.ensures) in

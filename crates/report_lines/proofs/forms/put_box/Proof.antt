@@ -10,8 +10,8 @@ use Rattle.ints.proofs.Laws.{back}
 use Rattle.text.specs.Bytes.{bytes}
 use Rattle.text.specs.Decimal.{decimal, signed}
 use Rattle.text_write.proofs.Written.{wrote_none, and_then, and_both, room_after}
-use Rattle.report.specs.Lines.{boxWords}
-use Rattle.report_lines.specs.inner.Forms.{boxAt}
+use Rattle.report.specs.Lines.{box_words}
+use Rattle.report_lines.specs.inner.Forms.{box_at}
 use Rattle.report_lines.proofs.forms.put_box.Statement.{statement}
 use Rattle.report_lines.proofs.forms.put_box.Tie as tie
 
@@ -19,23 +19,23 @@ b-position : (c : tie.Start) → to_z w64 (of_z w64 c.args.position) ≡ c.args.
 b-position c = back c.ranges.position
 
 put-word-requires : tie.Need-put-word-requires
-unfolding boxWords
+unfolding box_words
 put-word-requires c κs = let a = c.before.before.before.args in
-    room_after (bytes " (") (boxWords (boxAt a.vertex a.position ∷ [])) (wrote_none a.out.now a.at) c.before.before.before.requires.1 (simp length-append (omega arith))
+    room_after (bytes " (") (box_words (box_at a.vertex a.position ∷ [])) (wrote_none a.out.now a.at) c.before.before.before.requires.1 (simp length-append (omega arith))
 
 put-then-requires : tie.Need-put-then-requires
-unfolding boxWords
+unfolding box_words
 put-then-requires c κs = let a = c.before.before.before.before.before.before.before.before.args in
-    room_after (decimal a.vertex ++ bytes " ") (boxWords (boxAt a.vertex a.position ∷ [])) c.before.before.before.before.put_word.ensures c.before.before.before.before.before.before.before.before.requires.1 (simp length-append (omega arith))
+    room_after (decimal a.vertex ++ bytes " ") (box_words (box_at a.vertex a.position ∷ [])) c.before.before.before.before.put_word.ensures c.before.before.before.before.before.before.before.before.requires.1 (simp length-append (omega arith))
 
 put-position-requires : tie.Need-put-position-requires
-unfolding boxWords
+unfolding box_words
 put-position-requires c κs = let a = c.before.before.before.before.before.before.before.before.before.before.before.before.before.args in
     let h = and_then c.before.before.before.before.before.before.before.before.before.put_word.ensures c.before.before.before.before.put_then.ensures in
-    simp b-position (c.before.before.before.before.before.before.before.before.before.before.before.before.before.requires.0, room_after (signed a.position ++ bytes ")") (boxWords (boxAt a.vertex a.position ∷ [])) h c.before.before.before.before.before.before.before.before.before.before.before.before.before.requires.1 (simp length-append (omega arith)))
+    simp b-position (c.before.before.before.before.before.before.before.before.before.before.before.before.before.requires.0, room_after (signed a.position ++ bytes ")") (box_words (box_at a.vertex a.position ∷ [])) h c.before.before.before.before.before.before.before.before.before.before.before.before.before.requires.1 (simp length-append (omega arith)))
 
 returns : tie.Need-returns
-unfolding boxWords
+unfolding box_words
 returns c = let a = c.before.before.before.before.before.before.before.before.before.before.before.before.before.before.before.before.args in
     let number = and_both (decimal a.vertex) (bytes " ") c.before.before.before.before.before.before.before.before.before.before.before.before.put_word.ensures c.before.before.before.before.before.before.before.put_then.ensures in
     rw append-nil (and_both (signed a.position) (bytes ")") number (simp b-position at c.before.before.put-position.ensures))

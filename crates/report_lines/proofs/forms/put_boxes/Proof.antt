@@ -6,9 +6,9 @@ use native.Mathlib.Omega.{arith}
 use lib.ListN.{length, get_or, drop}
 use lib.IntN.{pos}
 use borrow.Author.Rules.{rules}
-use Rattle.passes.specs.Drawing.{boxesWith}
-use Rattle.report.specs.Lines.{boxWords}
-use Rattle.report_lines.specs.inner.Forms.{boxAt}
+use Rattle.passes.specs.Drawing.{boxes_with}
+use Rattle.report.specs.Lines.{box_words}
+use Rattle.report_lines.specs.inner.Forms.{box_at}
 use Rattle.report_lines.proofs.Partly.{Partly, nothing_yet, next-room, next-written, all-written}
 use Rattle.ints.proofs.Reach.{within-at}
 use Rattle.report_lines.proofs.Boxes.{read_back, words-next, words-end}
@@ -17,27 +17,27 @@ use Rattle.report_lines.proofs.forms.put_boxes.Tie as tie
 
 abbrev invariant-loop : tie.invariant-loop
 invariant-loop out₀ from vertices positions at₀ i₀ out at i = (i ≤ length vertices) × (length out ≡ length out₀)
-    × Partly (boxWords (boxesWith vertices positions)) (boxWords (boxesWith (drop i vertices) (drop i positions))) out₀ from at out
+    × Partly (box_words (boxes_with vertices positions)) (box_words (boxes_with (drop i vertices) (drop i positions))) out₀ from at out
 
 abbrev decreases-loop : tie.decreases-loop
 decreases-loop out₀ from vertices positions at₀ i₀ out at i = length vertices - i
 
 loop-holds : tie.Need-loop-init invariant-loop decreases-loop
-loop-holds c = let a = c.before.before.args in (omega arith, refl, nothing_yet (boxWords (boxesWith a.vertices.now a.positions.now)) a.out.now a.from)
+loop-holds c = let a = c.before.before.args in (omega arith, refl, nothing_yet (box_words (boxes_with a.vertices.now a.positions.now)) a.out.now a.from)
 
 put-box-requires : tie.Need-put-box-requires invariant-loop decreases-loop
 put-box-requires c κs = let a = c.before.before.before.before.before.before.before.args in let i = c.before.before.before.before.loop.i in
     let h = within-at a.positions.now i c.before.before.before.before.before.before.before.requires.1 in
     rw (read_back (get_or a.positions.now i (pos 0)) h) (
       h,
-      next-room (boxWords (boxAt (get_or a.vertices.now i 0) (get_or a.positions.now i (pos 0)) ∷ [])) (boxWords (boxesWith (drop (i + 1) a.vertices.now) (drop (i + 1) a.positions.now)))
+      next-room (box_words (box_at (get_or a.vertices.now i 0) (get_or a.positions.now i (pos 0)) ∷ [])) (box_words (boxes_with (drop (i + 1) a.vertices.now) (drop (i + 1) a.positions.now)))
           (words-next a.vertices.now a.positions.now c.before.before.before.before.before.before.before.requires.0 i c.before.before.before.loop-test.true) c.before.before.before.before.loop.invariant.2 c.before.before.before.before.before.before.before.requires.2,
     )
 
 loop-again : tie.Need-loop-preserved invariant-loop decreases-loop
 loop-again c = let a = c.before.before.before.before.before.before.before.before.before.before.args in let i = c.before.before.before.before.before.before.before.loop.i in
     let h = within-at a.positions.now i c.before.before.before.before.before.before.before.before.before.before.requires.1 in
-    let now = next-written (boxWords (boxAt (get_or a.vertices.now i 0) (get_or a.positions.now i (pos 0)) ∷ [])) (boxWords (boxesWith (drop (i + 1) a.vertices.now) (drop (i + 1) a.positions.now)))
+    let now = next-written (box_words (box_at (get_or a.vertices.now i 0) (get_or a.positions.now i (pos 0)) ∷ [])) (box_words (boxes_with (drop (i + 1) a.vertices.now) (drop (i + 1) a.positions.now)))
     (words-next a.vertices.now a.positions.now c.before.before.before.before.before.before.before.before.before.before.requires.0 i c.before.before.before.before.before.before.loop-test.true) c.before.before.before.before.before.before.before.loop.invariant.2 (rw (read_back (get_or a.positions.now i (pos 0)) h) at c.before.before.put-box.ensures) in
     (omega arith, c.before.before.put-box.auto.0 ∙ c.before.before.before.before.before.before.before.loop.invariant.1, now)
 

@@ -7,27 +7,27 @@ use borrow.Author.Rules.{rules}
 use Rattle.text.specs.Bytes.{bytes}
 use Rattle.text.specs.Decimal.{decimal}
 use Rattle.text_write.proofs.Written.{wrote_none, and_then, and_both, room_after}
-use Rattle.report_lines.specs.inner.Forms.{placeHead}
+use Rattle.report_lines.specs.inner.Forms.{place_head}
 use Rattle.report_lines.proofs.forms.put_head.Statement.{statement}
 use Rattle.report_lines.proofs.forms.put_head.Tie as tie
 
 put-word-requires : tie.Need-put-word-requires
-unfolding placeHead
+unfolding place_head
 put-word-requires c κs = let a = c.before.before.before.args in
-    room_after (bytes "(place ") (placeHead a.pass a.level) (wrote_none a.out.now a.at) c.before.before.before.requires (simp length-append (omega arith))
+    room_after (bytes "(place ") (place_head a.pass a.level) (wrote_none a.out.now a.at) c.before.before.before.requires (simp length-append (omega arith))
 
 put-then-requires : tie.Need-put-then-requires
-unfolding placeHead
+unfolding place_head
 put-then-requires c κs = let a = c.before.before.before.before.before.before.before.before.args in
-    room_after (decimal a.pass ++ bytes " ") (placeHead a.pass a.level) c.before.before.before.before.put_word.ensures c.before.before.before.before.before.before.before.before.requires (simp length-append (omega arith))
+    room_after (decimal a.pass ++ bytes " ") (place_head a.pass a.level) c.before.before.before.before.put_word.ensures c.before.before.before.before.before.before.before.before.requires (simp length-append (omega arith))
 
 put-decimal-requires : tie.Need-put-decimal-requires
-unfolding placeHead
+unfolding place_head
 put-decimal-requires c κs = let a = c.before.before.before.before.before.before.before.before.before.before.before.before.args in
-    room_after (decimal a.level) (placeHead a.pass a.level) (and_then c.before.before.before.before.before.before.before.before.put_word.ensures c.before.before.before.put_then.ensures) c.before.before.before.before.before.before.before.before.before.before.before.before.requires (simp length-append (omega arith))
+    room_after (decimal a.level) (place_head a.pass a.level) (and_then c.before.before.before.before.before.before.before.before.put_word.ensures c.before.before.before.put_then.ensures) c.before.before.before.before.before.before.before.before.before.before.before.before.requires (simp length-append (omega arith))
 
 returns : tie.Need-returns
-unfolding placeHead
+unfolding place_head
 returns c = let a = c.before.before.before.before.before.before.before.before.before.before.before.before.before.before.before.args in
     and_then (and_both (decimal a.pass) (bytes " ") c.before.before.before.before.before.before.before.before.before.before.before.put_word.ensures c.before.before.before.before.before.before.put_then.ensures) c.before.before.put-decimal.ensures
 

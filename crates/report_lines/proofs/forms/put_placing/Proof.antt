@@ -5,29 +5,29 @@ use lib.ListN.{length-append}
 use borrow.Author.Rules.{rules}
 use Rattle.text.specs.Bytes.{bytes}
 use Rattle.text_write.proofs.Written.{wrote_none, and_then, room_after}
-use Rattle.passes.specs.Drawing.{boxesWith}
-use Rattle.report.specs.Lines.{boxWords, placeLine}
-use Rattle.report_lines.specs.inner.Forms.{placing, placeHead}
+use Rattle.passes.specs.Drawing.{boxes_with}
+use Rattle.report.specs.Lines.{box_words, place_line}
+use Rattle.report_lines.specs.inner.Forms.{placing, place_head}
 use Rattle.report_lines.proofs.forms.put_placing.Statement.{statement}
 use Rattle.report_lines.proofs.forms.put_placing.Tie as tie
 
 put-head-requires : tie.Need-put-head-requires
-unfolding placeLine placeHead
+unfolding place_line place_head
 put-head-requires c κs = let a = c.before.before.before.args in
-    room_after (placeHead a.pass a.level) (placeLine (placing a.pass a.level a.vertices.now a.positions.now)) (wrote_none a.out.now a.at) c.before.before.before.requires.2 (simp length-append (omega arith))
+    room_after (place_head a.pass a.level) (place_line (placing a.pass a.level a.vertices.now a.positions.now)) (wrote_none a.out.now a.at) c.before.before.before.requires.2 (simp length-append (omega arith))
 
 put-boxes-requires : tie.Need-put-boxes-requires
-unfolding placeLine placeHead
+unfolding place_line place_head
 put-boxes-requires c κs = let a = c.before.before.before.before.before.before.before.args in
-    (c.before.before.before.before.before.before.before.requires.0, c.before.before.before.before.before.before.before.requires.1, room_after (boxWords (boxesWith a.vertices.now a.positions.now)) (placeLine (placing a.pass a.level a.vertices.now a.positions.now)) c.before.before.before.put-head.ensures c.before.before.before.before.before.before.before.requires.2 (simp length-append (omega arith)))
+    (c.before.before.before.before.before.before.before.requires.0, c.before.before.before.before.before.before.before.requires.1, room_after (box_words (boxes_with a.vertices.now a.positions.now)) (place_line (placing a.pass a.level a.vertices.now a.positions.now)) c.before.before.before.put-head.ensures c.before.before.before.before.before.before.before.requires.2 (simp length-append (omega arith)))
 
 put-word-requires : tie.Need-put-word-requires
-unfolding placeLine placeHead
+unfolding place_line place_head
 put-word-requires c κs = let a = c.before.before.before.before.before.before.before.before.before.before.before.before.args in
-    room_after (bytes ")\n") (placeLine (placing a.pass a.level a.vertices.now a.positions.now)) (and_then c.before.before.before.before.before.before.before.before.put-head.ensures c.before.before.before.before.put-boxes.ensures) c.before.before.before.before.before.before.before.before.before.before.before.before.requires.2 (simp length-append (omega arith))
+    room_after (bytes ")\n") (place_line (placing a.pass a.level a.vertices.now a.positions.now)) (and_then c.before.before.before.before.before.before.before.before.put-head.ensures c.before.before.before.before.put-boxes.ensures) c.before.before.before.before.before.before.before.before.before.before.before.before.requires.2 (simp length-append (omega arith))
 
 returns : tie.Need-returns
-unfolding placeLine placeHead
+unfolding place_line place_head
 returns c = and_then (and_then c.before.before.before.before.before.before.before.before.before.before.before.put-head.ensures c.before.before.before.before.before.before.before.put-boxes.ensures) c.before.before.put_word.ensures
 
 pub put-placing-spec : {M : Type 1} → statement M

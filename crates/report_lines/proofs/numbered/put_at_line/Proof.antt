@@ -10,16 +10,16 @@ use Rattle.report_lines.proofs.numbered.put_at_line.Tie as tie
 
 -- what `heights` wrote is as long as the vertices
 long : (c : tie.After-heights) → length c.heights.new.1.1.0 ≡ length c.before.before.before.before.args.preliminary.now
-long c = c.heights.auto.1.1.0 ∙ length-take-le _ _ c.before.before.before.before.requires.lists.inLimit
+long c = c.heights.auto.1.1.0 ∙ length-take-le _ _ c.before.before.before.before.requires.lists.in_limit
 
 array-borrow-prefix-height : tie.Need-array-borrow-prefix-height
-array-borrow-prefix-height c = c.before.before.requires.lists.inLimit
+array-borrow-prefix-height c = c.before.before.requires.lists.in_limit
 
 slice-aggregate-heights : tie.Need-slice-aggregate-heights
-slice-aggregate-heights c = sym (length-take-le _ _ c.before.before.before.requires.lists.inLimit)
+slice-aggregate-heights c = sym (length-take-le _ _ c.before.before.before.requires.lists.in_limit)
 
 heights-requires : tie.Need-heights-requires
-heights-requires c κs = let a = c.before.before.before.requires.lists in (a.few, rw (length-take-le _ _ a.inLimit) a.inLimit)
+heights-requires c κs = let a = c.before.before.before.requires.lists in (a.few, rw (length-take-le _ _ a.in_limit) a.in_limit)
 
 array-share-prefix-height : tie.Need-array-share-prefix-height
 array-share-prefix-height c = rw length-append (omega (arith, long c.before.before))

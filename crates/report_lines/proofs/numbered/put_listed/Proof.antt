@@ -12,7 +12,7 @@ part : (c : tie.After-wide) → c.before.before.before.before.before.before.befo
 part c = omega arith
 
 put-placing-requires : tie.Need-put-placing-requires
-put-placing-requires c κs = rw (part c.before.before.before.before.before) (simp (length-take, length-drop) (omega (arith, c.before.before.before.before.before.before.before.before.before.before.before.before.requires.ofVertices, c.before.before.before.before.before.before.before.before.before.before.before.before.requires.ofPositions)), c.before.before.before.before.before.before.before.before.before.before.before.before.requires.within, c.before.before.before.before.before.before.before.before.before.before.before.before.requires.room)
+put-placing-requires c κs = rw (part c.before.before.before.before.before) (simp (length-take, length-drop) (omega (arith, c.before.before.before.before.before.before.before.before.before.before.before.before.requires.of_vertices, c.before.before.before.before.before.before.before.before.before.before.before.before.requires.of_positions)), c.before.before.before.before.before.before.before.before.before.before.before.before.requires.within, c.before.before.before.before.before.before.before.before.before.before.before.before.requires.room)
 
 returns : tie.Need-returns
 returns c = rw (part c.before.before.before.before.before.before.before.before) at c.before.before.put-placing.ensures

@@ -21,7 +21,7 @@ returns-2 : tie.Need-returns-2
 returns-2 c = fronts c.before.before.before.before.before.before.before.before.before.before.before.before.requires (vertex-line c.before.before.before.before.before.before.before.before.before.before.before.before.requires c.before.before.before.before.before.if1.false c.before.before.before.before.if2.true) c.before.before.put-at-line.ensures
 
 slice-aggregate-total : tie.Need-slice-aggregate-total
-slice-aggregate-total c = sym (length-take-le _ _ (omega (arith, c.before.before.before.before.before.before.before.before.before.before.requires.stored.ofCounts, c.before.if3.true)))
+slice-aggregate-total c = sym (length-take-le _ _ (omega (arith, c.before.before.before.before.before.before.before.before.before.before.requires.stored.of_counts, c.before.if3.true)))
 
 total-requires : tie.Need-total-requires
 total-requires c κs = few-before c.before.before.before.before.before.before.before.before.before.before.requires _ c.before.if3.true

@@ -14,15 +14,15 @@ shared-slice-read-put-at c = let s = c.before.before.before.before.before.before
 put-at-requires : tie.Need-put-at-requires
 put-at-requires c κs =
     let s = c.before.before.before.before.before.before in
-    let h = within-at s.args.preliminary.now s.args.v s.requires.positions.ofPreliminary in
-    let k = within-at s.args.finals.now s.args.v s.requires.positions.ofFinals in
+    let h = within-at s.args.preliminary.now s.args.v s.requires.positions.of_preliminary in
+    let k = within-at s.args.finals.now s.args.v s.requires.positions.of_finals in
     rw (read_back (get_or s.args.preliminary.now s.args.v (pos 0)) h, read_back (get_or s.args.finals.now s.args.v (pos 0)) k) (h, k, s.requires.room)
 
 returns : tie.Need-returns
 returns c =
     let s = c.before.before.before.before.before.before.before.before.before in
-    let h = within-at s.args.preliminary.now s.args.v s.requires.positions.ofPreliminary in
-    let k = within-at s.args.finals.now s.args.v s.requires.positions.ofFinals in
+    let h = within-at s.args.preliminary.now s.args.v s.requires.positions.of_preliminary in
+    let k = within-at s.args.finals.now s.args.v s.requires.positions.of_finals in
     rw (read_back (get_or s.args.preliminary.now s.args.v (pos 0)) h, read_back (get_or s.args.finals.now s.args.v (pos 0)) k)
     at c.before.before.put-at.ensures
 

@@ -5,32 +5,32 @@ use Prim.Native.Nat.{◌+◌, ◌≤◌, ◌-◌}
 use native.Mathlib.Omega.{arith}
 use lib.ListN.{length, drop}
 use Rattle.ints.specs.Lists.{sum}
-use Rattle.passes.specs.Stored.{placingsFrom}
-use Rattle.report_lines.specs.inner.Stored.{placeLines}
+use Rattle.passes.specs.Stored.{placings_from}
+use Rattle.report_lines.specs.inner.Stored.{place_lines}
 use Rattle.report_lines.proofs.Partly.{Partly, nothing_yet, all-written}
-use Rattle.report_lines.proofs.AllLines.{leftFrom, no-placing, boxes-inside, placing-room, placing-written}
+use Rattle.report_lines.proofs.AllLines.{left_from, no-placing, boxes-inside, placing-room, placing-written}
 use borrow.Author.Rules.{rules}
 use Rattle.report_lines.proofs.whole.put_placings.Statement.{statement}
 use Rattle.report_lines.proofs.whole.put_placings.Tie as tie
 
 abbrev invariant-loop : tie.invariant-loop
 invariant-loop out₀ from passes levels counts vertices positions at₀ start₀ k₀ out at start k = (k ≤ length passes) × (length out ≡ length out₀) × (start + sum (drop k counts) ≡ sum counts)
-    × Partly (placeLines (placingsFrom passes levels counts vertices positions)) (leftFrom passes levels counts vertices positions k start) out₀ from at out
+    × Partly (place_lines (placings_from passes levels counts vertices positions)) (left_from passes levels counts vertices positions k start) out₀ from at out
 
 abbrev decreases-loop : tie.decreases-loop
 decreases-loop out₀ from passes levels counts vertices positions at₀ start₀ k₀ out at start k = length passes - k
 
 loop-holds : tie.Need-loop-init invariant-loop decreases-loop
-loop-holds c = let a = c.before.before.before.before.before.args in (omega arith, refl, omega arith, nothing_yet (placeLines (placingsFrom a.passes.now a.levels.now a.counts.now a.vertices.now a.positions.now)) a.out.now a.from)
+loop-holds c = let a = c.before.before.before.before.before.args in (omega arith, refl, omega arith, nothing_yet (place_lines (placings_from a.passes.now a.levels.now a.counts.now a.vertices.now a.positions.now)) a.out.now a.from)
 
 put-listed-requires : tie.Need-put-listed-requires invariant-loop decreases-loop
 put-listed-requires c κs = placing-room c.before.before.before.before.before.before.before.before.requires c.before.before.loop.k c.before.before.loop.start c.before.loop-test.true c.before.before.loop.invariant.2 c.before.before.loop.invariant.3
 
 shared-slice-read-wide : tie.Need-shared-slice-read-wide invariant-loop decreases-loop
-shared-slice-read-wide c = omega (arith, c.before.before.before.before.before.before.before.before.before.before.before.before.requires.ofCounts, c.before.before.before.before.before.loop-test.true)
+shared-slice-read-wide c = omega (arith, c.before.before.before.before.before.before.before.before.before.before.before.before.requires.of_counts, c.before.before.before.before.before.loop-test.true)
 
 add_start : tie.Need-overflow-add-start invariant-loop decreases-loop
-add_start c = omega (arith, boxes-inside c.before.before.before.before.before.before.before.before.before.before.before.before.before.requires c.before.before.before.before.before.before.before.loop.k c.before.before.before.before.before.before.before.loop.start c.before.before.before.before.before.before.loop-test.true c.before.before.before.before.before.before.before.loop.invariant.2 c.before.before.before.before.before.before.before.loop.invariant.3, c.before.before.before.before.before.before.before.before.before.before.before.before.before.requires.ofVertices)
+add_start c = omega (arith, boxes-inside c.before.before.before.before.before.before.before.before.before.before.before.before.before.requires c.before.before.before.before.before.before.before.loop.k c.before.before.before.before.before.before.before.loop.start c.before.before.before.before.before.before.loop-test.true c.before.before.before.before.before.before.before.loop.invariant.2 c.before.before.before.before.before.before.before.loop.invariant.3, c.before.before.before.before.before.before.before.before.before.before.before.before.before.requires.of_vertices)
 
 loop-again : tie.Need-loop-preserved invariant-loop decreases-loop
 loop-again c = let h = placing-written c.before.before.before.before.before.before.before.before.before.before.before.before.before.requires c.before.before.before.before.before.before.before.loop.k c.before.before.before.before.before.before.before.loop.start c.before.before.before.before.before.before.loop-test.true c.before.before.before.before.before.before.before.loop.invariant.2 c.before.before.before.before.before.before.before.loop.invariant.3 c.before.before.before.before.put-listed.ensures in

@@ -3,7 +3,7 @@ use mathlib.Core.Path.{◌≡◌, refl, ◌∙◌}
 use Prim.Native.Nat.{◌≤◌, ◌-◌}
 use native.Mathlib.Omega.{arith}
 use lib.ListN.{length}
-use Rattle.report_lines.specs.inner.Stored.{heightIn, vertexLines, allVertexLines}
+use Rattle.report_lines.specs.inner.Stored.{height_in, vertex_lines, all_vertex_lines}
 use Rattle.report_lines.proofs.Partly.{Partly, all-written}
 use Rattle.report_lines.proofs.AllLines.{no-vertex-yet, no-vertex, vertex-room, vertex-written}
 use borrow.Author.Rules.{rules}
@@ -12,13 +12,13 @@ use Rattle.report_lines.proofs.whole.put_vertices.Tie as tie
 
 abbrev invariant-loop : tie.invariant-loop
 invariant-loop out₀ from heights preliminary finals at₀ n₀ out at n = (n ≤ length preliminary) × (length out ≡ length out₀)
-    × Partly (allVertexLines preliminary finals (heightIn heights)) (vertexLines preliminary finals (heightIn heights) n (length preliminary - n)) out₀ from at out
+    × Partly (all_vertex_lines preliminary finals (height_in heights)) (vertex_lines preliminary finals (height_in heights) n (length preliminary - n)) out₀ from at out
 
 abbrev decreases-loop : tie.decreases-loop
 decreases-loop out₀ from heights preliminary finals at₀ n₀ out at n = length preliminary - n
 
 loop-holds : tie.Need-loop-init invariant-loop decreases-loop
-loop-holds c = let a = c.before.before.args in (omega arith, refl, no-vertex-yet a.preliminary.now a.finals.now (heightIn a.heights.now) a.out.now a.from)
+loop-holds c = let a = c.before.before.args in (omega arith, refl, no-vertex-yet a.preliminary.now a.finals.now (height_in a.heights.now) a.out.now a.from)
 
 put-vertex-requires : tie.Need-put-vertex-requires invariant-loop decreases-loop
 put-vertex-requires c κs = let l = c.before.before.loop in vertex-room c.before.before.before.before.before.requires l.n c.before.loop-test.true l.invariant.2
@@ -34,7 +34,7 @@ loop-again c =
 returns : tie.Need-returns invariant-loop decreases-loop
 returns c =
     let a = c.before.before.before.before.args in
-    all-written (no-vertex a.preliminary.now a.finals.now (heightIn a.heights.now) c.before.loop.n c.loop-test.false) c.before.loop.invariant.2
+    all-written (no-vertex a.preliminary.now a.finals.now (height_in a.heights.now) c.before.loop.n c.loop-test.false) c.before.loop.invariant.2
 
 pub put-vertices-spec : {M : Type 1} → statement M
 put-vertices-spec =

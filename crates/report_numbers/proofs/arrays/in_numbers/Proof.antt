@@ -9,15 +9,15 @@ use Rattle.report_numbers.proofs.arrays.in_numbers.Statement.{statement}
 use Rattle.report_numbers.proofs.arrays.in_numbers.Tie as tie
 
 slice-aggregate-gather : tie.Need-slice-aggregate-gather
-slice-aggregate-gather c = sym (length-take-le _ _ (omega (arith, c.before.total.ensures, c.before.before.before.before.before.before.before.before.before.before.before.before.requires.ofVertices)))
+slice-aggregate-gather c = sym (length-take-le _ _ (omega (arith, c.before.total.ensures, c.before.before.before.before.before.before.before.before.before.before.before.before.requires.of_vertices)))
 
 slice-aggregate-gather-2 : tie.Need-slice-aggregate-gather-2
-slice-aggregate-gather-2 c = sym (length-take-le _ _ (omega (arith, c.before.before.total.ensures, c.before.before.before.before.before.before.before.before.before.before.before.before.before.requires.toNames)))
+slice-aggregate-gather-2 c = sym (length-take-le _ _ (omega (arith, c.before.before.total.ensures, c.before.before.before.before.before.before.before.before.before.before.before.before.before.requires.to_names)))
 
 gather-requires : tie.Need-gather-requires
 gather-requires c κs =
     let s = c.before.before.before.before.before.before.before.before.before.before.before.before.before in
-    rw c.before.before.total.ensures (length-take-le _ _ s.requires.toNames ∙ sym (length-take-le _ _ s.requires.ofVertices), s.requires.boxes)
+    rw c.before.before.total.ensures (length-take-le _ _ s.requires.to_names ∙ sym (length-take-le _ _ s.requires.of_vertices), s.requires.boxes)
 
 returns : tie.Need-returns
 returns c =

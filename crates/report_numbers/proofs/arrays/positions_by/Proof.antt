@@ -19,7 +19,7 @@ loop-holds : tie.Need-loop-init invariant-loop decreases-loop
 loop-holds c = let a = c.before.args in take-start a.m.now a.xs.now a.out.now
 
 shared-slice-copy-out-out : tie.Need-shared-slice-copy-out-out invariant-loop decreases-loop
-shared-slice-copy-out-out c = omega (arith, c.before.before.before.before.before.requires.ofPositions, c.before.before.loop-test.true)
+shared-slice-copy-out-out c = omega (arith, c.before.before.before.before.before.requires.of_positions, c.before.before.loop-test.true)
 
 mul-t12 : tie.Need-overflow-mul-t12 invariant-loop decreases-loop
 mul-t12 c = omega (arith, c.before.wide.ensures, number_in c.before.before.before.before.before.before.requires c.before.before.before.before.loop.invariant c.before.before.before.loop-test.true)

@@ -1,4 +1,4 @@
--- `report_validity::decision::half_holds` meets its contract: the tests are those of `halfHolds`.
+-- `report_validity::decision::half_holds` meets its contract: the tests are those of `half_holds`.
 use borrow.Author.Rules.{rules}
 use Rattle.report_validity.proofs.decision.half_holds.Statement.{statement}
 use Rattle.report_validity.proofs.decision.half_holds.Tie as tie

@@ -1,6 +1,6 @@
 -- `report_validity::decision::halves_hold` meets its contract: whether the half-widths hold is whether those from v on do.
 use Rattle.report_validity.proofs.AllHold.{halves-on, halves-stop, halves-end, halves-apart}
-use Rattle.plan.specs.Acceptable.{halvesHold}
+use Rattle.plan.specs.Acceptable.{halves_hold}
 use lib.ListN.{length, drop}
 use borrow.Author.Tests.{not-true, not-false}
 use native.Mathlib.Omega.{arith}
@@ -11,7 +11,7 @@ use Rattle.report_validity.proofs.decision.halves_hold.Statement.{statement}
 use Rattle.report_validity.proofs.decision.halves_hold.Tie as tie
 
 abbrev invariant-loop : tie.invariant-loop
-invariant-loop vias halves v₀ v = (v ≤ length vias) × (halvesHold (drop v vias) (drop v halves) ≡ halvesHold vias halves)
+invariant-loop vias halves v₀ v = (v ≤ length vias) × (halves_hold (drop v vias) (drop v halves) ≡ halves_hold vias halves)
 
 abbrev decreases-loop : tie.decreases-loop
 decreases-loop vias halves v₀ v = length vias - v

@@ -1,7 +1,7 @@
 -- `report_validity::decision::is_plan_of_text` meets its contract: counts over the arrays' lengths are no text's plan; else the parts lent are the plan's data.
 use lib.Seq.{length-take-le}
 use lib.ListN.{length}
-use Rattle.plan.specs.Limits.{maxLevels, maxVertices, maxSegments}
+use Rattle.plan.specs.Limits.{max_levels, max_vertices, max_segments}
 use Rattle.report_validity.proofs.Limits.{stored-levels, stored-vertices, stored-segments, stored_is}
 use native.Mathlib.Omega.{arith}
 use mathlib.Core.Path.{◌≡◌, sym, ◌∙◌}
@@ -9,22 +9,22 @@ use borrow.Author.Rules.{rules}
 use Rattle.report_validity.proofs.decision.is_plan_of_text.Statement.{statement}
 use Rattle.report_validity.proofs.decision.is_plan_of_text.Tie as tie
 
-long-sizes : (c : tie.Start) → length c.args.plan.sizes ≡ maxLevels
+long-sizes : (c : tie.Start) → length c.args.plan.sizes ≡ max_levels
 long-sizes c = search rules
 
-long-vias : (c : tie.Start) → length c.args.plan.vias ≡ maxVertices
+long-vias : (c : tie.Start) → length c.args.plan.vias ≡ max_vertices
 long-vias c = search rules
 
-long-halves : (c : tie.Start) → length c.args.plan.halves ≡ maxVertices
+long-halves : (c : tie.Start) → length c.args.plan.halves ≡ max_vertices
 long-halves c = search rules
 
-long-uppers : (c : tie.Start) → length c.args.plan.uppers ≡ maxSegments
+long-uppers : (c : tie.Start) → length c.args.plan.uppers ≡ max_segments
 long-uppers c = search rules
 
-long-lowers : (c : tie.Start) → length c.args.plan.lowers ≡ maxSegments
+long-lowers : (c : tie.Start) → length c.args.plan.lowers ≡ max_segments
 long-lowers c = search rules
 
-long-ratings : (c : tie.Start) → length c.args.plan.ratings ≡ maxSegments
+long-ratings : (c : tie.Start) → length c.args.plan.ratings ≡ max_segments
 long-ratings c = search rules
 
 returns : tie.Need-returns

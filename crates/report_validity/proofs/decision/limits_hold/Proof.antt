@@ -1,5 +1,5 @@
--- `report_validity::decision::limits_hold` meets its contract: each test is one of `limitsHold`, and fails with it.
-use Rattle.report_validity.proofs.Limits.{few-levels, limits-not, limits-last, limits-many}
+-- `report_validity::decision::limits_hold` meets its contract: each test is one of `limits_hold`, and fails with it.
+use Rattle.report_validity.proofs.Limits.{few_levels, limits-not, limits-last, limits-many}
 use Rattle.ints.proofs.Tests.{◌and◌}
 use Rattle.text.proofs.Words.{never}
 use native.Mathlib.Omega.{arith}
@@ -19,7 +19,7 @@ returns-3 : tie.Need-returns-3
 returns-3 c = sym (limits-not _ (λ l. never (sym (not-true _ c.if3.true) ∙ c.before.sizes-hold.ensures ∙ l.sizes)))
 
 total-requires : tie.Need-total-requires
-total-requires c κs = let a = c.before.before.before.before.before.before.before.before.before.before.before.before.args in omega (arith, few-levels a.levels a.gap a.spacing (sym c.before.before.before.before.before.numbers_fit.ensures ∙ not-false _ c.before.before.before.before.if1.false), c.before.before.if2.false, c.before.before.before.wide.ensures)
+total-requires c κs = let a = c.before.before.before.before.before.before.before.before.before.before.before.before.args in omega (arith, few_levels a.levels a.gap a.spacing (sym c.before.before.before.before.before.numbers_fit.ensures ∙ not-false _ c.before.before.before.before.if1.false), c.before.before.if2.false, c.before.before.before.wide.ensures)
 
 returns-4 : tie.Need-returns-4
 returns-4 c = sym (limits-not _ (λ l. c.if4.true (c.before.total.ensures ∙ l.summed)))

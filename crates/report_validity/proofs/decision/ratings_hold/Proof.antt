@@ -1,5 +1,5 @@
 -- `report_validity::decision::ratings_hold` meets its contract: whether all are ratings is whether those from i on are.
-use Rattle.ints.specs.Ratings.{allRatings}
+use Rattle.ints.specs.Ratings.{all_ratings}
 use Rattle.ints.proofs.Ratings.{ratings-on, ratings-stop, ratings-end}
 use lib.ListN.{length, drop}
 use borrow.Author.Tests.{not-true, not-false}
@@ -11,7 +11,7 @@ use Rattle.report_validity.proofs.decision.ratings_hold.Statement.{statement}
 use Rattle.report_validity.proofs.decision.ratings_hold.Tie as tie
 
 abbrev invariant-loop : tie.invariant-loop
-invariant-loop ratings i₀ i = (i ≤ length ratings) × (allRatings (drop i ratings) ≡ allRatings ratings)
+invariant-loop ratings i₀ i = (i ≤ length ratings) × (all_ratings (drop i ratings) ≡ all_ratings ratings)
 
 abbrev decreases-loop : tie.decreases-loop
 decreases-loop ratings i₀ i = length ratings - i

@@ -1,7 +1,7 @@
 -- `report_validity::decision::sizes_hold` meets its contract: whether every size holds is whether those from i on do.
 use Rattle.report_validity.proofs.AllHold.{all-on, all-stop, all_end}
 use Rattle.plan.specs.Checks.{every}
-use Rattle.plan.specs.Limits.{within, maxOnLevel}
+use Rattle.plan.specs.Limits.{within, max_on_level}
 use lib.ListN.{length, drop}
 use borrow.Author.Tests.{not-true, not-false}
 use native.Mathlib.Omega.{arith}
@@ -12,7 +12,7 @@ use Rattle.report_validity.proofs.decision.sizes_hold.Statement.{statement}
 use Rattle.report_validity.proofs.decision.sizes_hold.Tie as tie
 
 abbrev invariant-loop : tie.invariant-loop
-invariant-loop sizes i₀ i = (i ≤ length sizes) × (every (within 1 maxOnLevel) (drop i sizes) ≡ every (within 1 maxOnLevel) sizes)
+invariant-loop sizes i₀ i = (i ≤ length sizes) × (every (within 1 max_on_level) (drop i sizes) ≡ every (within 1 max_on_level) sizes)
 
 abbrev decreases-loop : tie.decreases-loop
 decreases-loop sizes i₀ i = length sizes - i
@@ -21,13 +21,13 @@ loop-holds : tie.Need-loop-init invariant-loop decreases-loop
 loop-holds c = (omega arith, refl)
 
 returns : tie.Need-returns invariant-loop decreases-loop
-returns c = sym (all-stop (within 1 maxOnLevel) c.before.before.before.before.before.before.args.sizes.now c.before.before.before.before.loop.i c.before.before.before.loop-test.true (sym c.before.size_holds.ensures ∙ not-true _ c.if1.true)) ∙ c.before.before.before.before.loop.invariant.1
+returns c = sym (all-stop (within 1 max_on_level) c.before.before.before.before.before.before.args.sizes.now c.before.before.before.before.loop.i c.before.before.before.loop-test.true (sym c.before.size_holds.ensures ∙ not-true _ c.if1.true)) ∙ c.before.before.before.before.loop.invariant.1
 
 loop-again : tie.Need-loop-preserved invariant-loop decreases-loop
-loop-again c = (omega arith, sym (all-on (within 1 maxOnLevel) c.before.before.before.before.before.before.args.sizes.now c.before.before.before.before.loop.i c.before.before.before.loop-test.true (sym c.before.size_holds.ensures ∙ not-false _ c.if1.false)) ∙ c.before.before.before.before.loop.invariant.1)
+loop-again c = (omega arith, sym (all-on (within 1 max_on_level) c.before.before.before.before.before.before.args.sizes.now c.before.before.before.before.loop.i c.before.before.before.loop-test.true (sym c.before.size_holds.ensures ∙ not-false _ c.if1.false)) ∙ c.before.before.before.before.loop.invariant.1)
 
 returns-2 : tie.Need-returns-2 invariant-loop decreases-loop
-returns-2 c = sym (all_end (within 1 maxOnLevel) c.before.before.before.args.sizes.now c.before.loop.i (omega arith)) ∙ c.before.loop.invariant.1
+returns-2 c = sym (all_end (within 1 max_on_level) c.before.before.before.args.sizes.now c.before.loop.i (omega arith)) ∙ c.before.loop.invariant.1
 
 pub sizes-hold-spec : {M : Type 1} → statement M
 sizes-hold-spec =

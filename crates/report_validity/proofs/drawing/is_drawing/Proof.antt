@@ -29,7 +29,7 @@ returns-3 c =
 slice-aggregate-all-within : tie.Need-slice-aggregate-all-within
 slice-aggregate-all-within c =
     let s = c.before.before.before.before.before.before.before.before.before.before.before.before.before in
-    sym (length-take-le c.before.before.before.before.before.before.total.result s.args.positions.now (omega (arith, s.requires.1.ofPositions, c.before.before.before.before.before.if1.false)))
+    sym (length-take-le c.before.before.before.before.before.before.total.result s.args.positions.now (omega (arith, s.requires.1.of_positions, c.before.before.before.before.before.if1.false)))
 
 returns-4 : tie.Need-returns-4
 returns-4 c =

@@ -11,7 +11,7 @@ use Rattle.ints.specs.Lists.{sum}
 use Rattle.plan.specs.Limits.{within}
 use Rattle.plan.specs.Plan.{PlanData}
 use Rattle.report_validity.specs.inner.Stored.{OfPlan}
-use Rattle.report_validity.specs.inner.Tests.{isRunOn, arePlacings}
+use Rattle.report_validity.specs.inner.Tests.{is_run_on, are_placings}
 use Rattle.report_validity.proofs.PlacingTests.{placings-on, placings-stop, placings-end}
 use borrow.Author.Rules.{rules}
 use Rattle.report_validity.proofs.placings.are_placings.Statement.{statement}
@@ -20,7 +20,7 @@ use Rattle.report_validity.proofs.placings.are_placings.Tie as tie
 abbrev invariant-loop : tie.invariant-loop
 invariant-loop sizes vias passes levels counts vertices at₀ i₀ at i =
     (i ≤ length passes) × (at + sum (drop i counts) ≡ sum counts)
-    × ((p : PlanData) → OfPlan p sizes vias → arePlacings p (drop i passes) (drop i levels) (drop i counts) (drop at vertices) ≡ arePlacings p passes levels counts vertices)
+    × ((p : PlanData) → OfPlan p sizes vias → are_placings p (drop i passes) (drop i levels) (drop i counts) (drop at vertices) ≡ are_placings p passes levels counts vertices)
 
 abbrev decreases-loop : tie.decreases-loop
 decreases-loop sizes vias passes levels counts vertices at₀ i₀ at i = length passes - i
@@ -49,7 +49,7 @@ is_one : (c : tie.After-is-placing invariant-loop decreases-loop)
     → let a = c.before.before.before.before.before.before.before.before.before.before.before.before.before.before.args in
     let l = c.before.before.before.before.before.before.before.loop in
     (p : PlanData) → OfPlan p a.sizes.now a.vias.now
-    → c.is-placing.result ≡ (within 1 3 (get_or a.passes.now l.i 0) && isRunOn p (get_or a.levels.now l.i 0) (take (get_or a.counts.now l.i 0) (drop l.at a.vertices.now)))
+    → c.is-placing.result ≡ (within 1 3 (get_or a.passes.now l.i 0) && is_run_on p (get_or a.levels.now l.i 0) (take (get_or a.counts.now l.i 0) (drop l.at a.vertices.now)))
 is_one c p o =
     let a = c.before.before.before.before.before.before.before.before.before.before.before.before.before.before.args in
     let l = c.before.before.before.before.before.before.before.loop in

@@ -2,7 +2,7 @@
 use mathlib.Core.Path.{sym, ◌∙◌}
 use native.Mathlib.Omega.{arith}
 use Prim.Native.Nat.{◌-◌}
-use Rattle.pass_tables.specs.inner.Tables.{nextVia}
+use Rattle.pass_tables.specs.inner.Tables.{next_via}
 use Rattle.pass_tables.proofs.RunLaws.{next}
 use Rattle.report_validity.proofs.Walks.{ends-count}
 use borrow.Author.Tests.{le-leb, lt-leb, lt-ltb, le-ltb, not-true, not-false}
@@ -32,7 +32,7 @@ returns-4 c =
       sym c.before.before.starts-run.ensures ∙ not-false _ c.before.if3.false,
       c.run-end.ensures,
     )
-    (ends-count (nextVia a.vias.now a.first (a.to - a.first)) a.first a.count n.low)
+    (ends-count (next_via a.vias.now a.first (a.to - a.first)) a.first a.count n.low)
 
 pub is-whole-spec : {M : Type 1} → statement M
 is-whole-spec =

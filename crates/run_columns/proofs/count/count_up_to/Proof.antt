@@ -7,12 +7,12 @@ use mir.Syntax.{w64}
 use mir.Val.{to_z, of_z}
 use Rattle.ints.proofs.Laws.{back, back', lt-true, lt-false}
 use Rattle.run.proofs.Sorted.{sorted, count-bound, count-below, count-above}
-use Rattle.run.specs.inner.Coordinates.{countUpTo}
+use Rattle.run.specs.inner.Coordinates.{count_up_to}
 use Rattle.run_columns.proofs.count.count_up_to.Statement.{statement}
 use Rattle.run_columns.proofs.count.count_up_to.Tie as tie
 
 abbrev invariant-loop : tie.invariant-loop
-invariant-loop near m lo₀ hi₀ lo hi = (lo ≤ hi) × (hi ≤ length near) × (lo ≤ countUpTo (to_z w64 m) near) × (countUpTo (to_z w64 m) near ≤ hi)
+invariant-loop near m lo₀ hi₀ lo hi = (lo ≤ hi) × (hi ≤ length near) × (lo ≤ count_up_to (to_z w64 m) near) × (count_up_to (to_z w64 m) near ≤ hi)
 
 abbrev decreases-loop : tie.decreases-loop
 decreases-loop near m lo₀ hi₀ lo hi = hi - lo

@@ -11,11 +11,11 @@ use mir.Val.{to_z, of_z}
 use borrow.Author.Tests.{not-true, not-false}
 use Rattle.ints.specs.Ints.{size}
 use Rattle.ints.proofs.Laws.{back, back', sum}
-use Rattle.run.specs.inner.Coordinates.{countUpTo}
+use Rattle.run.specs.inner.Coordinates.{count_up_to}
 use Rattle.run.proofs.Sorted.{count-bound}
 use Rattle.run_columns.specs.inner.Counts.{counted, BackTo, FarTo, Around}
 use Rattle.ints.specs.Lists.{sum as total}
-use Rattle.run_columns.specs.inner.Sums.{ratingsBetween, SumsOf}
+use Rattle.run_columns.specs.inner.Sums.{ratings_between, SumsOf}
 use Rattle.run_columns.proofs.ColumnLaws.{sum-cut}
 use Rattle.run_columns.proofs.SumLaws.{as_many, first-ratings, all-ratings}
 use Rattle.run_columns.proofs.Beside.{box-uncounted, box-counted}
@@ -53,8 +53,8 @@ place c = simp backs at c.plus.ensures
 place-small : (c : tie.After-plus) → size c.plus.result ≤ 2 ^ 51
 place-small c = let s = c.before.before.before.before.before.before in rw (place c) (omega (arith, s.requires.2, s.requires.4, sum s.args.m (pos s.args.offset)))
 
-got : (c : tie.After-count-up-to) → let a = c.before.before.before.before.before.before.before.args in c.count-up-to.result ≡ countUpTo (a.m +ℤ pos a.offset) a.near.now
-got c = let a = c.before.before.before.before.before.before.before.args in simp backs at c.count-up-to.ensures ∙ ap (λ (x : ℤ). countUpTo x a.near.now) (place c.before)
+got : (c : tie.After-count-up-to) → let a = c.before.before.before.before.before.before.before.args in c.count-up-to.result ≡ count_up_to (a.m +ℤ pos a.offset) a.near.now
+got c = let a = c.before.before.before.before.before.before.before.args in simp backs at c.count-up-to.ensures ∙ ap (λ (x : ℤ). count_up_to x a.near.now) (place c.before)
 
 got-bound : (c : tie.After-count-up-to) → c.count-up-to.result ≤ length c.before.before.before.before.before.before.before.args.near.now
 got-bound c = let a = c.before.before.before.before.before.before.before.args in rw (got c) (count-bound (a.m +ℤ pos a.offset) a.near.now)
@@ -84,7 +84,7 @@ rated-requires c κs = let q = sums-of c in let n = c.count-up-to.result in let 
     (omega (arith, q.long), omega (arith, q.long), omega (arith, first-ratings q n h))
 
 rated-requires-2 : tie.Need-rated-requires-2
-rated-requires-2 c κs = let q = sums-of c.before in let n = c.before.count-up-to.result in let h = got-bound c.before in let ws = ratingsBetween c.before.before.before.before.before.before.before.before.args.sums.now in
+rated-requires-2 c κs = let q = sums-of c.before in let n = c.before.count-up-to.result in let h = got-bound c.before in let ws = ratings_between c.before.before.before.before.before.before.before.before.args.sums.now in
     (omega (arith, q.long), omega (arith, q.long), omega (arith, first-ratings q n h, all-ratings q, sum-cut n ws))
 
 back-to-near-requires : tie.Need-back-to-near-requires
@@ -94,17 +94,17 @@ far-to-near-requires : tie.Need-far-to-near-requires
 far-to-near-requires c κs = (c.before.before.before.before.before.before.before.before.before.before.requires.1, simp backs (place-small c.before.before.before.before), c.before.before.before.before.before.before.before.far-to.ensures.1)
 
 -- as ratings
-upto_is : (c : tie.After-rated2) → c.before.rated.result ≡ total (take c.before.before.count-up-to.result (ratingsBetween c.before.before.before.before.before.before.before.before.before.args.sums.now))
+upto_is : (c : tie.After-rated2) → c.before.rated.result ≡ total (take c.before.before.count-up-to.result (ratings_between c.before.before.before.before.before.before.before.before.before.args.sums.now))
 upto_is c = let q = sums-of c.before.before in let n = c.before.before.count-up-to.result in omega (arith, c.before.rated.ensures, first-ratings q n (got-bound c.before.before))
 
-beyond-is : (c : tie.After-rated2) → let ws = ratingsBetween c.before.before.before.before.before.before.before.before.before.args.sums.now in
+beyond-is : (c : tie.After-rated2) → let ws = ratings_between c.before.before.before.before.before.before.before.before.before.args.sums.now in
     c.rated2.result ≡ total ws - total (take c.before.before.count-up-to.result ws)
 beyond-is c = let q = sums-of c.before.before in let n = c.before.before.count-up-to.result in omega (arith, c.rated2.ensures, first-ratings q n (got-bound c.before.before), all-ratings q)
 
 returns-2 : tie.Need-returns-2
 returns-2 c = let s = c.before.before.before.before.before.before.before.before.before.before.before in let a = s.args in let o = c.before.before.before.before.before.before.before.before in let p = place c.before.before.before.before.before in
     let b = rw p at (simp backs at c.before.back-to-near.ensures) in let f = rw p at (simp backs at c.far-to-near.ensures) in
-    rw (upto_is c.before.before, beyond-is c.before.before) (box-counted a.left a.z a.m a.back a.far _ _ (around o) (back-box o) (far-box o) a.offset a.near.now (ratingsBetween a.sums.now) _ _ _
+    rw (upto_is c.before.before, beyond-is c.before.before) (box-counted a.left a.z a.m a.back a.far _ _ (around o) (back-box o) (far-box o) a.offset a.near.now (ratings_between a.sums.now) _ _ _
     (sym (as_many s.requires.6)) s.requires.0 (got c.before.before.before.before)
     (record { left = b.0; right = f.0; some = f.1 }) b.1 f.2 (sym (is-it c.before.before.before.before.before.before.before) ∙ not-false _ c.before.before.before.before.before.before.if1.false))
 

@@ -9,13 +9,13 @@ use lib.IntN.{ℤ, pos}
 use mir.Syntax.{w64}
 use mir.Val.{to_z}
 use Rattle.ints.proofs.Laws.{back, back'}
-use Rattle.run.specs.Run.{leadsOf}
+use Rattle.run.specs.Run.{leads_of}
 use Rattle.run.specs.inner.Coordinates.{less}
-use Rattle.ints.specs.Ratings.{maxRating}
+use Rattle.ints.specs.Ratings.{max_rating}
 use Rattle.ints.specs.Reach.{reach}
 use Rattle.run_columns.specs.inner.Counts.{BoxCounts}
-use Rattle.run_columns.specs.inner.Offsets.{lessNear}
-use Rattle.run_columns.specs.inner.Sums.{ratingsBetween, SumsOf}
+use Rattle.run_columns.specs.inner.Offsets.{less_near}
+use Rattle.run_columns.specs.inner.Sums.{ratings_between, SumsOf}
 use Rattle.run_columns.proofs.ColumnLaws.{First}
 use Rattle.run_columns.proofs.CountLaws.{Counting, counting-start, next-first, next-sizes, counting-next, counting-end}
 use Rattle.run_columns.proofs.Sized.{sized-take, sized-drop}
@@ -26,8 +26,8 @@ use Rattle.run_columns.proofs.counts.count_half.Tie as tie
 
 abbrev invariant-loop : tie.invariant-loop
 invariant-loop left z offsets counts near sums m back far upto₀ beyond₀ b₀ f₀ at₀ i₀ upto beyond b f at i =
-    (i ≤ length z) × Counting left z counts (lessNear offsets counts near) (ratingsBetween sums) (to_z w64 m) back far upto beyond b f at i
-    × (drop at (lessNear offsets counts near) ≡ lessNear (drop i offsets) (drop i counts) (drop at near))
+    (i ≤ length z) × Counting left z counts (less_near offsets counts near) (ratings_between sums) (to_z w64 m) back far upto beyond b f at i
+    × (drop at (less_near offsets counts near) ≡ less_near (drop i offsets) (drop i counts) (drop at near))
 
 abbrev decreases-loop : tie.decreases-loop
 decreases-loop left z offsets counts near sums m back far upto₀ beyond₀ b₀ f₀ at₀ i₀ upto beyond b f at i = length z - i
@@ -41,10 +41,10 @@ turn c = c.before.before.before.before.before.before
 
 -- all neighbours less their offsets, and their ratings
 abbrev nears : tie.Start invariant-loop decreases-loop → List ℤ
-nears s = lessNear s.args.offsets.now s.args.counts.now s.args.near.now
+nears s = less_near s.args.offsets.now s.args.counts.now s.args.near.now
 
 abbrev ratings : tie.Start invariant-loop decreases-loop → List ℕ
-ratings s = ratingsBetween s.args.sums.now
+ratings s = ratings_between s.args.sums.now
 
 same-long : (s : tie.Start invariant-loop decreases-loop) → length (nears s) ≡ length s.args.near.now
 same-long s = let a = s.args in let q = s.requires.0 in length-near a.offsets.now a.counts.now a.near.now (s.requires.1.boxes ∙ q.boxes) q.neighbours
@@ -85,16 +85,16 @@ same-part a c ns = let e : a + c - a ≡ c = omega arith in rw e
 same-sums : (a c : ℕ) (ss : List ℕ) → take (a + c + 1 - a) (drop a ss) ≡ take (c + 1) (drop a ss)
 same-sums a c ss = let e : a + c + 1 - a ≡ c + 1 = omega arith in rw e
 
-part-ratings : (a c : ℕ) (ss : List ℕ) → ratingsBetween (take (a + c + 1 - a) (drop a ss)) ≡ take c (drop a (ratingsBetween ss))
+part-ratings : (a c : ℕ) (ss : List ℕ) → ratings_between (take (a + c + 1 - a) (drop a ss)) ≡ take c (drop a (ratings_between ss))
 part-ratings a c ss = rw (same-sums a c ss, between-take c (drop a ss), between-drop a ss)
 
 got : (c : tie.After-count-box invariant-loop decreases-loop) → let l = (turn c).before.loop in let s = start (turn c) in let a = s.args in let n = get_or a.counts.now l.i 0 in let r = c.count-box.result in
-    BoxCounts a.left (get_or a.z.now l.i (pos 0)) (leadsOf (take n (drop l.at (nears s))) (take n (drop l.at (ratings s)))) a.m l.b l.f r.upto r.beyond r.back r.far
+    BoxCounts a.left (get_or a.z.now l.i (pos 0)) (leads_of (take n (drop l.at (nears s))) (take n (drop l.at (ratings s)))) a.m l.b l.f r.upto r.beyond r.back r.far
 got c = let s = start (turn c) in let l = (turn c).before.loop in
     rw (part-is (turn c)) (simp (back' (get_or s.args.z.now l.i (pos 0)) c.before.before.before.before.count-box-arg.given, back s.fits.m, same-part, part-ratings) at c.count-box.ensures)
 
 sizes : (c : tie.After-count-box invariant-loop decreases-loop) → let l = (turn c).before.loop in
-    l.upto + l.beyond + (c.count-box.result.upto + c.count-box.result.beyond) ≤ maxRating * length (start (turn c)).args.near.now
+    l.upto + l.beyond + (c.count-box.result.upto + c.count-box.result.beyond) ≤ max_rating * length (start (turn c)).args.near.now
 sizes c = let o = turn c in let l = o.before.loop in let s = start o in let a = s.args in
     omega (arith, fits o, next-sizes a.left a.z.now a.counts.now (nears s) (ratings s) a.m a.back a.far l.upto l.beyond l.b l.f l.at l.i o.loop-test.taken (counting o) _ _ _ _ (got c) s.pre.6.rated)
 

@@ -5,7 +5,7 @@ use lib.IntN.{ℤ}
 use lib.Signed.{lt_z, le_z}
 use mir.Syntax.{w64}
 use mir.Val.{to_z, of_z}
-use Rattle.ints.proofs.Laws.{back, casesZ, make-le-true, make-le-false, make-lt-true, make-lt-false}
+use Rattle.ints.proofs.Laws.{back, cases_z, make-le-true, make-le-false, make-lt-true, make-lt-false}
 use Rattle.run_columns.proofs.counts.is_counted.Statement.{statement}
 use Rattle.run_columns.proofs.counts.is_counted.Tie as tie
 
@@ -18,7 +18,7 @@ b-m c = back c.ranges.m
 ruleset backs = (b-z, b-m)
 
 at-or-left : (z m : ℤ) → le_z z m ≡ not (lt_z m z)
-at-or-left z m = casesZ z m (λ k. rw (make-le-true z m k, make-lt-false m z k)) (λ k. rw (make-le-false z m k, make-lt-true m z k))
+at-or-left z m = cases_z z m (λ k. rw (make-le-true z m k, make-lt-false m z k)) (λ k. rw (make-le-false z m k, make-lt-true m z k))
 
 returns : tie.Need-returns
 returns c = simp (backs, c.if1.true)

@@ -6,7 +6,7 @@ use native.Mathlib.Omega.{arith}
 use Prim.Native.Nat.{◌+◌, ◌-◌, ◌≤◌}
 use lib.ListN.{length, take, drop, get_or, length-set}
 use Rattle.ints.specs.Lists.{sum}
-use Rattle.run_columns.specs.inner.Offsets.{offsetsFrom}
+use Rattle.run_columns.specs.inner.Offsets.{offsets_from}
 use Rattle.run_columns.proofs.Fill.{fill-next, fill_end}
 use Rattle.run_columns.proofs.OffsetLaws.{sum_step, offsets-start, offsets-next, offsets-end}
 use Rattle.run_columns.proofs.offsets.fill_offsets.Statement.{statement}
@@ -15,7 +15,7 @@ use Rattle.run_columns.proofs.offsets.fill_offsets.Tie as tie
 abbrev invariant-loop : tie.invariant-loop
 invariant-loop steps offsets₀ offset₀ i₀ offsets offset i =
     (i ≤ length offsets) × (length offsets ≡ length offsets₀) × (offset + sum (drop i steps) ≡ sum steps)
-    × (take i offsets ++ offsetsFrom offset (drop i steps) (length offsets₀ - i) ≡ offsetsFrom 0 steps (length offsets₀))
+    × (take i offsets ++ offsets_from offset (drop i steps) (length offsets₀ - i) ≡ offsets_from 0 steps (length offsets₀))
 
 abbrev decreases-loop : tie.decreases-loop
 decreases-loop steps offsets₀ offset₀ i₀ offsets offset i = length offsets - i
@@ -34,7 +34,7 @@ loop-again c = let s = c.before.before.before.before.before in let l = c.before.
   simp length-set (omega arith),
   simp length-set l.invariant.1,
   omega (arith, d, l.invariant.2, sum_step ds l.i),
-  rw d (fill-next l.offsets l.i l.offset (offsetsFrom (l.offset + get_or ds l.i 0) (drop (l.i + 1) ds) (r - (l.i + 1))) (offsetsFrom 0 ds r) c.before.loop-test.true
+  rw d (fill-next l.offsets l.i l.offset (offsets_from (l.offset + get_or ds l.i 0) (drop (l.i + 1) ds) (r - (l.i + 1))) (offsets_from 0 ds r) c.before.loop-test.true
       (rw (offsets-next l.offset ds l.i r (omega (arith, l.invariant.1, c.before.loop-test.true))) at l.invariant.3)),
 )
 
@@ -43,7 +43,7 @@ same_length c = c.before.loop.invariant.1
 
 returns : tie.Need-returns invariant-loop decreases-loop
 returns c = let s = c.before.before.before.before in let l = c.before.loop in let ds = s.args.steps.now in let r = length s.args.offsets.now in
-    fill_end l.offsets l.i (offsetsFrom 0 ds r) c.loop-test.false (rw (offsets-end l.offset (drop l.i ds) l.i r (omega (arith, l.invariant.1, c.loop-test.false))) at l.invariant.3)
+    fill_end l.offsets l.i (offsets_from 0 ds r) c.loop-test.false (rw (offsets-end l.offset (drop l.i ds) l.i r (omega (arith, l.invariant.1, c.loop-test.false))) at l.invariant.3)
 
 pub fill-offsets-spec : {M : Type 1} → statement M
 fill-offsets-spec =

@@ -8,8 +8,8 @@ use lib.IntN.{pos}
 use Rattle.ints.specs.Ints.{size}
 use Rattle.ints.proofs.Laws.{back'}
 use lib.Seq.{drop-drop, drop-set-lt}
-use Rattle.run_columns.specs.inner.Columns.{Small, maxSize}
-use Rattle.run_columns.specs.inner.Offsets.{plusOffsets}
+use Rattle.run_columns.specs.inner.Columns.{Small, max_size}
+use Rattle.run_columns.specs.inner.Offsets.{plus_offsets}
 use Rattle.run_columns.proofs.Fill.{fill-next, fill_end}
 use Rattle.run_columns.proofs.Sized.{sized-drop}
 use Rattle.run_columns.proofs.OffsetLaws.{first-drop, plus-next, plus-end}
@@ -18,12 +18,12 @@ use Rattle.run_columns.proofs.offsets.plus_offsets.Tie as tie
 
 abbrev invariant-loop : tie.invariant-loop
 invariant-loop offsets z₀ i₀ z i =
-    (i ≤ length z) × (length z ≡ length z₀) × Small (drop i z) × (take i z ++ plusOffsets (drop i offsets) (drop i z) ≡ plusOffsets offsets z₀)
+    (i ≤ length z) × (length z ≡ length z₀) × Small (drop i z) × (take i z ++ plus_offsets (drop i offsets) (drop i z) ≡ plus_offsets offsets z₀)
 
 abbrev decreases-loop : tie.decreases-loop
 decreases-loop offsets z₀ i₀ z i = length z - i
 
-next_small : (c : tie.In-loop invariant-loop decreases-loop) → let l = c.before.loop in size (get_or l.z l.i (pos 0)) ≤ maxSize
+next_small : (c : tie.In-loop invariant-loop decreases-loop) → let l = c.before.loop in size (get_or l.z l.i (pos 0)) ≤ max_size
 next_small c = let l = c.before.loop in rw (first-drop (pos 0) l.i l.z) at (l.invariant.2 0 (omega (arith, length-drop l.i l.z, c.loop-test.true)))
 
 index : (c : tie.In-loop invariant-loop decreases-loop) → c.before.loop.i < length c.before.before.before.args.offsets.now
@@ -58,8 +58,8 @@ loop-again c = let s = c.before.before.before.before.before.before in let l = c.
     let r = drop-set-lt (l.i + 1) z l.i v (omega arith) in (
       simp length-set (omega arith),
       simp length-set l.invariant.1,
-      simp b (rw (r, ← drop-drop 1 l.i z) (sized-drop maxSize 1 (drop l.i z) l.invariant.2)),
-      simp b (fill-next z l.i v (plusOffsets (drop (l.i + 1) os) (drop (l.i + 1) (set z l.i v))) (plusOffsets os s.args.z.now) h
+      simp b (rw (r, ← drop-drop 1 l.i z) (sized-drop max_size 1 (drop l.i z) l.invariant.2)),
+      simp b (fill-next z l.i v (plus_offsets (drop (l.i + 1) os) (drop (l.i + 1) (set z l.i v))) (plus_offsets os s.args.z.now) h
           (rw r (rw (plus-next os z l.i (index c.before.before.before) h, ← e) at l.invariant.3))),
     )
 
@@ -68,7 +68,7 @@ same_length c = c.before.loop.invariant.1
 
 returns : tie.Need-returns invariant-loop decreases-loop
 returns c = let s = c.before.before.before in let l = c.before.loop in let os = s.args.offsets.now in
-    fill_end l.z l.i (plusOffsets os s.args.z.now) c.loop-test.false
+    fill_end l.z l.i (plus_offsets os s.args.z.now) c.loop-test.false
     (rw (plus-end os (drop l.i l.z) l.i (omega (arith, s.requires.0.boxes, l.invariant.1, c.loop-test.false))) at l.invariant.3)
 
 pub plus-offsets-spec : {M : Type 1} → statement M

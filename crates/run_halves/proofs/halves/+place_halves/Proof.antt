@@ -10,12 +10,12 @@ use lib.IntN.{pos}
 use borrow.Fn.Kinds.{In}
 use borrow.Fn.PlainCycle.{Measures, is, falls, and}
 use Rattle.ints.proofs.Laws.{back'}
-use Rattle.run.specs.Call.{limitOf}
+use Rattle.run.specs.Call.{limit_of}
 use Rattle.run_halves.specs.inner.Halves.{Placed}
-use Rattle.run_columns.specs.inner.Offsets.{lessOffsets, lessNear}
-use Rattle.run_columns.specs.inner.Sums.{ratingsBetween}
+use Rattle.run_columns.specs.inner.Offsets.{less_offsets, less_near}
+use Rattle.run_columns.specs.inner.Sums.{ratings_between}
 use Rattle.run_columns.proofs.ColumnLaws.{sum-cut}
-use Rattle.run_columns.proofs.Fill.{rest-is, second-part, both-parts}
+use Rattle.run_columns.proofs.Fill.{rest_is, second-part, both-parts}
 use Rattle.run_halves.proofs.ByHalves.{Halved}
 use Rattle.run_halves.proofs.Given.{given-none, given-one, given-left, given-right, given-join, given-more}
 use Rattle.run_halves.proofs.halves.place_halves.Reads as place-halves
@@ -90,12 +90,12 @@ module _ (t : ℕ) where
       omega (arith, simp (second-part k a.z.now l l (first-long h)) at c.place-halves2.auto.1.1.1.1.1.1.1.0, length-drop k a.z.now, s.pre.1.answer)
 
   second : (c : lts.After-place-halves2 (calls t) (at t) place-halves.Post) → let a = (start (summed (left c))).args in let k = length a.old.now / 2 in let n = (summed (left c)).total.result in
-      Placed (limitOf a.left) (limitOf a.right) (lessOffsets (drop k a.offsets.now) (drop k a.old.now)) (drop k a.counts.now)
-      (lessNear (drop k a.offsets.now) (drop k a.counts.now) (drop n a.near.now)) (ratingsBetween (drop n a.sums.now)) c.place-halves2.new.1.1.1.1.1.1.1.0
-  second c = simp rest-is at c.place-halves2.ensures
+      Placed (limit_of a.left) (limit_of a.right) (less_offsets (drop k a.offsets.now) (drop k a.old.now)) (drop k a.counts.now)
+      (less_near (drop k a.offsets.now) (drop k a.counts.now) (drop n a.near.now)) (ratings_between (drop n a.sums.now)) c.place-halves2.new.1.1.1.1.1.1.1.0
+  second c = simp rest_is at c.place-halves2.ensures
 
   returns : lts.Need-returns (calls t) (at t) place-halves.Post
-  returns c = let s = c.before.before.before.before in let a = s.args in given-none (limitOf a.left) (limitOf a.right) a.old.now a.offsets.now a.counts.now a.near.now a.sums.now a.z.now s.requires.1 c.if1.true
+  returns c = let s = c.before.before.before.before in let a = s.args in given-none (limit_of a.left) (limit_of a.right) a.old.now a.offsets.now a.counts.now a.near.now a.sums.now a.z.now s.requires.1 c.if1.true
 
   shared-slice-copy-out-place-one : lts.Need-shared-slice-copy-out-place-one (calls t) (at t) place-halves.Post
   shared-slice-copy-out-place-one c = omega arith
@@ -116,7 +116,7 @@ module _ (t : ℕ) where
   returns-2 : lts.Need-returns-2 (calls t) (at t) place-halves.Post
   returns-2 c = let s = c.before.before.before.before.before.before.before.before in let a = s.args in let b = back' c.place-one.result c.place-one.type-inv in
       let e = simp (back' (get_or a.old.now 0 (pos 0)) c.before.before.place-one-arg.given) at c.place-one.ensures in
-      simp b (given-one (limitOf a.left) (limitOf a.right) a.old.now a.offsets.now a.counts.now a.near.now a.sums.now a.z.now s.requires.1 c.place-one.result c.before.before.before.if2.true e)
+      simp b (given-one (limit_of a.left) (limit_of a.right) a.old.now a.offsets.now a.counts.now a.near.now a.sums.now a.z.now s.requires.1 c.place-one.result c.before.before.before.if2.true e)
 
   slice-aggregate-total : lts.Need-slice-aggregate-total (calls t) (at t) place-halves.Post
   slice-aggregate-total c = let s = c.before.before.before.before.before.before in omega (arith, length-take (length s.args.old.now / 2) s.args.counts.now, boxes s)
@@ -151,7 +151,7 @@ module _ (t : ℕ) where
   place-halves-requires : lts.Need-place-halves-requires (calls t) (at t) place-halves.Post
   place-halves-requires c κs = let h = c.before.before.before.before.before.before in let s = start h in let a = s.args in let k = length a.old.now / 2 in (
     omega (arith, s.pre.0, length-take k a.old.now, (halved h).many),
-    given-left (limitOf a.left) (limitOf a.right) a.old.now a.offsets.now a.counts.now a.near.now a.sums.now a.z.now s.pre.1 k h.total.result (halved h),
+    given-left (limit_of a.left) (limit_of a.right) a.old.now a.offsets.now a.counts.now a.near.now a.sums.now a.z.now s.pre.1 k h.total.result (halved h),
   )
 
   mul-place-halves : lts.Need-overflow-mul-place-halves (calls t) (at t) place-halves.Post
@@ -229,14 +229,14 @@ module _ (t : ℕ) where
   place-halves-requires-2 : lts.Need-place-halves-requires-2 (calls t) (at t) place-halves.Post
   place-halves-requires-2 c κs = let h = c.before.before.before.before.before.before.before in let g = summed h in let s = start g in let a = s.args in let k = length a.old.now / 2 in let l = h.place-halves.new.1.1.1.1.1.1.1.0 in (
     omega (arith, s.pre.0, length-take (length a.old.now - k) (drop k a.old.now), length-drop k a.old.now, (halved g).many),
-    simp rest-is (given-right (limitOf a.left) (limitOf a.right) a.old.now a.offsets.now a.counts.now a.near.now a.sums.now a.z.now s.pre.1 k g.total.result (halved g)
+    simp rest_is (given-right (limit_of a.left) (limit_of a.right) a.old.now a.offsets.now a.counts.now a.near.now a.sums.now a.z.now s.pre.1 k g.total.result (halved g)
         (drop k (l ++ drop k a.z.now)) (omega (arith, length-drop k (l ++ drop k a.z.now), length-append l (drop k a.z.now), first-long h, length-drop k a.z.now, s.pre.1.answer))),
   )
 
   join-requires : lts.Need-join-requires (calls t) (at t) place-halves.Post
   join-requires c κs = let h = c.before.before in let g = left h in let e = summed g in let s = start e in let a = s.args in let k = length a.old.now / 2 in
       let l = g.place-halves.last.1.1.1.1.1.1.1.0 in let r = h.place-halves2.new.1.1.1.1.1.1.1.0 in
-      rw (both-parts k a.z.now l r (first-long g)) (given-join (limitOf a.left) (limitOf a.right) a.old.now a.offsets.now a.counts.now a.near.now a.sums.now a.z.now s.pre.1 k e.total.result (halved e) l r (first-long g) (second-long h) g.place-halves.ensures (second h))
+      rw (both-parts k a.z.now l r (first-long g)) (given-join (limit_of a.left) (limit_of a.right) a.old.now a.offsets.now a.counts.now a.near.now a.sums.now a.z.now s.pre.1 k e.total.result (halved e) l r (first-long g) (second-long h) g.place-halves.ensures (second h))
 
   same-length-2 : lts.Need-same-length-2 (calls t) (at t) place-halves.Post
   same-length-2 c = let h = c.before.before.before.before in let g = left h in let s = start (summed g) in let a = s.args in let k = length a.old.now / 2 in
@@ -247,7 +247,7 @@ module _ (t : ℕ) where
   returns-3 : lts.Need-returns-3 (calls t) (at t) place-halves.Post
   returns-3 c = let h = c.before.before.before.before in let g = left h in let e = summed g in let s = start e in let a = s.args in let k = length a.old.now / 2 in
       let l = g.place-halves.last.1.1.1.1.1.1.1.0 in let r = h.place-halves2.new.1.1.1.1.1.1.1.0 in
-      given-more (limitOf a.left) (limitOf a.right) a.old.now a.offsets.now a.counts.now a.near.now a.sums.now a.z.now s.pre.1 k e.total.result (halved e) l r (first-long g) (second-long h) g.place-halves.ensures (second h)
+      given-more (limit_of a.left) (limit_of a.right) a.old.now a.offsets.now a.counts.now a.near.now a.sums.now a.z.now s.pre.1 k e.total.result (halved e) l r (first-long g) (second-long h) g.place-halves.ensures (second h)
       _ (rw (both-parts k a.z.now l r (first-long g)) at c.before.join.ensures)
 
 pub +place-halves-spec : {M : Type 1} → statement M

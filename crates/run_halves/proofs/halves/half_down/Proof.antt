@@ -7,7 +7,7 @@ use mir.Syntax.{w64}
 use mir.Val.{to_z, of_z, SFits}
 use Rattle.ints.specs.Ints.{◌⊑◌, ◌⊏◌}
 use Rattle.ints.proofs.Laws.{ints, back, fit-make, cast-make, of-nat, dif, abs, apart, eq-make}
-use Rattle.run.specs.Run.{halfDown}
+use Rattle.run.specs.Run.{half_down}
 use Rattle.run.proofs.HalfDown.{half_of}
 use Rattle.run_halves.proofs.halves.half_down.Statement.{statement}
 use Rattle.run_halves.proofs.halves.half_down.Tie as tie
@@ -16,15 +16,15 @@ use Rattle.run_halves.proofs.halves.half_down.Tie as tie
 abbrev left : ℤ → ℤ
 left z = negsuc 0 -ℤ z
 
-abbrev halfLeft : ℤ → ℕ
-halfLeft z = nat_abs (left z) / 2
+abbrev half_left : ℤ → ℕ
+half_left z = nat_abs (left z) / 2
 
-half-negative : (z : ℤ) → z ⊏ pos 0 → negsuc 0 -ℤ pos (halfLeft z) ≡ halfDown z
-half-negative z h = let k = halfLeft z in
-    eq-make (negsuc 0 -ℤ pos k) (halfDown z) (omega (arith, dif (negsuc 0) (pos k), dif (negsuc 0) z, apart (left z), abs (left z), half_of z))
+half-negative : (z : ℤ) → z ⊏ pos 0 → negsuc 0 -ℤ pos (half_left z) ≡ half_down z
+half-negative z h = let k = half_left z in
+    eq-make (negsuc 0 -ℤ pos k) (half_down z) (omega (arith, dif (negsuc 0) (pos k), dif (negsuc 0) z, apart (left z), abs (left z), half_of z))
 
-half-other : (z : ℤ) → pos 0 ⊑ z → pos (nat_abs z / 2) ≡ halfDown z
-half-other z h = eq-make (pos (nat_abs z / 2)) (halfDown z) (omega (arith, apart z, abs z, half_of z))
+half-other : (z : ℤ) → pos 0 ⊑ z → pos (nat_abs z / 2) ≡ half_down z
+half-other z h = eq-make (pos (nat_abs z / 2)) (half_down z) (omega (arith, apart z, abs z, half_of z))
 
 minus_one : to_z w64 (2 ^ 64 - 1) ≡ negsuc 0
 minus_one = refl
@@ -45,17 +45,17 @@ b-left : (c : tie.Then1) → to_z w64 (of_z w64 (left c.before.args.z)) ≡ left
 b-left c = back (fits-left c)
 
 -- that half, and −1 less it
-left-small : (c : tie.Then1) → halfLeft c.before.args.z < 2 ^ 63 - 1
+left-small : (c : tie.Then1) → half_left c.before.args.z < 2 ^ 63 - 1
 left-small c = let z = left c.before.args.z in omega (arith, ints, fits-left c, abs z)
 
-b-half : (c : tie.Then1) → to_z w64 (halfLeft c.before.args.z) ≡ pos (halfLeft c.before.args.z)
+b-half : (c : tie.Then1) → to_z w64 (half_left c.before.args.z) ≡ pos (half_left c.before.args.z)
 b-half c = of-nat _ (omega (arith, left-small c))
 
-fits-down : (c : tie.Then1) → SFits w64 (negsuc 0 -ℤ pos (halfLeft c.before.args.z))
-fits-down c = let k = halfLeft c.before.args.z in
+fits-down : (c : tie.Then1) → SFits w64 (negsuc 0 -ℤ pos (half_left c.before.args.z))
+fits-down c = let k = half_left c.before.args.z in
     fit-make (negsuc 0 -ℤ pos k) (omega (arith, left-small c, dif (negsuc 0) (pos k), apart (negsuc 0 -ℤ pos k)))
 
-b-down : (c : tie.Then1) → to_z w64 (of_z w64 (negsuc 0 -ℤ pos (halfLeft c.before.args.z))) ≡ negsuc 0 -ℤ pos (halfLeft c.before.args.z)
+b-down : (c : tie.Then1) → to_z w64 (of_z w64 (negsuc 0 -ℤ pos (half_left c.before.args.z))) ≡ negsuc 0 -ℤ pos (half_left c.before.args.z)
 b-down c = back (fits-down c)
 
 ruleset backs = (minus_one, b-z, b-left, b-half, b-down)

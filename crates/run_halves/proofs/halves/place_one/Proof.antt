@@ -6,15 +6,15 @@ use lib.IntN.{ℤ}
 use mir.Syntax.{w64}
 use mir.Val.{to_z, of_z}
 use Rattle.ints.proofs.Laws.{back, back'}
-use Rattle.run.specs.Run.{leadsOf, start_of}
+use Rattle.run.specs.Run.{leads_of, start_of}
 use Rattle.run.specs.inner.Coordinates.{less}
 use Rattle.run.specs.inner.Limits.{clamp}
 use Rattle.run.proofs.Coordinates.{start-less}
 use Rattle.run.proofs.Leads.{lead-positions, leads-less}
-use Rattle.run_columns.specs.inner.Sums.{ratingsBetween}
+use Rattle.run_columns.specs.inner.Sums.{ratings_between}
 use Rattle.run_columns.proofs.SumLaws.{as_many}
 use Rattle.ints.specs.Reach.{reach}
-use Rattle.run.specs.Call.{limitOf}
+use Rattle.run.specs.Call.{limit_of}
 use Rattle.run_halves.proofs.SmallBox.{small-start}
 use Rattle.run_halves.proofs.halves.place_one.Statement.{statement}
 use Rattle.run_halves.proofs.halves.place_one.Tie as tie
@@ -34,18 +34,18 @@ b-raised c = back' c.raised.result c.raised.type-inv
 ruleset backs = (b-old, b-start, b-minus, b-raised)
 
 minus-requires : tie.Need-minus-requires
-minus-requires c κs = let s = c.before.before in let ns = s.args.near.now in let ws = ratingsBetween s.args.sums.now in
+minus-requires c κs = let s = c.before.before in let ns = s.args.near.now in let ws = ratings_between s.args.sums.now in
     simp backs (rw (simp backs at c.start.ensures) (omega (
       arith,
       s.requires.1,
-      small-start reach s.args.old (leadsOf ns ws) s.requires.0
+      small-start reach s.args.old (leads_of ns ws) s.requires.0
           (rw (lead-positions ns ws (omega (arith, as_many s.requires.3))) s.requires.2),
     )))
 
 returns : tie.Need-returns
-returns c = let a = c.before.before.before.before.before.args in let ws = ratingsBetween a.sums.now in
-    let e = simp backs at c.before.before.minus.ensures ∙ ap (less a.offset) (simp backs at c.before.before.before.start.ensures) ∙ sym (start-less a.old (leadsOf a.near.now ws) a.offset) ∙ ap (start_of (less a.offset a.old)) (leads-less a.offset a.near.now ws) in
-    back' c.lowered.result c.lowered.type-inv ∙ rw (simp backs at c.before.raised.ensures) at (simp backs at c.lowered.ensures) ∙ ap (λ (x : ℤ). clamp (limitOf a.left) (limitOf a.right) x) e
+returns c = let a = c.before.before.before.before.before.args in let ws = ratings_between a.sums.now in
+    let e = simp backs at c.before.before.minus.ensures ∙ ap (less a.offset) (simp backs at c.before.before.before.start.ensures) ∙ sym (start-less a.old (leads_of a.near.now ws) a.offset) ∙ ap (start_of (less a.offset a.old)) (leads-less a.offset a.near.now ws) in
+    back' c.lowered.result c.lowered.type-inv ∙ rw (simp backs at c.before.raised.ensures) at (simp backs at c.lowered.ensures) ∙ ap (λ (x : ℤ). clamp (limit_of a.left) (limit_of a.right) x) e
 
 pub place-one-spec : {M : Type 1} → statement M
 place-one-spec =

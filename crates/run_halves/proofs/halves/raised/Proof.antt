@@ -2,18 +2,18 @@
 use borrow.Author.Rules.{rules}
 use mathlib.Core.Path.{sym, ◌∙◌, ap}
 use Rattle.ints.proofs.Laws.{back, back'}
-use Rattle.run.specs.inner.Limits.{clampLow}
-use Rattle.run.specs.Call.{limitOf}
+use Rattle.run.specs.inner.Limits.{clamp_low}
+use Rattle.run.specs.Call.{limit_of}
 use Rattle.run_halves.proofs.halves.raised.Statement.{statement}
 use Rattle.run_halves.proofs.halves.raised.Tie as tie
 
 returns : tie.Need-returns
-returns c = let s = c.before.before in back s.ranges.x ∙ sym (ap (λ b. clampLow (limitOf b) s.args.x) c.enum_told.given.1)
+returns c = let s = c.before.before in back s.ranges.x ∙ sym (ap (λ b. clamp_low (limit_of b) s.args.x) c.enum_told.given.1)
 
 returns-2 : tie.Need-returns-2
 returns-2 c = let s = c.before.before.before.before in
     back' c.greater.result c.greater.type-inv ∙ simp (back s.ranges.x, back' c.before.before.left.given.0.0 c.before.known-told.given.0.1) at c.greater.ensures
-    ∙ sym (ap (λ b. clampLow (limitOf b) s.args.x) c.before.before.left.given.1)
+    ∙ sym (ap (λ b. clamp_low (limit_of b) s.args.x) c.before.before.left.given.1)
 
 pub raised-spec : {M : Type 1} → statement M
 raised-spec = tie.close

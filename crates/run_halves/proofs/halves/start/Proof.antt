@@ -11,15 +11,15 @@ use mir.Val.{to_z, of_z}
 use Rattle.ints.specs.Ints.{size}
 use Rattle.ints.specs.Reach.{reach}
 use Rattle.ints.proofs.Laws.{back, back', fit-sum}
-use Rattle.run.specs.Run.{leadsOf, start_of}
+use Rattle.run.specs.Run.{leads_of, start_of}
 use Rattle.run.proofs.Unrated.{start_none}
-use Rattle.run_columns.specs.inner.Sums.{ratingsBetween, SumsOf}
+use Rattle.run_columns.specs.inner.Sums.{ratings_between, SumsOf}
 use Rattle.run_halves.proofs.Middles.{start_between}
 use Rattle.run_halves.proofs.halves.start.Statement.{statement}
 use Rattle.run_halves.proofs.halves.start.Tie as tie
 
-none : (old : ℤ) (ns : List ℤ) (ws : List ℕ) → length ns ≡ 0 → old ≡ start_of old (leadsOf ns ws)
-unfolding leadsOf
+none : (old : ℤ) (ns : List ℤ) (ws : List ℕ) → length ns ≡ 0 → old ≡ start_of old (leads_of ns ws)
+unfolding leads_of
 none old [] ws h = sym (start_none old)
 none old (n ∷ ns) ws h = absurd (omega arith)
 
@@ -59,7 +59,7 @@ add-half-down : tie.Need-overflow-add-half-down
 add-half-down c = simp (b-low, b-high) (omega (arith, fit-sum, sizes c))
 
 returns : tie.Need-returns
-returns c = let s = c.before.before in back s.ranges.old ∙ none s.args.old s.args.near.now (ratingsBetween s.args.sums.now) c.if1.true
+returns c = let s = c.before.before in back s.ranges.old ∙ none s.args.old s.args.near.now (ratings_between s.args.sums.now) c.if1.true
 
 returns-2 : tie.Need-returns-2
 returns-2 c = let m = c.before.before.before in

@@ -8,7 +8,7 @@ use lib.ListN.{length, take, drop, get_or, length-set}
 use lib.IntN.{pos}
 use mir.Syntax.{w64}
 use mir.Val.{to_z}
-use Rattle.ints.specs.Ints.{minZ}
+use Rattle.ints.specs.Ints.{min_z}
 use Rattle.ints.proofs.Laws.{back, back'}
 use Rattle.run_halves.proofs.Cut.{map_next, map-end, cut-is}
 use Rattle.run_halves.proofs.meet.cut.Statement.{statement}
@@ -16,7 +16,7 @@ use Rattle.run_halves.proofs.meet.cut.Tie as tie
 
 abbrev invariant-loop : tie.invariant-loop
 invariant-loop m z₀ i₀ z i =
-    (i ≤ length z) × (length z ≡ length z₀) × (take i z ++ map (λ x. minZ x (to_z w64 m)) (drop i z) ≡ map (λ x. minZ x (to_z w64 m)) z₀)
+    (i ≤ length z) × (length z ≡ length z₀) × (take i z ++ map (λ x. min_z x (to_z w64 m)) (drop i z) ≡ map (λ x. min_z x (to_z w64 m)) z₀)
 
 abbrev decreases-loop : tie.decreases-loop
 decreases-loop m z₀ i₀ z i = length z - i

@@ -8,8 +8,8 @@ use lib.IntN.{pos}
 use mir.Syntax.{w64}
 use mir.Val.{to_z, of_z}
 use Rattle.ints.proofs.Laws.{back', lt-true, lt-false}
-use Rattle.run.specs.inner.Bisection.{cut_at, raiseTo}
-use Rattle.run_halves.specs.inner.Meet.{lastBefore, firstAfter}
+use Rattle.run.specs.inner.Bisection.{cut_at, raise_to}
+use Rattle.run_halves.specs.inner.Meet.{last_before, first_after}
 use Rattle.run_columns.proofs.Fill.{second-part, both-parts}
 use Rattle.run_halves.proofs.Cut.{length_cut}
 use Rattle.run_halves.proofs.meet.join.Statement.{statement}
@@ -24,7 +24,7 @@ b-a c = let a = c.before.before.before.before.before.args in back' (get_or a.z.n
 ruleset backs = (b-a, b-b)
 
 meeting-place-requires : tie.Need-meeting-place-requires
-meeting-place-requires c κs = let s = c.before.before.before.before.before.before.before in (s.requires.0, (s.requires.1, lt-true (firstAfter s.args.k s.args.z.now) (lastBefore s.args.k s.args.z.now) (simp backs at c.before.if1.true)))
+meeting-place-requires c κs = let s = c.before.before.before.before.before.before.before in (s.requires.0, (s.requires.1, lt-true (first_after s.args.k s.args.z.now) (last_before s.args.k s.args.z.now) (simp backs at c.before.if1.true)))
 
 slice-aggregate-cut : tie.Need-slice-aggregate-cut
 slice-aggregate-cut c = let s = c.before.before.before.before.before.before.before.before.before in omega (arith, length-take s.args.k s.args.z.now, s.requires.0.0.others)
@@ -36,11 +36,11 @@ returns c = let s = c.before.before.before.before.before.before.before.before.be
     let l = simp bm at c.before.before.before.before.cut.ensures in
     let el : length (cut_at m (take k z)) ≡ k = omega (arith, length_cut m (take k z), length-take k z, s.requires.0.0.others) in
     let r = simp (l, bm, second-part k z (cut_at m (take k z)) z el) at c.before.raise.ensures in
-    record { place = m; meets = λ h. c.before.before.before.before.before.before.meeting-place.ensures; outcome = rw (t, l, r) (both-parts k z (cut_at m (take k z)) (raiseTo m (drop k z)) el) }
+    record { place = m; meets = λ h. c.before.before.before.before.before.before.meeting-place.ensures; outcome = rw (t, l, r) (both-parts k z (cut_at m (take k z)) (raise_to m (drop k z)) el) }
 
 returns-2 : tie.Need-returns-2
 returns-2 c = let a = c.before.before.before.before.before.before.args in let t = simp backs at c.if1.false in
-    record { place = pos 0; meets = λ h. absurd (omega (arith, lt-false (firstAfter a.k a.z.now) (lastBefore a.k a.z.now) t)); outcome = rw t }
+    record { place = pos 0; meets = λ h. absurd (omega (arith, lt-false (first_after a.k a.z.now) (last_before a.k a.z.now) t)); outcome = rw t }
 
 pub join-spec : {M : Type 1} → statement M
 join-spec =

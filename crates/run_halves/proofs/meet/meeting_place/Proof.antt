@@ -11,39 +11,39 @@ use mir.Syntax.{w64}
 use mir.Val.{to_z, of_z}
 use Rattle.ints.specs.Ints.{size}
 use Rattle.ints.proofs.Laws.{back', dif, apart as one-zero, gap-r}
-use Rattle.run_columns.specs.inner.Columns.{maxSize}
-use Rattle.run_halves.specs.inner.Meet.{lastBefore, firstAfter, overlap, Tests}
-use Rattle.run_columns.specs.inner.Offsets.{lessNear}
-use Rattle.run_columns.specs.inner.Sums.{ratingsBetween}
+use Rattle.run_columns.specs.inner.Columns.{max_size}
+use Rattle.run_halves.specs.inner.Meet.{last_before, first_after, overlap, Tests}
+use Rattle.run_columns.specs.inner.Offsets.{less_near}
+use Rattle.run_columns.specs.inner.Sums.{ratings_between}
 use Rattle.run_halves.proofs.Small.{small-place}
 use Rattle.run_halves.proofs.Bisect.{Searching, searching-start, searching-left, searching-right, searching-end}
 use Rattle.run_halves.proofs.meet.meeting_place.Statement.{statement}
 use Rattle.run_halves.proofs.meet.meeting_place.Tie as tie
 
 abbrev invariant-loop : tie.invariant-loop
-invariant-loop k n z offsets counts near sums b lo₀ w₀ lo w = Searching k n z counts (lessNear offsets counts near) (ratingsBetween sums) lo w
+invariant-loop k n z offsets counts near sums b lo₀ w₀ lo w = Searching k n z counts (less_near offsets counts near) (ratings_between sums) lo w
 
 abbrev decreases-loop : tie.decreases-loop
 decreases-loop k n z offsets counts near sums b lo₀ w₀ lo w = w
 
 -- all neighbours less their offsets
 abbrev nears : tie.Start invariant-loop decreases-loop → List ℤ
-nears s = lessNear s.args.offsets.now s.args.counts.now s.args.near.now
+nears s = less_near s.args.offsets.now s.args.counts.now s.args.near.now
 
 -- and their ratings
 abbrev ratings : tie.Start invariant-loop decreases-loop → List ℕ
-ratings s = ratingsBetween s.args.sums.now
+ratings s = ratings_between s.args.sums.now
 
 -- the two positions beside the cut are small
 record Small-ends (c : tie.Start invariant-loop decreases-loop) : Type 0 where
-  last : size (lastBefore c.args.k c.args.z.now) ≤ maxSize
-  first : size (firstAfter c.args.k c.args.z.now) ≤ maxSize
+  last : size (last_before c.args.k c.args.z.now) ≤ max_size
+  first : size (first_after c.args.k c.args.z.now) ≤ max_size
   wide : overlap c.args.k c.args.z.now ≤ 2 ^ 51
 
 small-ends : (c : tie.Start invariant-loop decreases-loop) → Small-ends c
 small-ends c = let k = c.args.k in let z = c.args.z.now in let q = c.requires.0.0 in
     let a = c.requires.1.0.0 (k - 1) (omega (arith, q.some, q.others)) in let b = c.requires.1.0.0 k q.others in
-    record { last = a; first = b; wide = omega (arith, dif (lastBefore k z) (firstAfter k z)) }
+    record { last = a; first = b; wide = omega (arith, dif (last_before k z) (first_after k z)) }
 
 b-b : (c : tie.After-b invariant-loop decreases-loop) → let a = c.before.before.before.before.args in to_z w64 (of_z w64 (get_or a.z.now a.k (pos 0))) ≡ get_or a.z.now a.k (pos 0)
 b-b c = let a = c.before.before.before.before.args in back' (get_or a.z.now a.k (pos 0)) c.b.given
@@ -58,7 +58,7 @@ apart-requires c κs = let e = small-ends c.before.before.before.before.before i
 
 loop-holds : tie.Need-loop-init invariant-loop decreases-loop
 loop-holds c = let s = c.before.before.before.before.before.before in let k = s.args.k in let z = s.args.z.now in let e = simp backs at c.apart.ensures in
-    let w : c.apart.result ≡ overlap k z = omega (arith, e, s.requires.1.1, gap-r (lastBefore k z) (firstAfter k z) (omega (arith, s.requires.1.1)), dif (lastBefore k z) (firstAfter k z), one-zero (lastBefore k z -ℤ firstAfter k z)) in
+    let w : c.apart.result ≡ overlap k z = omega (arith, e, s.requires.1.1, gap-r (last_before k z) (first_after k z) (omega (arith, s.requires.1.1)), dif (last_before k z) (first_after k z), one-zero (last_before k z -ℤ first_after k z)) in
     rw w (searching-start k s.args.n z s.args.counts.now (nears s) (ratings s))
 
 add-plus : tie.Need-overflow-add-plus invariant-loop decreases-loop
@@ -68,19 +68,19 @@ plus-requires : tie.Need-plus-requires invariant-loop decreases-loop
 plus-requires c κs = let e = small-ends c.before.before.before.before.before.before.before.before in let i = c.before.loop.invariant.within in simp backs (omega arith)
 
 -- where the test is made
-place : (c : tie.After-plus invariant-loop decreases-loop) → let s = c.before.before.before.before.before.before.before.before.before.args in let l = c.before.before.loop in c.plus.result ≡ firstAfter s.k s.z.now +ℤ pos (l.lo + l.w / 2)
+place : (c : tie.After-plus invariant-loop decreases-loop) → let s = c.before.before.before.before.before.before.before.before.before.args in let l = c.before.before.loop in c.plus.result ≡ first_after s.k s.z.now +ℤ pos (l.lo + l.w / 2)
 place c = simp backs at c.plus.ensures
 
-place-small : (c : tie.After-plus invariant-loop decreases-loop) → size c.plus.result ≤ maxSize
+place-small : (c : tie.After-plus invariant-loop decreases-loop) → size c.plus.result ≤ max_size
 place-small c = let s = c.before.before.before.before.before.before.before.before.before in let e = small-ends s in let l = c.before.before.loop in let k = s.args.k in let z = s.args.z.now in
-    rw (place c) (small-place (lastBefore k z) (firstAfter k z) (l.lo + l.w / 2) e.last e.first s.requires.1.1 (omega (arith, l.invariant.within)))
+    rw (place c) (small-place (last_before k z) (first_after k z) (l.lo + l.w / 2) e.last e.first s.requires.1.1 (omega (arith, l.invariant.within)))
 
 more-up-to-requires : tie.Need-more-up-to-requires invariant-loop decreases-loop
 more-up-to-requires c κs = let s = c.before.before.before.before.before.before.before.before.before in
     (s.requires.0.0, s.requires.0.1, s.requires.1.0.0, s.requires.1.0.1, simp (back' c.plus.result c.plus.type-inv) (place-small c), omega (arith, c.before.loop-test.true), s.requires.1.0.2)
 
 tested : (c : tie.After-more-up-to invariant-loop decreases-loop) → let s = c.before.before.before.before.before.before.before.before.before.before in let a = s.args in let l = c.before.before.before.loop in let r = c.more-up-to.result in
-    Tests a.k a.n a.z.now a.counts.now (nears s) (ratings s) (firstAfter a.k a.z.now +ℤ pos (l.lo + l.w / 2)) (l.w / 2) (l.w - l.w / 2) r.more r.back r.far
+    Tests a.k a.n a.z.now a.counts.now (nears s) (ratings s) (first_after a.k a.z.now +ℤ pos (l.lo + l.w / 2)) (l.w / 2) (l.w - l.w / 2) r.more r.back r.far
 tested c = rw (place c.before) at (simp (back' c.before.plus.result c.before.plus.type-inv) at c.more-up-to.ensures)
 
 sub-w : tie.Need-overflow-sub-w invariant-loop decreases-loop

@@ -10,19 +10,19 @@ use lib.IntN.{ℤ}
 use mir.Syntax.{w64}
 use mir.Val.{to_z, of_z}
 use Rattle.ints.proofs.Laws.{back}
-use Rattle.ints.specs.Ratings.{maxRating}
+use Rattle.ints.specs.Ratings.{max_rating}
 use Rattle.ints.specs.Reach.{reach}
-use Rattle.run_columns.specs.inner.Columns.{maxSize}
+use Rattle.run_columns.specs.inner.Columns.{max_size}
 use Rattle.run_columns.specs.inner.Counts.{HalfCounts}
 use Rattle.run_halves.specs.inner.Meet.{more}
-use Rattle.run_columns.specs.inner.Offsets.{lessNear}
-use Rattle.run_columns.specs.inner.Sums.{ratingsBetween}
+use Rattle.run_columns.specs.inner.Offsets.{less_near}
+use Rattle.run_columns.specs.inner.Sums.{ratings_between}
 use Rattle.run_halves.proofs.Cut.{cut-within, cut_left, cut_right}
 use Rattle.run_columns.proofs.CountLaws.{beside-more, around-more}
 use Rattle.run_columns.proofs.Sized.{sized-take, sized-drop}
 use Rattle.run_columns.proofs.OffsetLaws.{offsets-take, offsets-drop, near-take, near-drop, length-near}
 use Rattle.run_columns.proofs.SumLaws.{between-take, between-drop, sums-take, sums-drop}
-use Rattle.run_columns.proofs.Fill.{rest-is}
+use Rattle.run_columns.proofs.Fill.{rest_is}
 use Rattle.run_halves.proofs.meet.more_up_to.Statement.{statement}
 use Rattle.run_halves.proofs.meet.more_up_to.Tie as tie
 
@@ -46,21 +46,21 @@ offsets-within c = omega (arith, c.requires.1.boxes, c.requires.0.others)
 
 -- all neighbours less their offsets, and those of each half; their ratings
 abbrev nears : tie.Start → List ℤ
-nears c = lessNear c.args.offsets.now c.args.counts.now c.args.near.now
+nears c = less_near c.args.offsets.now c.args.counts.now c.args.near.now
 
 abbrev ratings : tie.Start → List ℕ
-ratings c = ratingsBetween c.args.sums.now
+ratings c = ratings_between c.args.sums.now
 
 same-long : (c : tie.Start) → length (nears c) ≡ length c.args.near.now
 same-long c = let a = c.args in let q = c.requires.0.columns in length-near a.offsets.now a.counts.now a.near.now (c.requires.1.boxes ∙ q.boxes) q.neighbours
 
 first-near : (c : tie.Start) → let a = c.args in
-    take a.n (nears c) ≡ lessNear (take a.k a.offsets.now) (take a.k a.counts.now) (take a.n a.near.now)
+    take a.n (nears c) ≡ less_near (take a.k a.offsets.now) (take a.k a.counts.now) (take a.n a.near.now)
 first-near c = let a = c.args in let q = c.requires.0 in
     rw q.before (near-take a.k a.offsets.now a.counts.now a.near.now (c.requires.1.boxes ∙ q.columns.boxes) q.columns.neighbours)
 
 second-near : (c : tie.Start) → let a = c.args in
-    drop a.n (nears c) ≡ lessNear (drop a.k a.offsets.now) (drop a.k a.counts.now) (drop a.n a.near.now)
+    drop a.n (nears c) ≡ less_near (drop a.k a.offsets.now) (drop a.k a.counts.now) (drop a.n a.near.now)
 second-near c = let a = c.args in let q = c.requires.0 in
     rw q.before (near-drop a.k a.offsets.now a.counts.now a.near.now (c.requires.1.boxes ∙ q.columns.boxes) q.columns.neighbours)
 
@@ -91,7 +91,7 @@ slice-aggregate-count-half-5 c = let s = c.before.before.before.before.before.be
 
 count-half-requires : tie.Need-count-half-requires
 count-half-requires c κs = let s = c.before.before.before.before.before.before.before.before in let a = s.args in
-    (cut_left s.requires.0, offsets-take a.k a.offsets.now a.z.now s.requires.1, sized-take maxSize a.k a.z.now s.requires.2, sized-take reach a.n a.near.now s.requires.3, simp b-m s.requires.4, s.requires.5, sums-take a.n (within s) s.requires.6)
+    (cut_left s.requires.0, offsets-take a.k a.offsets.now a.z.now s.requires.1, sized-take max_size a.k a.z.now s.requires.2, sized-take reach a.n a.near.now s.requires.3, simp b-m s.requires.4, s.requires.5, sums-take a.n (within s) s.requires.6)
 
 sub-count-half-2 : tie.Need-overflow-sub-count-half-2
 sub-count-half-2 c = omega (arith, offsets-within (start c.before))
@@ -124,8 +124,8 @@ part-count-half-start-5 : tie.Need-slice-bounds-count-half-start-5
 part-count-half-start-5 c = omega (arith, sums-within (start c.before.before.before.before))
 
 count-half-requires-2 : tie.Need-count-half-requires-2
-count-half-requires-2 c κs = let p = c.before.before.before.before.before in let s = start p in let a = s.args in simp (rest-is, b-m)
-    (cut_right s.pre.0, offsets-drop a.k a.offsets.now a.z.now s.pre.1, sized-drop maxSize a.k a.z.now s.pre.2, sized-drop reach a.n a.near.now s.pre.3, s.pre.4, p.count-half.ensures.around.some, sums-drop a.n (within s) s.pre.6)
+count-half-requires-2 c κs = let p = c.before.before.before.before.before in let s = start p in let a = s.args in simp (rest_is, b-m)
+    (cut_right s.pre.0, offsets-drop a.k a.offsets.now a.z.now s.pre.1, sized-drop max_size a.k a.z.now s.pre.2, sized-drop reach a.n a.near.now s.pre.3, s.pre.4, p.count-half.ensures.around.some, sums-drop a.n (within s) s.pre.6)
 
 -- the ratings of each half
 first : (c : tie.After-count-half) → let s = start c in let a = s.args in let r = c.count-half.result in
@@ -134,10 +134,10 @@ first c = rw (first-near (start c)) (simp (b-m, between-take) at c.count-half.en
 
 second : (c : tie.After-count-half2) → let s = start (called c) in let a = s.args in let l = (called c).count-half.result in let r = c.count-half2.result in
     HalfCounts false (drop a.k a.z.now) (drop a.k a.counts.now) (drop a.n (nears s)) (drop a.n (ratings s)) a.m l.back l.far r.upto r.beyond r.back r.far
-second c = rw (second-near (start (called c))) (simp (b-m, rest-is, between-drop) at c.count-half2.ensures)
+second c = rw (second-near (start (called c))) (simp (b-m, rest_is, between-drop) at c.count-half2.ensures)
 
 sizes : (c : tie.After-count-half2) → let l = (called c).count-half.result in let r = c.count-half2.result in
-    l.upto + l.beyond + (r.upto + r.beyond) ≤ maxRating * length (start (called c)).args.near.now
+    l.upto + l.beyond + (r.upto + r.beyond) ≤ max_rating * length (start (called c)).args.near.now
 sizes c = let s = start (called c) in let a = s.args in
     omega (arith, (first (called c)).sizes, (second c).sizes, length-take a.n (nears s), length-drop a.n (nears s), same-long s, within s)
 

@@ -4,8 +4,8 @@ use native.Mathlib.Omega.{arith}
 use borrow.Author.Rules.{rules}
 use Prim.Native.Nat.{◌+◌, ◌*◌, ◌≤◌, ◌<◌}
 use lib.ListN.{length, get_or}
-use Rattle.ints.specs.Ratings.{maxRating}
-use Rattle.run.specs.Call.{maxNeighbours}
+use Rattle.ints.specs.Ratings.{max_rating}
+use Rattle.run.specs.Call.{max_neighbours}
 use Rattle.run_halves.proofs.Middles.{sum_near, next-exceeds, same-exceeds}
 use Rattle.run_halves.proofs.middle.first_exceeding.Statement.{statement}
 use Rattle.run_halves.proofs.middle.first_exceeding.Tie as tie
@@ -13,7 +13,7 @@ use Rattle.run_halves.proofs.middle.first_exceeding.Tie as tie
 within : (s : tie.Start) → s.args.i + 1 < length s.args.sums.now
 within s = s.requires.0.2.within
 
-near : (s : tie.Start) → let ss = s.args.sums.now in let k = s.args.i + 1 in (get_or ss 0 0 ≤ get_or ss k 0) × (get_or ss k 0 ≤ get_or ss 0 0 + maxRating * maxNeighbours)
+near : (s : tie.Start) → let ss = s.args.sums.now in let k = s.args.i + 1 in (get_or ss 0 0 ≤ get_or ss k 0) × (get_or ss k 0 ≤ get_or ss 0 0 + max_rating * max_neighbours)
 near s = sum_near (s.args.i + 1) s.args.sums.now s.requires.0.0 s.requires.0.1 (within s)
 
 returns : tie.Need-returns

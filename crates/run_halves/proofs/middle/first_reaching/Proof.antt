@@ -5,9 +5,9 @@ use mathlib.Core.Path.{◌≡◌, ap}
 use native.Mathlib.Omega.{arith}
 use Prim.Native.Nat.{ℕ, ◌+◌, ◌-◌, ◌*◌, ◌/◌, ◌≤◌, ◌<◌}
 use lib.ListN.{length, get_or}
-use Rattle.ints.specs.Ratings.{maxRating}
+use Rattle.ints.specs.Ratings.{max_rating}
 use Rattle.ints.proofs.Laws.{cases}
-use Rattle.run.specs.Call.{maxNeighbours}
+use Rattle.run.specs.Call.{max_neighbours}
 use Rattle.run_halves.proofs.Middles.{sum_near}
 use Rattle.run_halves.proofs.middle.first_reaching.Statement.{statement}
 use Rattle.run_halves.proofs.middle.first_reaching.Tie as tie
@@ -26,7 +26,7 @@ long s = let ss = s.args.sums.now in cases (length ss) 1
 
 -- the sum that is looked at
 near : (c : tie.In-loop invariant-loop decreases-loop) → let l = c.before.loop in let ss = c.before.before.before.args.sums.now in let k = l.lo + (l.hi - l.lo) / 2 + 1 in
-    (get_or ss 0 0 ≤ get_or ss k 0) × (get_or ss k 0 ≤ get_or ss 0 0 + maxRating * maxNeighbours)
+    (get_or ss 0 0 ≤ get_or ss k 0) × (get_or ss k 0 ≤ get_or ss 0 0 + max_rating * max_neighbours)
 near c = let l = c.before.loop in let s = c.before.before.before in
     sum_near (l.lo + (l.hi - l.lo) / 2 + 1) s.args.sums.now s.requires.0.0 s.requires.0.1 (omega (arith, l.invariant.0, l.invariant.1))
 

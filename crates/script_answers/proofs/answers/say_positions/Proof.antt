@@ -4,7 +4,7 @@ use lib.ListN.{length-append}
 use borrow.Author.Rules.{rules}
 use Rattle.text.specs.Bytes.{bytes}
 use Rattle.text_write.proofs.Written.{wrote_none, and_then, room_after}
-use Rattle.script_answers.specs.Answers.{positions, positionWords, line_of}
+use Rattle.script_answers.specs.Answers.{positions, position_words, line_of}
 use Rattle.script_answers.proofs.answers.say_positions.Statement.{statement}
 use Rattle.script_answers.proofs.answers.say_positions.Tie as tie
 
@@ -18,7 +18,7 @@ put-positions-requires : tie.Need-put-positions-requires
 unfolding line_of
 put-positions-requires c κs =
     let s = c.before.before.before.before.before.before.before in let a = s.args in
-    (room_after (positionWords a.xs.now) (line_of (positions a.xs.now)) c.before.before.before.put_word.ensures s.requires (simp length-append (omega arith)))
+    (room_after (position_words a.xs.now) (line_of (positions a.xs.now)) c.before.before.before.put_word.ensures s.requires (simp length-append (omega arith)))
 
 put-word-requires-2 : tie.Need-put-word-requires-2
 unfolding line_of

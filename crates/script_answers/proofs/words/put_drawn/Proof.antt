@@ -9,44 +9,44 @@ use Rattle.text.specs.Decimal.{decimal}
 use Rattle.text_write.specs.inner.Written.{Room}
 use Rattle.text_write.proofs.Written.{wrote_none, and_then, and_both, room_after}
 use Rattle.sheet.specs.declared.types.Stage.TheVariants.{Drawn}
-use Rattle.script_answers.specs.Answers.{stageWords}
-use Rattle.script_answers.specs.inner.Lengths.{maxStage}
+use Rattle.script_answers.specs.Answers.{stage_words}
+use Rattle.script_answers.specs.inner.Lengths.{max_stage}
 use Rattle.script_answers.proofs.Lengths.{stage-short}
 use Rattle.script_answers.proofs.words.put_drawn.Statement.{statement}
 use Rattle.script_answers.proofs.words.put_drawn.Tie as tie
 
-short : (s : tie.Start) → length (stageWords (Drawn s.args.vertices s.args.segments s.args.placings)) ≤ maxStage
+short : (s : tie.Start) → length (stage_words (Drawn s.args.vertices s.args.segments s.args.placings)) ≤ max_stage
 short s = stage-short (Drawn s.args.vertices s.args.segments s.args.placings) (omega arith, omega arith, omega arith)
 
-room : (s : tie.Start) → Room (stageWords (Drawn s.args.vertices s.args.segments s.args.placings)) s.args.out.now s.args.at
+room : (s : tie.Start) → Room (stage_words (Drawn s.args.vertices s.args.segments s.args.placings)) s.args.out.now s.args.at
 room s = omega (arith, s.requires, short s)
 
 put-word-requires : tie.Need-put-word-requires
-unfolding stageWords
+unfolding stage_words
 put-word-requires c κs =
     let s = c.before.before.before in let a = s.args in
-    room_after (bytes "drawn ") (stageWords (Drawn a.vertices a.segments a.placings)) (wrote_none a.out.now a.at) (room s) (simp length-append (omega arith))
+    room_after (bytes "drawn ") (stage_words (Drawn a.vertices a.segments a.placings)) (wrote_none a.out.now a.at) (room s) (simp length-append (omega arith))
 
 put-then-requires : tie.Need-put-then-requires
-unfolding stageWords
+unfolding stage_words
 put-then-requires c κs =
     let s = c.before.before.before.before.before.before.before.before in let a = s.args in
-    room_after (decimal a.vertices ++ bytes " ") (stageWords (Drawn a.vertices a.segments a.placings)) c.before.before.before.before.put_word.ensures (room s) (simp length-append (omega arith))
+    room_after (decimal a.vertices ++ bytes " ") (stage_words (Drawn a.vertices a.segments a.placings)) c.before.before.before.before.put_word.ensures (room s) (simp length-append (omega arith))
 
 put-then-requires-2 : tie.Need-put-then-requires-2
-unfolding stageWords
+unfolding stage_words
 put-then-requires-2 c κs =
     let s = c.before.before.before.before.before.before.before.before.before.before.before.before.before in let a = s.args in
-    room_after (decimal a.segments ++ bytes " ") (stageWords (Drawn a.vertices a.segments a.placings)) (and_then c.before.before.before.before.before.before.before.before.before.put_word.ensures c.before.before.before.before.put_then.ensures) (room s) (simp length-append (omega arith))
+    room_after (decimal a.segments ++ bytes " ") (stage_words (Drawn a.vertices a.segments a.placings)) (and_then c.before.before.before.before.before.before.before.before.before.put_word.ensures c.before.before.before.before.put_then.ensures) (room s) (simp length-append (omega arith))
 
 put-decimal-requires : tie.Need-put-decimal-requires
-unfolding stageWords
+unfolding stage_words
 put-decimal-requires c κs =
     let s = c.before.before.before.before.before.before.before.before.before.before.before.before.before.before.before.before.before in let a = s.args in
-    room_after (decimal a.placings) (stageWords (Drawn a.vertices a.segments a.placings)) (and_then (and_then c.before.before.before.before.before.before.before.before.before.before.before.before.before.put_word.ensures c.before.before.before.before.before.before.before.before.put_then.ensures) c.before.before.before.put-then2.ensures) (room s) (simp length-append (omega arith))
+    room_after (decimal a.placings) (stage_words (Drawn a.vertices a.segments a.placings)) (and_then (and_then c.before.before.before.before.before.before.before.before.before.before.before.before.before.put_word.ensures c.before.before.before.before.before.before.before.before.put_then.ensures) c.before.before.before.put-then2.ensures) (room s) (simp length-append (omega arith))
 
 returns : tie.Need-returns
-unfolding stageWords
+unfolding stage_words
 returns c =
     let a = c.before.before.before.before.before.before.before.before.before.before.before.before.before.before.before.before.before.before.before.before.args in
     record {

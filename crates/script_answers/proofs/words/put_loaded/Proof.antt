@@ -9,38 +9,38 @@ use Rattle.text.specs.Decimal.{decimal}
 use Rattle.text_write.specs.inner.Written.{Room}
 use Rattle.text_write.proofs.Written.{wrote_none, and_then, and_both, room_after}
 use Rattle.sheet.specs.declared.types.Stage.TheVariants.{Loaded}
-use Rattle.script_answers.specs.Answers.{stageWords}
-use Rattle.script_answers.specs.inner.Lengths.{maxStage}
+use Rattle.script_answers.specs.Answers.{stage_words}
+use Rattle.script_answers.specs.inner.Lengths.{max_stage}
 use Rattle.script_answers.proofs.Lengths.{stage-short}
 use Rattle.script_answers.proofs.words.put_loaded.Statement.{statement}
 use Rattle.script_answers.proofs.words.put_loaded.Tie as tie
 
-short : (s : tie.Start) → length (stageWords (Loaded s.args.vertices s.args.segments)) ≤ maxStage
+short : (s : tie.Start) → length (stage_words (Loaded s.args.vertices s.args.segments)) ≤ max_stage
 short s = stage-short (Loaded s.args.vertices s.args.segments) (omega arith, omega arith)
 
-room : (s : tie.Start) → Room (stageWords (Loaded s.args.vertices s.args.segments)) s.args.out.now s.args.at
+room : (s : tie.Start) → Room (stage_words (Loaded s.args.vertices s.args.segments)) s.args.out.now s.args.at
 room s = omega (arith, s.requires, short s)
 
 put-word-requires : tie.Need-put-word-requires
-unfolding stageWords
+unfolding stage_words
 put-word-requires c κs =
     let s = c.before.before.before in let a = s.args in
-    room_after (bytes "loaded ") (stageWords (Loaded a.vertices a.segments)) (wrote_none a.out.now a.at) (room s) (simp length-append (omega arith))
+    room_after (bytes "loaded ") (stage_words (Loaded a.vertices a.segments)) (wrote_none a.out.now a.at) (room s) (simp length-append (omega arith))
 
 put-then-requires : tie.Need-put-then-requires
-unfolding stageWords
+unfolding stage_words
 put-then-requires c κs =
     let s = c.before.before.before.before.before.before.before.before in let a = s.args in
-    room_after (decimal a.vertices ++ bytes " ") (stageWords (Loaded a.vertices a.segments)) c.before.before.before.before.put_word.ensures (room s) (simp length-append (omega arith))
+    room_after (decimal a.vertices ++ bytes " ") (stage_words (Loaded a.vertices a.segments)) c.before.before.before.before.put_word.ensures (room s) (simp length-append (omega arith))
 
 put-decimal-requires : tie.Need-put-decimal-requires
-unfolding stageWords
+unfolding stage_words
 put-decimal-requires c κs =
     let s = c.before.before.before.before.before.before.before.before.before.before.before.before in let a = s.args in
-    room_after (decimal a.segments) (stageWords (Loaded a.vertices a.segments)) (and_then c.before.before.before.before.before.before.before.before.put_word.ensures c.before.before.before.put_then.ensures) (room s) (simp length-append (omega arith))
+    room_after (decimal a.segments) (stage_words (Loaded a.vertices a.segments)) (and_then c.before.before.before.before.before.before.before.before.put_word.ensures c.before.before.before.put_then.ensures) (room s) (simp length-append (omega arith))
 
 returns : tie.Need-returns
-unfolding stageWords
+unfolding stage_words
 returns c =
     let a = c.before.before.before.before.before.before.before.before.before.before.before.before.before.before.before.args in
     record {

@@ -2,7 +2,7 @@
 use native.Mathlib.Omega.{arith}
 use borrow.Author.Rules.{rules}
 use Rattle.sheet.specs.declared.types.Stage.TheVariants.{Empty}
-use Rattle.script_answers.specs.Answers.{stageWords}
+use Rattle.script_answers.specs.Answers.{stage_words}
 use Rattle.script_answers.proofs.Lengths.{stage-short}
 use Rattle.script_answers.proofs.words.put_stage.Statement.{statement}
 use Rattle.script_answers.proofs.words.put_stage.Tie as tie
@@ -11,7 +11,7 @@ put-word-requires : tie.Need-put-word-requires
 put-word-requires c κs = omega (arith, c.before.before.before.before.before.requires)
 
 returns : tie.Need-returns
-unfolding stageWords
+unfolding stage_words
 returns c = rw c.before.before.before.before.before.enum_told.given.1 (record { words = c.before.before.put_word.ensures; short = stage-short Empty tt })
 
 returns-2 : tie.Need-returns-2

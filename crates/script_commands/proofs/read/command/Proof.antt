@@ -12,8 +12,8 @@ use Rattle.script_words.specs.Parts.{words}
 use Rattle.script_texts.specs.Texts.{unescaped}
 use Rattle.script_words.proofs.PartLaws.{rest}
 use Rattle.script_runs.specs.inner.Filled.{buffers}
-use Rattle.script_commands.specs.Commands.{load, loadTangled}
-use Rattle.script_commands.specs.Table.{calls, planPokes, loadingPokes, drawingPokes, saidBy, isSkipped, loading, walking, placing}
+use Rattle.script_commands.specs.Commands.{load, load_tangled}
+use Rattle.script_commands.specs.Table.{calls, plan_pokes, loading_pokes, drawing_pokes, said_by, is_skipped, loading, walking, placing}
 use Rattle.script_commands.specs.inner.Held.{lent, shortened}
 use Rattle.script_commands.proofs.TableLaws.{command-skip, command-load, command-tangled, command-walk, command-place, command-said, bare-command}
 use Rattle.script_commands.proofs.read.command.Statement.{statement}
@@ -63,7 +63,7 @@ returns-3 c =
     let l = a.line.now in
     let e = command-tangled l (sym c12.is-skipped.ensures ∙ c11.if1.false) (has-not c9.word_at.ensures c8.if2.false) (drop 15 l)
     (has c6.word-at2.ensures c.before.before.before.before.before.if3.true) in
-    rw (e ∙ ap (λ s. loading loadTangled (unescaped s)) (sym (rest 15 l)))
+    rw (e ∙ ap (λ s. loading load_tangled (unescaped s)) (sym (rest 15 l)))
     (c.before.before.load-tangled.ensures (buffers a.old.now a.distances.now a.counts.now a.neighbours.now a.ratings.now))
 
 sub-walk : tie.Need-overflow-sub-walk
@@ -74,7 +74,7 @@ part-walk-start c = omega (arith, c.before.word-at3.ensures.inside c.if4.true)
 
 -- not a load
 no-load : (c : tie.After-word-at3) → let c8 = c.before.before.before.before.before.before.before.before in let l = c8.before.before.before.before.before.before.before.args.line.now in
-    (isSkipped l ≡ false) × (word (bytes "load 1 strict ") l ≡ nothing) × (word (bytes "load 1 tangled ") l ≡ nothing)
+    (is_skipped l ≡ false) × (word (bytes "load 1 strict ") l ≡ nothing) × (word (bytes "load 1 tangled ") l ≡ nothing)
 no-load c =
     let c2 = c.before.before in
     let c5 = c2.before.before.before in
@@ -123,7 +123,7 @@ returns-6 c =
     let b = lent a.text.now (buffers a.old.now a.distances.now a.counts.now a.neighbours.now a.ratings.now) in
     let n = no-load w in
     let e = command-said l n.0 n.1 n.2 (has-not w.word-at3.ensures c4.if4.false) (has-not c.before.before.word-at4.ensures c.before.if5.false) in
-    rw e (bare-command (saidBy (calls ++ planPokes ++ loadingPokes ++ drawingPokes) l) c.said.result b c.said.ensures)
+    rw e (bare-command (said_by (calls ++ plan_pokes ++ loading_pokes ++ drawing_pokes) l) c.said.result b c.said.ensures)
 
 pub command-spec : {M : Type 1} → statement M
 command-spec =

@@ -3,7 +3,7 @@ use mathlib.Core.Path.{refl, ap}
 use native.Mathlib.Omega.{arith}
 use borrow.Author.Rules.{rules}
 use Rattle.script_texts.specs.Texts.{unescaped}
-use Rattle.script_texts.specs.inner.Units.{sizeIn}
+use Rattle.script_texts.specs.inner.Units.{size_in}
 use Rattle.script_commands.specs.Commands.{load}
 use Rattle.script_commands.specs.inner.Held.{lent}
 use Rattle.script_commands.proofs.TableLaws.{load-text, load-bad}
@@ -18,7 +18,7 @@ returns c = λ b.
     let r = c.before.r.given in
     record {
       says = load-text (lent a.text.now b) load (λ t. refl) (unescaped a.escaped.now) u.result u.new.1.0 u.ensures.holds r.0.0 r.1;
-      inside = omega (arith, u.ensures.inside, ap sizeIn r.1);
+      inside = omega (arith, u.ensures.inside, ap size_in r.1);
     }
 
 returns-2 : tie.Need-returns-2

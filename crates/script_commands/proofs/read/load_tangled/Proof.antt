@@ -3,8 +3,8 @@ use mathlib.Core.Path.{refl, ap}
 use native.Mathlib.Omega.{arith}
 use borrow.Author.Rules.{rules}
 use Rattle.script_texts.specs.Texts.{unescaped}
-use Rattle.script_texts.specs.inner.Units.{sizeIn}
-use Rattle.script_commands.specs.Commands.{loadTangled}
+use Rattle.script_texts.specs.inner.Units.{size_in}
+use Rattle.script_commands.specs.Commands.{load_tangled}
 use Rattle.script_commands.specs.inner.Held.{lent}
 use Rattle.script_commands.proofs.TableLaws.{load-text, load-bad}
 use Rattle.script_commands.proofs.read.load_tangled.Statement.{statement}
@@ -17,8 +17,8 @@ returns c = λ b.
     let u = c.before.before.before.before.before.unescape in
     let r = c.before.r.given in
     record {
-      says = load-text (lent a.text.now b) loadTangled (λ t. refl) (unescaped a.escaped.now) u.result u.new.1.0 u.ensures.holds r.0.0 r.1;
-      inside = omega (arith, u.ensures.inside, ap sizeIn r.1);
+      says = load-text (lent a.text.now b) load_tangled (λ t. refl) (unescaped a.escaped.now) u.result u.new.1.0 u.ensures.holds r.0.0 r.1;
+      inside = omega (arith, u.ensures.inside, ap size_in r.1);
     }
 
 returns-2 : tie.Need-returns-2
@@ -27,7 +27,7 @@ returns-2 c = λ b.
     let a = c8.args in
     let u = c.before.before.before.before.unescape in
     record {
-      says = load-bad (lent a.text.now b) loadTangled (λ t. refl) (unescaped a.escaped.now) u.result u.new.1.0 u.ensures.holds
+      says = load-bad (lent a.text.now b) load_tangled (λ t. refl) (unescaped a.escaped.now) u.result u.new.1.0 u.ensures.holds
           c.enum_told.given.1;
       inside = tt;
     }

@@ -3,20 +3,20 @@ use mathlib.Core.Path.{◌≡◌, refl, sym, ◌∙◌, ap}
 use mathlib.Core.List.{◌++◌}
 use native.Mathlib.Omega.{arith}
 use borrow.Author.Rules.{rules}
-use Rattle.script_forms.specs.inner.First.{firstForm}
-use Rattle.script_commands.specs.Table.{calls, planPokes, loadingPokes, drawingPokes}
-use Rattle.script_commands.proofs.TableLaws.{formsOf, said_at, said-none, above, calls-forms}
+use Rattle.script_forms.specs.inner.First.{first_form}
+use Rattle.script_commands.specs.Table.{calls, plan_pokes, loading_pokes, drawing_pokes}
+use Rattle.script_commands.proofs.TableLaws.{forms_of, said_at, said-none, above, calls-forms}
 use Rattle.script_commands.proofs.read.said.Statement.{statement}
 use Rattle.script_commands.proofs.read.said.Tie as tie
 
 -- the number of the form that was found
-found : (c : tie.After-first-form) → c.first-form.result ≡ firstForm (formsOf calls) c.before.before.before.before.args.line.now
-found c = c.first-form.ensures ∙ ap (λ fs. firstForm fs c.before.before.before.before.args.line.now) calls-forms
+found : (c : tie.After-first-form) → c.first-form.result ≡ first_form (forms_of calls) c.before.before.before.before.args.line.now
+found c = c.first-form.ensures ∙ ap (λ fs. first_form fs c.before.before.before.before.args.line.now) calls-forms
 
 returns : tie.Need-returns
 unfolding calls
 returns c = record {
-  says = λ b. sym (said_at c.before.before.before.before.before.args.line.now calls (planPokes ++ loadingPokes ++ drawingPokes) 0
+  says = λ b. sym (said_at c.before.before.before.before.before.args.line.now calls (plan_pokes ++ loading_pokes ++ drawing_pokes) 0
       (sym (found c.before) ∙ c.match.keys1) (omega arith));
   bare = refl;
 }
@@ -24,7 +24,7 @@ returns c = record {
 returns-2 : tie.Need-returns-2
 unfolding calls
 returns-2 c = record {
-  says = λ b. sym (said_at c.before.before.before.before.before.args.line.now calls (planPokes ++ loadingPokes ++ drawingPokes) 1
+  says = λ b. sym (said_at c.before.before.before.before.before.args.line.now calls (plan_pokes ++ loading_pokes ++ drawing_pokes) 1
       (sym (found c.before) ∙ c.match.keys2) (omega arith));
   bare = refl;
 }
@@ -32,7 +32,7 @@ returns-2 c = record {
 returns-3 : tie.Need-returns-3
 unfolding calls
 returns-3 c = record {
-  says = λ b. sym (said_at c.before.before.before.before.before.args.line.now calls (planPokes ++ loadingPokes ++ drawingPokes) 2
+  says = λ b. sym (said_at c.before.before.before.before.before.args.line.now calls (plan_pokes ++ loading_pokes ++ drawing_pokes) 2
       (sym (found c.before) ∙ c.match.keys3) (omega arith));
   bare = refl;
 }
@@ -42,7 +42,7 @@ unfolding calls
 returns-4 c =
     let c6 = c.before.before.before.before.before.before in
     record {
-      says = λ b. rw c.whole-at.ensures (sym (said_at c6.args.line.now calls (planPokes ++ loadingPokes ++ drawingPokes) 3
+      says = λ b. rw c.whole-at.ensures (sym (said_at c6.args.line.now calls (plan_pokes ++ loading_pokes ++ drawing_pokes) 3
           (sym (found c.before.before) ∙ c.before.match.keys4) (omega arith)));
       bare = refl;
     }
@@ -53,7 +53,7 @@ returns-5 c =
     let c7 = c.before.before.before.before.before.before.before in
     record {
       says = λ b. rw (c.before.whole-at2.ensures, c.whole-at3.ensures)
-          (sym (said_at c7.args.line.now calls (planPokes ++ loadingPokes ++ drawingPokes) 4
+          (sym (said_at c7.args.line.now calls (plan_pokes ++ loading_pokes ++ drawing_pokes) 4
           (sym (found c.before.before.before) ∙ c.before.before.match.keys5) (omega arith)));
       bare = refl;
     }
@@ -61,7 +61,7 @@ returns-5 c =
 returns-6 : tie.Need-returns-6
 unfolding calls
 returns-6 c = record {
-  says = λ b. sym (said_at c.before.before.before.before.before.args.line.now calls (planPokes ++ loadingPokes ++ drawingPokes) 5
+  says = λ b. sym (said_at c.before.before.before.before.before.args.line.now calls (plan_pokes ++ loading_pokes ++ drawing_pokes) 5
       (sym (found c.before) ∙ c.match.keys6) (omega arith));
   bare = refl;
 }
@@ -71,7 +71,7 @@ unfolding calls
 returns-7 c =
     let c6 = c.before.before.before.before.before.before in
     record {
-      says = λ b. rw c.whole-at4.ensures (sym (said_at c6.args.line.now calls (planPokes ++ loadingPokes ++ drawingPokes) 6
+      says = λ b. rw c.whole-at4.ensures (sym (said_at c6.args.line.now calls (plan_pokes ++ loading_pokes ++ drawing_pokes) 6
           (sym (found c.before.before) ∙ c.before.match.keys7) (omega arith)));
       bare = refl;
     }
@@ -79,7 +79,7 @@ returns-7 c =
 returns-8 : tie.Need-returns-8
 unfolding calls
 returns-8 c = record {
-  says = λ b. sym (said_at c.before.before.before.before.before.args.line.now calls (planPokes ++ loadingPokes ++ drawingPokes) 7
+  says = λ b. sym (said_at c.before.before.before.before.before.args.line.now calls (plan_pokes ++ loading_pokes ++ drawing_pokes) 7
       (sym (found c.before) ∙ c.match.keys8) (omega arith));
   bare = refl;
 }
@@ -89,7 +89,7 @@ unfolding calls
 returns-9 c =
     let c6 = c.before.before.before.before.before.before in
     record {
-      says = λ b. rw c.whole-at5.ensures (sym (said_at c6.args.line.now calls (planPokes ++ loadingPokes ++ drawingPokes) 8
+      says = λ b. rw c.whole-at5.ensures (sym (said_at c6.args.line.now calls (plan_pokes ++ loading_pokes ++ drawing_pokes) 8
           (sym (found c.before.before) ∙ c.before.match.keys9) (omega arith)));
       bare = refl;
     }
@@ -100,7 +100,7 @@ returns-10 c =
     let c7 = c.before.before.before.before.before.before.before in
     record {
       says = λ b. rw (c.before.whole-at6.ensures, c.whole-at7.ensures)
-          (sym (said_at c7.args.line.now calls (planPokes ++ loadingPokes ++ drawingPokes) 9
+          (sym (said_at c7.args.line.now calls (plan_pokes ++ loading_pokes ++ drawing_pokes) 9
           (sym (found c.before.before.before) ∙ c.before.before.match.keys10) (omega arith)));
       bare = refl;
     }
@@ -108,7 +108,7 @@ returns-10 c =
 returns-11 : tie.Need-returns-11
 unfolding calls
 returns-11 c = record {
-  says = λ b. sym (said_at c.before.before.before.before.before.args.line.now calls (planPokes ++ loadingPokes ++ drawingPokes) 10
+  says = λ b. sym (said_at c.before.before.before.before.before.args.line.now calls (plan_pokes ++ loading_pokes ++ drawing_pokes) 10
       (sym (found c.before) ∙ c.match.keys11) (omega arith));
   bare = refl;
 }
@@ -124,7 +124,7 @@ returns-12 c =
     n.0.0.0.1) n.0.0.1) n.0.1) n.1) in
     let s = c.said-by-pokes.ensures in
     record {
-      says = λ b. s.says b ∙ sym (said-none c6.args.line.now calls (planPokes ++ loadingPokes ++ drawingPokes)
+      says = λ b. s.says b ∙ sym (said-none c6.args.line.now calls (plan_pokes ++ loading_pokes ++ drawing_pokes)
           (omega (arith, h, found c.before.before)));
       bare = s.bare;
     }

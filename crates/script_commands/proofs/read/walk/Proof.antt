@@ -8,8 +8,8 @@ use lib.ListN.{length, take}
 use lib.Seq.{length-take-le}
 use Rattle.script_forms.specs.Forms.{whole_at}
 use Rattle.script_texts.specs.Texts.{unescaped}
-use Rattle.script_texts.specs.inner.Units.{sizeIn}
-use Rattle.script_words.specs.Numbers.{isWhole}
+use Rattle.script_texts.specs.inner.Units.{size_in}
+use Rattle.script_words.specs.Numbers.{is_whole}
 use Rattle.script_words.specs.inner.Ends.{between}
 use Rattle.script_words.proofs.PartLaws.{rest}
 use Rattle.script_commands.specs.Commands.{walk}
@@ -27,7 +27,7 @@ returns c = λ b.
     let a = c.before.before.before.before.before.before.before.args in
     record {
       says = walk-no-number a.given.now _ c.before.before.before.before.end_of_lem.ensures (lent a.text.now b)
-          (sym (c.before.is_whole.ensures ∙ ap isWhole c.before.before.number.ensures) ∙ not-true _ c.if1.true);
+          (sym (c.before.is_whole.ensures ∙ ap is_whole c.before.before.number.ensures) ∙ not-true _ c.if1.true);
       inside = tt;
     }
 
@@ -44,7 +44,7 @@ said-walk c =
     let end = c.before.before.before.before.before.before.end_of_lem in
     ap (λ t. loading (walk (whole_at a.given.now 0)) (unescaped t)) (rest (end.result + 1) a.given.now)
     ∙ sym (walking-is a.given.now end.result end.ensures
-    (sym (c.before.before.before.is_whole.ensures ∙ ap isWhole c.before.before.before.before.number.ensures) ∙ not-false _ c.before.before.if1.false) c.before.if2.false)
+    (sym (c.before.before.before.is_whole.ensures ∙ ap is_whole c.before.before.before.before.number.ensures) ∙ not-false _ c.before.before.if1.false) c.before.if2.false)
 
 returns-3 : tie.Need-returns-3
 returns-3 c = λ b.
@@ -58,7 +58,7 @@ returns-3 c = λ b.
           ap (λ (l : ℕ). walk l (take r.0.0 u.new.1.0)) c.whole-at.ensures
           ∙ load-text (lent a.text.now b) say (λ t. refl) (unescaped (between (end.result + 1) (length a.given.now) a.given.now)) u.result u.new.1.0 u.ensures.holds r.0.0 r.1
           ∙ ap (shortened (lent a.text.now b)) (said-walk c.before.before.before.before.before.before.before.before);
-      inside = omega (arith, u.ensures.inside, ap sizeIn r.1);
+      inside = omega (arith, u.ensures.inside, ap size_in r.1);
     }
 
 returns-4 : tie.Need-returns-4

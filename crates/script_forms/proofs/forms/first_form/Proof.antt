@@ -5,14 +5,14 @@ use native.Mathlib.Omega.{arith}
 use borrow.Author.Rules.{rules}
 use lib.ListN.{length, drop}
 use Rattle.script_words.specs.Parts.{parts}
-use Rattle.script_forms.specs.inner.First.{firstForm}
+use Rattle.script_forms.specs.inner.First.{first_form}
 use Rattle.script_forms.proofs.FormLaws.{first-here, first-none, first_on}
 use Rattle.script_forms.proofs.forms.first_form.Statement.{statement}
 use Rattle.script_forms.proofs.forms.first_form.Tie as tie
 
 abbrev invariant-loop : tie.invariant-loop
 invariant-loop forms line from₀ k₀ from k =
-    (from ≤ length forms) × (k ≤ from) × (k + firstForm (parts 10 (drop from forms)) line ≡ firstForm (parts 10 forms) line)
+    (from ≤ length forms) × (k ≤ from) × (k + first_form (parts 10 (drop from forms)) line ≡ first_form (parts 10 forms) line)
 
 abbrev decreases-loop : tie.decreases-loop
 decreases-loop forms line from₀ k₀ from k = length forms - from

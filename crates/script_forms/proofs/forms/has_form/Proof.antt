@@ -6,14 +6,14 @@ use native.Mathlib.Omega.{arith}
 use borrow.Author.Rules.{rules}
 use lib.ListN.{length, drop}
 use Rattle.script_words.specs.Parts.{words}
-use Rattle.script_forms.specs.Forms.{fits, hasForm}
+use Rattle.script_forms.specs.Forms.{fits, has_form}
 use Rattle.script_forms.proofs.FormLaws.{fits_not, fits-end, fits-long, fits-short, fits_on}
 use Rattle.script_forms.proofs.forms.has_form.Statement.{statement}
 use Rattle.script_forms.proofs.forms.has_form.Tie as tie
 
 abbrev invariant-loop : tie.invariant-loop
 invariant-loop form line from₀ at₀ from at =
-    (from ≤ length form) × (at ≤ length line) × (fits (words (drop from form)) (words (drop at line)) ≡ hasForm form line)
+    (from ≤ length form) × (at ≤ length line) × (fits (words (drop from form)) (words (drop at line)) ≡ has_form form line)
 
 abbrev decreases-loop : tie.decreases-loop
 decreases-loop form line from₀ at₀ from at = length form - from

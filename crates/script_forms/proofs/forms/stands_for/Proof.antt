@@ -1,7 +1,7 @@
 -- `script_forms::forms::stands_for` meets its contract: N, Z, or a word that stands for itself.
 use mathlib.Core.Path.{sym, ◌∙◌, ap}
 use borrow.Author.Rules.{rules}
-use Rattle.script_words.specs.Numbers.{isWhole, is_signed}
+use Rattle.script_words.specs.Numbers.{is_whole, is_signed}
 use Rattle.script_forms.proofs.FormLaws.{stands-whole, stands-signed, stands-itself}
 use Rattle.script_forms.proofs.forms.stands_for.Statement.{statement}
 use Rattle.script_forms.proofs.forms.stands_for.Tie as tie
@@ -9,7 +9,7 @@ use Rattle.script_forms.proofs.forms.stands_for.Tie as tie
 returns : tie.Need-returns
 returns c =
     let c7 = c.before.before.before.before.before.before.before in
-    let a = c7.args in c.is_whole.ensures ∙ ap isWhole c.before.number.ensures
+    let a = c7.args in c.is_whole.ensures ∙ ap is_whole c.before.number.ensures
     ∙ sym (stands-whole a.form.now a.word.now (sym c.before.before.before.same.ensures ∙ c.before.before.if1.true))
 
 returns-2 : tie.Need-returns-2

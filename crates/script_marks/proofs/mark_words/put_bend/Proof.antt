@@ -3,24 +3,24 @@ use Rattle.std.proofs.Common.{arith, length-append, rules}
 use Rattle.text.specs.Bytes.{bytes}
 use Rattle.text_write.proofs.Written.{wrote_none, and_then, room_after}
 use Rattle.marks.specs.declared.types.Mark.TheVariants.{Bend}
-use Rattle.script_marks.specs.inner.Floats.{pointIn, markIn}
+use Rattle.script_marks.specs.inner.Floats.{point_in, mark_in}
 use Rattle.script_marks.proofs.mark_words.put_bend.Statement.{statement}
 use Rattle.script_marks.proofs.mark_words.put_bend.Tie as tie
 
 put-word-requires : tie.Need-put-word-requires
-unfolding markIn
+unfolding mark_in
 put-word-requires c κs =
     let s = c.before.before.before in let a = s.args in
-    room_after (bytes "bend ") (markIn (Bend a.q)) (wrote_none a.out.now a.at) s.requires (simp length-append (omega arith))
+    room_after (bytes "bend ") (mark_in (Bend a.q)) (wrote_none a.out.now a.at) s.requires (simp length-append (omega arith))
 
 put-point-requires : tie.Need-put-point-requires
-unfolding markIn
+unfolding mark_in
 put-point-requires c κs =
     let s = c.before.before.before.before.before.before.before in let a = s.args in
-    room_after (pointIn a.q) (markIn (Bend a.q)) c.before.before.before.put_word.ensures s.requires (simp length-append (omega arith))
+    room_after (point_in a.q) (mark_in (Bend a.q)) c.before.before.before.put_word.ensures s.requires (simp length-append (omega arith))
 
 returns : tie.Need-returns
-unfolding markIn
+unfolding mark_in
 returns c =
     and_then c.before.before.before.before.before.before.put_word.ensures
     c.before.before.put-point.ensures

@@ -3,36 +3,36 @@ use Rattle.std.proofs.Common.{arith, length-append, rules}
 use Rattle.text.specs.Bytes.{bytes}
 use Rattle.text_write.proofs.Written.{wrote_none, and_then, room_after}
 use Rattle.marks.specs.declared.types.Mark.TheVariants.{Box}
-use Rattle.script_marks.specs.inner.Floats.{downIn, pointIn, markIn}
+use Rattle.script_marks.specs.inner.Floats.{down_in, point_in, mark_in}
 use Rattle.script_marks.proofs.mark_words.put_box.Statement.{statement}
 use Rattle.script_marks.proofs.mark_words.put_box.Tie as tie
 
 put-word-requires : tie.Need-put-word-requires
-unfolding markIn
+unfolding mark_in
 put-word-requires c κs =
     let s = c.before.before.before in let a = s.args in
-    room_after (bytes "box ") (markIn (Box a.q a.half)) (wrote_none a.out.now a.at) s.requires (simp length-append (omega arith))
+    room_after (bytes "box ") (mark_in (Box a.q a.half)) (wrote_none a.out.now a.at) s.requires (simp length-append (omega arith))
 
 put-point-requires : tie.Need-put-point-requires
-unfolding markIn
+unfolding mark_in
 put-point-requires c κs =
     let s = c.before.before.before.before.before.before.before in let a = s.args in
-    room_after (pointIn a.q) (markIn (Box a.q a.half)) c.before.before.before.put_word.ensures s.requires (simp length-append (omega arith))
+    room_after (point_in a.q) (mark_in (Box a.q a.half)) c.before.before.before.put_word.ensures s.requires (simp length-append (omega arith))
 
 put-word-requires-2 : tie.Need-put-word-requires-2
-unfolding markIn
+unfolding mark_in
 put-word-requires-2 c κs =
     let s = c.before.before.before.before.before.before.before.before.before.before.before.before in let a = s.args in
-    room_after (bytes " ") (markIn (Box a.q a.half)) (and_then c.before.before.before.before.before.before.before.before.put_word.ensures c.before.before.before.before.put-point.ensures) s.requires (simp length-append (omega arith))
+    room_after (bytes " ") (mark_in (Box a.q a.half)) (and_then c.before.before.before.before.before.before.before.before.put_word.ensures c.before.before.before.before.put-point.ensures) s.requires (simp length-append (omega arith))
 
 put-down-requires : tie.Need-put-down-requires
-unfolding markIn
+unfolding mark_in
 put-down-requires c κs =
     let s = c.before.before.before.before.before.before.before.before.before.before.before.before.before.before.before.before in let a = s.args in
-    room_after (downIn a.half) (markIn (Box a.q a.half)) (and_then (and_then c.before.before.before.before.before.before.before.before.before.before.before.before.put_word.ensures c.before.before.before.before.before.before.before.before.put-point.ensures) c.before.before.before.put-word2.ensures) s.requires (simp length-append (omega arith))
+    room_after (down_in a.half) (mark_in (Box a.q a.half)) (and_then (and_then c.before.before.before.before.before.before.before.before.before.before.before.before.put_word.ensures c.before.before.before.before.before.before.before.before.put-point.ensures) c.before.before.before.put-word2.ensures) s.requires (simp length-append (omega arith))
 
 returns : tie.Need-returns
-unfolding markIn
+unfolding mark_in
 returns c =
     and_then (and_then (and_then c.before.before.before.before.before.before.before.before.before.before.before.before.before.before.before.put_word.ensures
     c.before.before.before.before.before.before.before.before.before.before.before.put-point.ensures)

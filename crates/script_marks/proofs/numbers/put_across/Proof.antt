@@ -3,8 +3,8 @@ use Rattle.std.proofs.Common.{true, pos, rules}
 use lib.Ieee.{fin, binary64, mul, of_bits, neg}
 use Rattle.text.specs.Bytes.{bytes}
 use Rattle.text_write.proofs.Written.{and_then, room-first, room-then}
-use Rattle.script_marks.specs.Marks.{halfSteps}
-use Rattle.script_marks.specs.inner.Floats.{wholeIn}
+use Rattle.script_marks.specs.Marks.{half_steps}
+use Rattle.script_marks.specs.inner.Floats.{whole_in}
 use Rattle.script_marks.proofs.ByCase.{across-minus, across-plus}
 use Rattle.script_marks.proofs.numbers.put_across.Statement.{statement}
 use Rattle.script_marks.proofs.numbers.put_across.Tie as tie
@@ -13,13 +13,13 @@ put-word-requires : tie.Need-put-word-requires
 unfolding of_bits
 put-word-requires c κs =
     let s = c.before.before.before.before in let a = s.args in
-    room-first (bytes "-") (halfSteps (wholeIn (mul binary64 a.x (fin true 1 (pos 1))))) a.out.now a.at (rw (across-minus a.x c.before.before.if1.true) at s.requires)
+    room-first (bytes "-") (half_steps (whole_in (mul binary64 a.x (fin true 1 (pos 1))))) a.out.now a.at (rw (across-minus a.x c.before.before.if1.true) at s.requires)
 
 put-half-steps-requires : tie.Need-put-half-steps-requires
 unfolding of_bits neg
 put-half-steps-requires c κs =
     let s = c.before.before.before.before.before.before.before.before.before in let a = s.args in
-    rw c.whole.ensures (room-then (halfSteps (wholeIn (mul binary64 a.x (fin true 1 (pos 1))))) c.before.before.before.before.put_word.ensures (rw (across-minus a.x c.before.before.before.before.before.before.before.if1.true) at s.requires))
+    rw c.whole.ensures (room-then (half_steps (whole_in (mul binary64 a.x (fin true 1 (pos 1))))) c.before.before.before.before.put_word.ensures (rw (across-minus a.x c.before.before.before.before.before.before.before.if1.true) at s.requires))
 
 returns : tie.Need-returns
 unfolding of_bits neg

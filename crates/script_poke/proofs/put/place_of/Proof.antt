@@ -1,4 +1,4 @@
--- `script_poke::put::place_of` meets its contract: the tests of `hasBox`, the sum of counts kept below 2,048.
+-- `script_poke::put::place_of` meets its contract: the tests of `has_box`, the sum of counts kept below 2,048.
 use mathlib.Core.Path.{◌≡◌, sym}
 use native.Mathlib.Omega.{arith}
 use borrow.Author.Rules.{rules}

@@ -1,7 +1,7 @@
 -- `script_run::script::answer_line` meets its contract: what is cut to the buffers' lengths is answered as the whole is.
 use borrow.Author.Rules.{rules}
 use Rattle.script_runs.specs.inner.Filled.{buffers}
-use Rattle.script_commands.specs.Table.{commandOf}
+use Rattle.script_commands.specs.Table.{command_of}
 use Rattle.script_commands.specs.inner.Held.{lent}
 use Rattle.script_run.proofs.Whole.{inside-after, rooms, answer-long, line-turned}
 use Rattle.script_run.proofs.script.answer_line.Statement.{statement}
@@ -28,7 +28,7 @@ each-answer-requires c κs =
 returns : tie.Need-returns
 returns c =
     let a = c.before.before.before.before.before.before.before.before.before.before.before.before.before.before.before.before.before.before.before.before.before.before.before.before.before.before.before.args in let k = c.before.before.before.before.before.before.before.before.before.before.before.before.before.before.before.before.before.before.command in
-    line-turned a.sheet (commandOf a.line.now) k.result (lent k.new.1.0 (buffers k.new.1.1.0 k.new.1.1.1.0 k.new.1.1.1.1.0 k.new.1.1.1.1.1.0 k.new.1.1.1.1.1.1.0)) k.ensures c.before.before.before.each-answer.ensures
+    line-turned a.sheet (command_of a.line.now) k.result (lent k.new.1.0 (buffers k.new.1.1.0 k.new.1.1.1.0 k.new.1.1.1.1.0 k.new.1.1.1.1.1.0 k.new.1.1.1.1.1.1.0)) k.ensures c.before.before.before.each-answer.ensures
 
 pub answer-line-spec : {M : Type 1} → statement M
 answer-line-spec =

@@ -8,8 +8,8 @@ use borrow.Author.Tests.{not-true, not-false}
 use lib.ListN.{length}
 use lib.Seq.{length-take-le}
 use Rattle.script_runs.specs.inner.Filled.{buffers}
-use Rattle.script_commands.specs.inner.Held.{lent, commandIn}
-use Rattle.script_answers.specs.inner.Lengths.{maxAnswer}
+use Rattle.script_commands.specs.inner.Held.{lent, command_in}
+use Rattle.script_answers.specs.inner.Lengths.{max_answer}
 use Rattle.script_told.specs.Turns.{turn_of}
 use Rattle.script_told.proofs.Enough.{few-answers}
 use Rattle.script_run.proofs.Going.{Going, starts, asked, stops, ends, below, again}
@@ -18,13 +18,13 @@ use Rattle.script_run.proofs.script.each_answer.Tie as tie
 
 abbrev invariant-loop : tie.invariant-loop
 invariant-loop command text old distances counts neighbours ratings buffer₀ out₀ at room write kept₀ to₀ n₀ buffer out kept to n =
-    Going command (lent text (buffers old distances counts neighbours ratings)) (turn_of (commandIn command (lent text (buffers old distances counts neighbours ratings))) kept₀)
+    Going command (lent text (buffers old distances counts neighbours ratings)) (turn_of (command_in command (lent text (buffers old distances counts neighbours ratings))) kept₀)
     write room out₀ at kept out to n
-    × (maxAnswer ≤ length buffer) × (length buffer ≡ length buffer₀) × (length out ≡ length out₀)
+    × (max_answer ≤ length buffer) × (length buffer ≡ length buffer₀) × (length out ≡ length out₀)
 
 abbrev decreases-loop : tie.decreases-loop
 decreases-loop command text old distances counts neighbours ratings buffer₀ out₀ at room write kept₀ to₀ n₀ buffer out kept to n =
-    length (turn_of (commandIn command (lent text (buffers old distances counts neighbours ratings))) kept₀).said - n
+    length (turn_of (command_in command (lent text (buffers old distances counts neighbours ratings))) kept₀).said - n
 
 loop-holds : tie.Need-loop-init invariant-loop decreases-loop
 loop-holds c =
@@ -55,7 +55,7 @@ add-n c =
     omega (
       arith,
       below c.before.before.before.before.before.before.before.before.before.before.before.before.before.before.loop.invariant.0.turning c.before.before.before.before.before.before.before.before.before.before.before.before.turn.ensures (not-false _ c.if2.false),
-      few-answers (commandIn a.command (lent a.text.now (buffers a.old.now a.distances.now a.counts.now a.neighbours.now a.ratings.now))) a.sheet,
+      few-answers (command_in a.command (lent a.text.now (buffers a.old.now a.distances.now a.counts.now a.neighbours.now a.ratings.now))) a.sheet,
     )
 
 loop-less : tie.Need-loop-smaller invariant-loop decreases-loop

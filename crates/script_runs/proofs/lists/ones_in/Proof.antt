@@ -7,7 +7,7 @@ use borrow.Author.Rules.{rules}
 use lib.ListN.{length, take, drop, replicate}
 use lib.Seq.{take-nil}
 use Rattle.script_words.specs.Parts.{parts}
-use Rattle.script_runs.specs.Lists.{signedsIn}
+use Rattle.script_runs.specs.Lists.{signeds_in}
 use Rattle.script_runs.proofs.ListLaws.{items-none, items-some, ones-items, fill_on, fill-last}
 use Rattle.script_runs.proofs.lists.ones_in.Statement.{statement}
 use Rattle.script_runs.proofs.lists.ones_in.Tie as tie
@@ -15,13 +15,13 @@ use Rattle.script_runs.proofs.lists.ones_in.Tie as tie
 abbrev invariant-loop : tie.invariant-loop
 invariant-loop word out₀ from₀ n₀ out from n =
     (from ≤ length word) × (n ≤ length out₀) × (length out ≡ length out₀)
-    × (take (length out₀) (take n out ++ map (λ v. 1) (parts 44 (drop from word))) ≡ take (length out₀) (replicate (length (signedsIn word)) 1))
+    × (take (length out₀) (take n out ++ map (λ v. 1) (parts 44 (drop from word))) ≡ take (length out₀) (replicate (length (signeds_in word)) 1))
 
 abbrev decreases-loop : tie.decreases-loop
 decreases-loop word out₀ from₀ n₀ out from n = length word - from
 
 returns : tie.Need-returns invariant-loop decreases-loop
-unfolding signedsIn
+unfolding signeds_in
 returns c = let a = c.before.before.before.args in record {
   holds = sym
       (rw (items-none a.word.now c.if1.true) (take-nil (length a.out.now)));

@@ -12,7 +12,7 @@ use Rattle.script_words.specs.Parts.{parts}
 use Rattle.script_words.specs.Numbers.{number_in, signed_of}
 use Rattle.script_words.specs.inner.Ends.{between}
 use Rattle.script_words.specs.inner.Puts.{Puts}
-use Rattle.script_runs.specs.Lists.{signedsIn}
+use Rattle.script_runs.specs.Lists.{signeds_in}
 use Rattle.script_runs.proofs.ListLaws.{items-none, items-some, fill_on, fill-last}
 use Rattle.script_runs.proofs.lists.signeds_in.Statement.{statement}
 use Rattle.script_runs.proofs.lists.signeds_in.Tie as tie
@@ -20,13 +20,13 @@ use Rattle.script_runs.proofs.lists.signeds_in.Tie as tie
 abbrev invariant-loop : tie.invariant-loop
 invariant-loop word out₀ from₀ n₀ out from n =
     (from ≤ length word) × (n ≤ length out₀) × (length out ≡ length out₀)
-    × (take (length out₀) (take n out ++ map (λ v. signed_of (number_in v)) (parts 44 (drop from word))) ≡ take (length out₀) (signedsIn word))
+    × (take (length out₀) (take n out ++ map (λ v. signed_of (number_in v)) (parts 44 (drop from word))) ≡ take (length out₀) (signeds_in word))
 
 abbrev decreases-loop : tie.decreases-loop
 decreases-loop word out₀ from₀ n₀ out from n = length word - from
 
 returns : tie.Need-returns invariant-loop decreases-loop
-unfolding signedsIn
+unfolding signeds_in
 returns c = let a = c.before.before.args in record {
   holds = sym
       (rw (items-none a.word.now c.if1.true) (take-nil (length a.out.now)));
@@ -34,7 +34,7 @@ returns c = let a = c.before.before.args in record {
 }
 
 loop-holds : tie.Need-loop-init invariant-loop decreases-loop
-unfolding signedsIn
+unfolding signeds_in
 loop-holds c =
     let a = c.before.before.args in (
       omega arith,

@@ -10,7 +10,7 @@ use Rattle.script_words.specs.Parts.{parts}
 use Rattle.script_words.specs.Numbers.{number_in, whole_of}
 use Rattle.script_words.specs.inner.Ends.{between}
 use Rattle.script_words.specs.inner.Puts.{Puts}
-use Rattle.script_runs.specs.Lists.{wholesIn}
+use Rattle.script_runs.specs.Lists.{wholes_in}
 use Rattle.script_runs.proofs.ListLaws.{items-none, items-some, fill_on, fill-last}
 use Rattle.script_runs.proofs.lists.wholes_in.Statement.{statement}
 use Rattle.script_runs.proofs.lists.wholes_in.Tie as tie
@@ -18,13 +18,13 @@ use Rattle.script_runs.proofs.lists.wholes_in.Tie as tie
 abbrev invariant-loop : tie.invariant-loop
 invariant-loop word out₀ from₀ n₀ out from n =
     (from ≤ length word) × (n ≤ length out₀) × (length out ≡ length out₀)
-    × (take (length out₀) (take n out ++ map (λ v. whole_of (number_in v)) (parts 44 (drop from word))) ≡ take (length out₀) (wholesIn word))
+    × (take (length out₀) (take n out ++ map (λ v. whole_of (number_in v)) (parts 44 (drop from word))) ≡ take (length out₀) (wholes_in word))
 
 abbrev decreases-loop : tie.decreases-loop
 decreases-loop word out₀ from₀ n₀ out from n = length word - from
 
 returns : tie.Need-returns invariant-loop decreases-loop
-unfolding wholesIn
+unfolding wholes_in
 returns c = let a = c.before.before.before.args in record {
   holds = sym
       (rw (items-none a.word.now c.if1.true) (take-nil (length a.out.now)));
@@ -32,7 +32,7 @@ returns c = let a = c.before.before.before.args in record {
 }
 
 loop-holds : tie.Need-loop-init invariant-loop decreases-loop
-unfolding wholesIn
+unfolding wholes_in
 loop-holds c =
     let a = c.before.before.before.args in (
       omega arith,

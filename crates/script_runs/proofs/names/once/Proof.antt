@@ -5,15 +5,15 @@ use native.Mathlib.Omega.{arith}
 use borrow.Author.Rules.{rules}
 use lib.ListN.{length}
 use Rattle.text_scan.proofs.Lines.{has, has-not}
-use Rattle.script_runs.specs.Names.{valueBefore}
+use Rattle.script_runs.specs.Names.{value_before}
 use Rattle.script_runs.proofs.names.once.Statement.{statement}
 use Rattle.script_runs.proofs.names.once.Tie as tie
 
 returns : tie.Need-returns
-returns c = (sym (ap (λ g. length (valueBefore g [])) (has c.before.word_at.ensures c.if1.true)), omega arith)
+returns c = (sym (ap (λ g. length (value_before g [])) (has c.before.word_at.ensures c.if1.true)), omega arith)
 
 returns-2 : tie.Need-returns-2
-returns-2 c = (sym (ap (λ g. length (valueBefore g [])) (has-not c.before.word_at.ensures c.if1.false)), omega arith)
+returns-2 c = (sym (ap (λ g. length (value_before g [])) (has-not c.before.word_at.ensures c.if1.false)), omega arith)
 
 pub once-spec : {M : Type 1} → statement M
 once-spec =

@@ -5,14 +5,14 @@ use native.Mathlib.Omega.{arith}
 use borrow.Author.Rules.{rules}
 use lib.ListN.{length, drop}
 use Rattle.script_words.specs.Parts.{words}
-use Rattle.script_runs.specs.Names.{timesOf}
+use Rattle.script_runs.specs.Names.{times_of}
 use Rattle.script_runs.proofs.NameLaws.{times-last, times-on}
 use Rattle.script_runs.proofs.names.times.Statement.{statement}
 use Rattle.script_runs.proofs.names.times.Tie as tie
 
 abbrev invariant-loop : tie.invariant-loop
 invariant-loop given name from₀ n₀ from n =
-    (from ≤ length given) × (n ≤ from) × (n + timesOf name (words (drop from given)) ≡ timesOf name (words given))
+    (from ≤ length given) × (n ≤ from) × (n + times_of name (words (drop from given)) ≡ times_of name (words given))
 
 abbrev decreases-loop : tie.decreases-loop
 decreases-loop given name from₀ n₀ from n = length given - from

@@ -2,37 +2,37 @@
 use mathlib.Core.Path.{sym, ◌∙◌, ap}
 use borrow.Author.Tests.{not-true, not-false}
 use borrow.Author.Rules.{rules}
-use Rattle.script_words.specs.Numbers.{number_in, isWhole}
-use Rattle.script_runs.specs.Runs.{hasNumbers}
+use Rattle.script_words.specs.Numbers.{number_in, is_whole}
+use Rattle.script_runs.specs.Runs.{has_numbers}
 use Rattle.script_runs.proofs.runs.has_numbers.Statement.{statement}
 use Rattle.script_runs.proofs.runs.has_numbers.Tie as tie
 
 returns : tie.Need-returns
-unfolding hasNumbers
+unfolding has_numbers
 returns c =
-    rw (sym (c.before.is_whole.ensures ∙ ap isWhole (c.before.before.number.ensures ∙ ap number_in c.before.before.before.value.ensures))
+    rw (sym (c.before.is_whole.ensures ∙ ap is_whole (c.before.before.number.ensures ∙ ap number_in c.before.before.before.value.ensures))
     ∙ not-true _ c.if1.true)
 
 returns-2 : tie.Need-returns-2
-unfolding hasNumbers
+unfolding has_numbers
 returns-2 c =
     let c6 = c.before.before.before.before.before.before in
     rw (
       sym (c.before.before.before.before.is_whole.ensures
-          ∙ ap isWhole (c.before.before.before.before.before.number.ensures ∙ ap number_in c6.value.ensures))
+          ∙ ap is_whole (c.before.before.before.before.before.number.ensures ∙ ap number_in c6.value.ensures))
           ∙ not-false _ c.before.before.before.if1.false,
       sym c.before.may-bound.ensures ∙ not-true _ c.if2.true,
     )
 
 returns-3 : tie.Need-returns-3
-unfolding hasNumbers
+unfolding has_numbers
 returns-3 c =
     let c6 = c.before.before.before.before.before.before in
     let c7 = c6.before in
     let c8 = c7.before in
     let c9 = c8.before in
     rw (
-      sym (c7.is_whole.ensures ∙ ap isWhole (c8.number.ensures ∙ ap number_in c9.value.ensures))
+      sym (c7.is_whole.ensures ∙ ap is_whole (c8.number.ensures ∙ ap number_in c9.value.ensures))
           ∙ not-false _ c6.if1.false,
       sym c.before.before.before.before.may-bound.ensures
           ∙ not-false _ c.before.before.before.if2.false,
@@ -40,14 +40,14 @@ returns-3 c =
     )
 
 returns-4 : tie.Need-returns-4
-unfolding hasNumbers
+unfolding has_numbers
 returns-4 c =
     let c7 = c.before.before.before.before.before.before.before in
     let c8 = c7.before in
     let c9 = c8.before in
     let c10 = c9.before in
     rw (
-      sym (c8.is_whole.ensures ∙ ap isWhole (c9.number.ensures ∙ ap number_in c10.value.ensures))
+      sym (c8.is_whole.ensures ∙ ap is_whole (c9.number.ensures ∙ ap number_in c10.value.ensures))
           ∙ not-false _ c7.if1.false,
       sym c.before.before.before.before.before.may-bound.ensures
           ∙ not-false _ c.before.before.before.before.if2.false,

@@ -3,19 +3,19 @@ use native.Mathlib.Omega.{arith}
 use borrow.Author.Tests.{le-leb, lt-leb}
 use borrow.Author.Rules.{rules}
 use Rattle.script_words.specs.Parts.{words}
-use Rattle.script_runs.specs.Runs.{times, hasOptions}
+use Rattle.script_runs.specs.Runs.{times, has_options}
 use Rattle.script_runs.proofs.NameLaws.{times-all}
 use Rattle.script_runs.proofs.runs.has_options.Statement.{statement}
 use Rattle.script_runs.proofs.runs.has_options.Tie as tie
 
 returns : tie.Need-returns
-unfolding hasOptions
+unfolding has_options
 returns c =
     rw (lt-leb (times "left=" (words c.before.before.before.before.args.given.now)) 1
     (omega (arith, c.before.times.ensures, c.if1.true)))
 
 returns-2 : tie.Need-returns-2
-unfolding hasOptions
+unfolding has_options
 returns-2 c =
     let c7 = c.before.before.before.before.before.before.before in
     rw (
@@ -26,7 +26,7 @@ returns-2 c =
     )
 
 returns-3 : tie.Need-returns-3
-unfolding hasOptions
+unfolding has_options
 returns-3 c =
     let c6 = c.before.before.before.before.before.before in
     let c7 = c6.before in
@@ -41,7 +41,7 @@ returns-3 c =
     )
 
 returns-4 : tie.Need-returns-4
-unfolding hasOptions
+unfolding has_options
 returns-4 c =
     let c6 = c.before.before.before.before.before.before in
     let c9 = c6.before.before.before in
@@ -58,7 +58,7 @@ returns-4 c =
     )
 
 returns-5 : tie.Need-returns-5
-unfolding hasOptions
+unfolding has_options
 returns-5 c =
     let c5 = c.before.before.before.before.before in
     let c8 = c5.before.before.before in

@@ -2,17 +2,17 @@
 use mathlib.Core.Path.{sym, ◌∙◌}
 use borrow.Author.Tests.{not-true, not-false}
 use borrow.Author.Rules.{rules}
-use Rattle.script_runs.specs.Runs.{hasParts}
+use Rattle.script_runs.specs.Runs.{has_parts}
 use Rattle.script_runs.proofs.runs.has_parts.Statement.{statement}
 use Rattle.script_runs.proofs.runs.has_parts.Tie as tie
 
 returns : tie.Need-returns
-unfolding hasParts
+unfolding has_parts
 returns c =
     rw (sym c.before.is-once.ensures ∙ not-true _ c.if1.true)
 
 returns-2 : tie.Need-returns-2
-unfolding hasParts
+unfolding has_parts
 returns-2 c =
     rw (
       sym c.before.before.before.before.is-once.ensures
@@ -21,7 +21,7 @@ returns-2 c =
     )
 
 returns-3 : tie.Need-returns-3
-unfolding hasParts
+unfolding has_parts
 returns-3 c =
     let c6 = c.before.before.before.before.before.before in
     let c7 = c6.before in
@@ -33,7 +33,7 @@ returns-3 c =
     )
 
 returns-4 : tie.Need-returns-4
-unfolding hasParts
+unfolding has_parts
 returns-4 c =
     let c6 = c.before.before.before.before.before.before in
     let c7 = c6.before in
@@ -49,7 +49,7 @@ returns-4 c =
     )
 
 returns-5 : tie.Need-returns-5
-unfolding hasParts
+unfolding has_parts
 returns-5 c =
     let c6 = c.before.before.before.before.before.before in
     let c8 = c6.before.before in

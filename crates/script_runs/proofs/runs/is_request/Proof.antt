@@ -2,17 +2,17 @@
 use mathlib.Core.Path.{sym, ◌∙◌}
 use borrow.Author.Tests.{not-true, not-false}
 use borrow.Author.Rules.{rules}
-use Rattle.script_runs.specs.Runs.{isRequest}
+use Rattle.script_runs.specs.Runs.{is_request}
 use Rattle.script_runs.proofs.runs.is_request.Statement.{statement}
 use Rattle.script_runs.proofs.runs.is_request.Tie as tie
 
 returns : tie.Need-returns
-unfolding isRequest
+unfolding is_request
 returns c =
     rw (sym c.before.has_parts.ensures ∙ not-true _ c.if1.true)
 
 returns-2 : tie.Need-returns-2
-unfolding isRequest
+unfolding is_request
 returns-2 c =
     rw (
       sym c.before.before.before.has_parts.ensures ∙ not-false _ c.before.before.if1.false,
@@ -21,7 +21,7 @@ returns-2 c =
     )
 
 returns-3 : tie.Need-returns-3
-unfolding isRequest
+unfolding is_request
 returns-3 c =
     rw (
       sym c.before.before.before.before.before.has_parts.ensures
@@ -32,7 +32,7 @@ returns-3 c =
     )
 
 returns-4 : tie.Need-returns-4
-unfolding isRequest
+unfolding is_request
 returns-4 c =
     let c6 = c.before.before.before.before.before.before in
     rw (

@@ -2,7 +2,7 @@
 use mathlib.Core.Path.{sym, ◌∙◌}
 use borrow.Author.Rules.{rules}
 use lib.ListN.{length, replicate}
-use Rattle.script_runs.specs.Lists.{wholesIn, signedsIn}
+use Rattle.script_runs.specs.Lists.{wholes_in, signeds_in}
 use Rattle.script_runs.proofs.RequestLaws.{fills-from}
 use Rattle.script_runs.proofs.runs.ratings_in.Statement.{statement}
 use Rattle.script_runs.proofs.runs.ratings_in.Tie as tie
@@ -11,13 +11,13 @@ returns : tie.Need-returns
 returns c =
     let c6 = c.before.before.before.before.before.before in
     rw (sym c6.before.is-once.ensures ∙ c6.if1.true)
-    (fills-from wholesIn c.before.before.before.before.value.ensures c.before.before.wholes-in.ensures)
+    (fills-from wholes_in c.before.before.before.before.value.ensures c.before.before.wholes-in.ensures)
 
 returns-2 : tie.Need-returns-2
 returns-2 c =
     let c6 = c.before.before.before.before.before.before in
     rw (sym c6.before.is-once.ensures ∙ c6.if1.false)
-    (fills-from (λ w. replicate (length (signedsIn w)) 1) c.before.before.before.before.value2.ensures c.before.before.ones_in_lem.ensures)
+    (fills-from (λ w. replicate (length (signeds_in w)) 1) c.before.before.before.before.value2.ensures c.before.before.ones_in_lem.ensures)
 
 pub ratings-in-spec : {M : Type 1} → statement M
 ratings-in-spec =

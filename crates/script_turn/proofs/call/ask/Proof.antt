@@ -2,23 +2,23 @@
 use mathlib.Core.Path.{sym}
 use native.Mathlib.Omega.{arith}
 use borrow.Author.Rules.{rules}
-use Rattle.script_commands.specs.Table.{longEnough}
+use Rattle.script_commands.specs.Table.{long_enough}
 use Rattle.script_turn.proofs.CallLaws.{zeros-cut, tells}
 use Rattle.script_turn.proofs.call.ask.Statement.{statement}
 use Rattle.script_turn.proofs.call.ask.Tie as tie
 
 slice-aggregate-answer-call : tie.Need-slice-aggregate-answer-call
-slice-aggregate-answer-call c = sym (zeros-cut c.before.before.before.args.room longEnough c.before.before.before.requires.0)
+slice-aggregate-answer-call c = sym (zeros-cut c.before.before.before.args.room long_enough c.before.before.before.requires.0)
 
 answer-call-requires : tie.Need-answer-call-requires
 answer-call-requires c κs =
     let s = c.before.before.before.before.before in
-    record { line = omega (arith, zeros-cut s.args.room longEnough s.requires.0, s.requires.0); answer = omega (arith, s.requires.1) }
+    record { line = omega (arith, zeros-cut s.args.room long_enough s.requires.0, s.requires.0); answer = omega (arith, s.requires.1) }
 
 returns : tie.Need-returns
 returns c =
     let s = c.before.before.before.before.before.before.before.before.before.before in let a = s.args in
-    tells a.call a.text.now a.room longEnough a.sheet s.requires.0 c.before.before.before.before.answer-call.ensures
+    tells a.call a.text.now a.room long_enough a.sheet s.requires.0 c.before.before.before.before.answer-call.ensures
 
 pub ask-spec : {M : Type 1} → statement M
 ask-spec =

@@ -4,7 +4,7 @@ use mathlib.Core.Bool.{Bool, false, cond}
 use Prim.Native.Nat.{◌+◌}
 use lib.Dec.{ltb}
 use borrow.Author.Rules.{rules}
-use Rattle.script_told.specs.Turns.{mostAnswers}
+use Rattle.script_told.specs.Turns.{most_answers}
 use Rattle.script_turn.proofs.call.next_call.Statement.{statement}
 use Rattle.script_turn.proofs.call.next_call.Tie as tie
 
@@ -14,7 +14,7 @@ returns c =
     record {
       wrote = t.wrote;
       left = t.left;
-      further = c.goes_on.ensures ∙ ap (λ (b : Bool). cond b false (ltb (c.before.before.before.before.before.before.before.before.args.n + 1) mostAnswers)) t.ends;
+      further = c.goes_on.ensures ∙ ap (λ (b : Bool). cond b false (ltb (c.before.before.before.before.before.before.before.before.args.n + 1) most_answers)) t.ends;
     }
 
 pub next-call-spec : {M : Type 1} → statement M

@@ -5,7 +5,7 @@ use lib.Seq.{length-take-le}
 use borrow.Author.Rules.{rules}
 use Rattle.script_runs.specs.inner.Filled.{buffers}
 use Rattle.script_commands.specs.inner.Held.{lent}
-use Rattle.script_told.specs.Turns.{lineSaid, textSaid, markSaid}
+use Rattle.script_told.specs.Turns.{line_said, text_said, mark_said}
 use Rattle.script_turn.proofs.TurnLaws.{none, only, within, further, is-skip, is-unknown, is-load, is-tangled, is-draw, is-clear, is-stage, is-line, is-lines, is-text, is-texts, is-mark, is-marks, is-walk, is-place, is-poke, line-leaves, text-leaves, mark-leaves}
 use Rattle.script_turn.proofs.turn.turn.Statement.{statement}
 use Rattle.script_turn.proofs.turn.turn.Tie as tie
@@ -77,7 +77,7 @@ enum-told-6 : tie.Need-enum-told-6
 enum-told-6 c = search rules
 
 next-call-requires : tie.Need-next-call-requires
-next-call-requires c κs = let s = c.before.before.before.before.before.before.before.before in let a = s.args in let b = lent a.text.now (buffers a.old.now a.distances.now a.counts.now a.neighbours.now a.ratings.now) in (within s.requires (lineSaid a.sheet) (is-lines b a.sheet c.before.enum-told6.given.1), omega arith, s.requires.room)
+next-call-requires c κs = let s = c.before.before.before.before.before.before.before.before in let a = s.args in let b = lent a.text.now (buffers a.old.now a.distances.now a.counts.now a.neighbours.now a.ratings.now) in (within s.requires (line_said a.sheet) (is-lines b a.sheet c.before.enum-told6.given.1), omega arith, s.requires.room)
 
 enum-known-command-4 : tie.Need-enum-known-command-4
 enum-known-command-4 c = search rules
@@ -95,7 +95,7 @@ enum-told-7 : tie.Need-enum-told-7
 enum-told-7 c = search rules
 
 next-call-requires-2 : tie.Need-next-call-requires-2
-next-call-requires-2 c κs = let s = c.before.before.before.before.before.before.before.before in let a = s.args in let b = lent a.text.now (buffers a.old.now a.distances.now a.counts.now a.neighbours.now a.ratings.now) in (within s.requires (textSaid a.sheet) (is-texts b a.sheet c.before.enum-told7.given.1), omega arith, s.requires.room)
+next-call-requires-2 c κs = let s = c.before.before.before.before.before.before.before.before in let a = s.args in let b = lent a.text.now (buffers a.old.now a.distances.now a.counts.now a.neighbours.now a.ratings.now) in (within s.requires (text_said a.sheet) (is-texts b a.sheet c.before.enum-told7.given.1), omega arith, s.requires.room)
 
 enum-known-command-5 : tie.Need-enum-known-command-5
 enum-known-command-5 c = search rules
@@ -110,7 +110,7 @@ enum-told-8 : tie.Need-enum-told-8
 enum-told-8 c = search rules
 
 next-call-requires-3 : tie.Need-next-call-requires-3
-next-call-requires-3 c κs = let s = c.before.before.before.before.before.before.before.before in let a = s.args in let b = lent a.text.now (buffers a.old.now a.distances.now a.counts.now a.neighbours.now a.ratings.now) in (within s.requires (markSaid a.sheet) (is-marks b a.sheet c.before.enum-told8.given.1), omega arith, s.requires.room)
+next-call-requires-3 c κs = let s = c.before.before.before.before.before.before.before.before in let a = s.args in let b = lent a.text.now (buffers a.old.now a.distances.now a.counts.now a.neighbours.now a.ratings.now) in (within s.requires (mark_said a.sheet) (is-marks b a.sheet c.before.enum-told8.given.1), omega arith, s.requires.room)
 
 enum-known-command-6 : tie.Need-enum-known-command-6
 enum-known-command-6 c = search rules
@@ -182,7 +182,7 @@ same-length-8 : tie.Need-same-length-8
 same-length-8 c = search rules
 
 returns-9 : tie.Need-returns-9
-returns-9 c = let s = c.before.before.before.before.before.before.before.before.before.before.before in let a = s.args in let b = lent a.text.now (buffers a.old.now a.distances.now a.counts.now a.neighbours.now a.ratings.now) in further s.requires (lineSaid a.sheet) (is-lines b a.sheet c.before.before.before.before.enum-told6.given.1) (line-leaves a.sheet a.n) c.before.before.next-call.ensures
+returns-9 c = let s = c.before.before.before.before.before.before.before.before.before.before.before in let a = s.args in let b = lent a.text.now (buffers a.old.now a.distances.now a.counts.now a.neighbours.now a.ratings.now) in further s.requires (line_said a.sheet) (is-lines b a.sheet c.before.before.before.before.enum-told6.given.1) (line-leaves a.sheet a.n) c.before.before.next-call.ensures
 
 same-length-9 : tie.Need-same-length-9
 same-length-9 c = search rules
@@ -194,7 +194,7 @@ same-length-10 : tie.Need-same-length-10
 same-length-10 c = search rules
 
 returns-11 : tie.Need-returns-11
-returns-11 c = let s = c.before.before.before.before.before.before.before.before.before.before.before in let a = s.args in let b = lent a.text.now (buffers a.old.now a.distances.now a.counts.now a.neighbours.now a.ratings.now) in further s.requires (textSaid a.sheet) (is-texts b a.sheet c.before.before.before.before.enum-told7.given.1) (text-leaves a.sheet a.n) c.before.before.next-call2.ensures
+returns-11 c = let s = c.before.before.before.before.before.before.before.before.before.before.before in let a = s.args in let b = lent a.text.now (buffers a.old.now a.distances.now a.counts.now a.neighbours.now a.ratings.now) in further s.requires (text_said a.sheet) (is-texts b a.sheet c.before.before.before.before.enum-told7.given.1) (text-leaves a.sheet a.n) c.before.before.next-call2.ensures
 
 same-length-11 : tie.Need-same-length-11
 same-length-11 c = search rules
@@ -206,7 +206,7 @@ same-length-12 : tie.Need-same-length-12
 same-length-12 c = search rules
 
 returns-13 : tie.Need-returns-13
-returns-13 c = let s = c.before.before.before.before.before.before.before.before.before.before.before in let a = s.args in let b = lent a.text.now (buffers a.old.now a.distances.now a.counts.now a.neighbours.now a.ratings.now) in further s.requires (markSaid a.sheet) (is-marks b a.sheet c.before.before.before.before.enum-told8.given.1) (mark-leaves a.sheet a.n) c.before.before.next-call3.ensures
+returns-13 c = let s = c.before.before.before.before.before.before.before.before.before.before.before in let a = s.args in let b = lent a.text.now (buffers a.old.now a.distances.now a.counts.now a.neighbours.now a.ratings.now) in further s.requires (mark_said a.sheet) (is-marks b a.sheet c.before.before.before.before.enum-told8.given.1) (mark-leaves a.sheet a.n) c.before.before.next-call3.ensures
 
 same-length-13 : tie.Need-same-length-13
 same-length-13 c = search rules

@@ -6,13 +6,13 @@ use borrow.Author.Tests.{not-true, not-false}
 use borrow.Author.Rules.{rules}
 use lib.ListN.{length, drop}
 use Rattle.plan.specs.Checks.{every}
-use Rattle.text.specs.Parser.{isDigit}
+use Rattle.text.specs.Parser.{is_digit}
 use Rattle.script_words.proofs.NumberLaws.{digits-on, digits-stop, digits-end}
 use Rattle.script_words.proofs.numbers.all_digits.Statement.{statement}
 use Rattle.script_words.proofs.numbers.all_digits.Tie as tie
 
 abbrev invariant-loop : tie.invariant-loop
-invariant-loop word i₀ i = (i ≤ length word) × (every isDigit (drop i word) ≡ every isDigit word)
+invariant-loop word i₀ i = (i ≤ length word) × (every is_digit (drop i word) ≡ every is_digit word)
 
 abbrev decreases-loop : tie.decreases-loop
 decreases-loop word i₀ i = length word - i

@@ -1,4 +1,4 @@
--- `script_words::numbers::is_digit` meets its contract: the two tests are those of `isDigit`.
+-- `script_words::numbers::is_digit` meets its contract: the two tests are those of `is_digit`.
 use borrow.Author.Tests.{le-leb, lt-leb}
 use Rattle.script_words.proofs.numbers.is_digit.Statement.{statement}
 use Rattle.script_words.proofs.numbers.is_digit.Tie as tie

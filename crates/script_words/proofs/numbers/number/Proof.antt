@@ -1,7 +1,7 @@
 -- `script_words::numbers::number` meets its contract: by the first byte: none, a minus sign, or another.
 use mathlib.Core.Path.{sym, ◌∙◌, ap}
 use borrow.Author.Rules.{rules}
-use Rattle.script_words.specs.Numbers.{naturalIn, negated}
+use Rattle.script_words.specs.Numbers.{natural_in, negated}
 use Rattle.script_words.proofs.PartLaws.{rest}
 use Rattle.script_words.proofs.NumberLaws.{number-empty, number-minus, number-plain}
 use Rattle.script_words.proofs.numbers.number.Statement.{statement}
@@ -14,7 +14,7 @@ returns-2 : tie.Need-returns-2
 returns-2 c =
     let c7 = c.before.before.before.before.before.before.before in
     let w = c7.args.word.now in
-    c.negative.ensures ∙ ap negated (c.before.natural.ensures ∙ ap naturalIn (rest 1 w))
+    c.negative.ensures ∙ ap negated (c.before.natural.ensures ∙ ap natural_in (rest 1 w))
     ∙ sym (number-minus w c.before.before.before.before.before.if1.false c.before.before.before.if2.true)
 
 returns-3 : tie.Need-returns-3

@@ -7,15 +7,15 @@ use borrow.Author.Tests.{not-true, not-false, ltb-true, ltb-false}
 use borrow.Author.Rules.{rules}
 use lib.ListN.{length, drop, get_or}
 use Rattle.plan.specs.Checks.{every}
-use Rattle.text.specs.Parser.{isDigit}
-use Rattle.script_words.specs.Numbers.{valueFrom, wholeIf}
+use Rattle.text.specs.Parser.{is_digit}
+use Rattle.script_words.specs.Numbers.{value_from, whole_if}
 use Rattle.script_words.proofs.NumberLaws.{digits-on, digit_at, value_grows, value_on, value-end, whole-small, whole-large}
 use Rattle.script_words.proofs.numbers.value.Statement.{statement}
 use Rattle.script_words.proofs.numbers.value.Tie as tie
 
 abbrev invariant-loop : tie.invariant-loop
 invariant-loop word n₀ i₀ n i =
-    (i ≤ length word) × (n < 2 ^ 64) × (every isDigit (drop i word) ≡ true) × (valueFrom n (drop i word) ≡ valueFrom 0 word)
+    (i ≤ length word) × (n < 2 ^ 64) × (every is_digit (drop i word) ≡ true) × (value_from n (drop i word) ≡ value_from 0 word)
 
 abbrev decreases-loop : tie.decreases-loop
 decreases-loop word n₀ i₀ n i = length word - i
@@ -35,9 +35,9 @@ returns c =
     let d = c.before.before.digit in
     let v = l.n * 10 + (get_or w l.i 0 - 48) in
     let q = ltb-false (l.n * 10 + d.result) (2 ^ 64) (sym c.before.fits2.ensures ∙ not-true _ c.if1.true) in
-    let e : valueFrom 0 w ≡ valueFrom v (drop (l.i + 1) w) = sym l.invariant.3
+    let e : value_from 0 w ≡ value_from v (drop (l.i + 1) w) = sym l.invariant.3
     ∙ value_on l.n w l.i c.before.before.before.before.loop-test.true in
-    sym (whole-large (valueFrom 0 w) (omega (arith, d.ensures.0, e, value_grows v (drop (l.i + 1) w))))
+    sym (whole-large (value_from 0 w) (omega (arith, d.ensures.0, e, value_grows v (drop (l.i + 1) w))))
 
 -- with the next digit it fits
 small : (c : tie.Else1 invariant-loop decreases-loop) → c.before.before.before.before.before.loop.n * 10 + c.before.before.digit.result < 2 ^ 64
@@ -65,8 +65,8 @@ returns-2 : tie.Need-returns-2 invariant-loop decreases-loop
 returns-2 c =
     let w = c.before.before.before.args.word.now in
     let l = c.before.loop in
-    let e : l.n ≡ valueFrom 0 w = sym (value-end l.n w l.i c.loop-test.false) ∙ l.invariant.3 in
-    sym (ap wholeIf (sym e) ∙ whole-small l.n l.invariant.1)
+    let e : l.n ≡ value_from 0 w = sym (value-end l.n w l.i c.loop-test.false) ∙ l.invariant.3 in
+    sym (ap whole_if (sym e) ∙ whole-small l.n l.invariant.1)
 
 pub value_spec : {M : Type 1} → statement M
 value_spec =

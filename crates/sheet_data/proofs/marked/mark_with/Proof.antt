@@ -3,7 +3,7 @@ use mathlib.Core.Path.{sym}
 use native.Mathlib.Omega.{arith}
 use borrow.Author.Rules.{rules}
 use lib.Seq.{length-take-le}
-use Rattle.sheet_data.specs.inner.Parts.{planWith}
+use Rattle.sheet_data.specs.inner.Parts.{plan_with}
 use Rattle.sheet_data.proofs.Cuts.{PlanArrays, DrawingArrays, PlanCut, DrawingCut}
 use Rattle.sheet_data.proofs.Rooms.{in-plan, in-drawing, mark-asked, mark-data}
 use Rattle.sheet_data.proofs.marked.mark_with.Statement.{statement}
@@ -75,7 +75,7 @@ returns : tie.Need-returns
 returns c =
     let s = c.before.before.before.before.before.before.before.before.before.before.before.before.before.before in
     let a = s.args in
-    c.mark.ensures (planWith a.plan a.counts) (rw c.before.before.before.before.before.before.before.before.before.before.before.before.before.wide.ensures (mark-data a.plan a.drawing a.counts s.requires.0))
+    c.mark.ensures (plan_with a.plan a.counts) (rw c.before.before.before.before.before.before.before.before.before.before.before.before.before.wide.ensures (mark-data a.plan a.drawing a.counts s.requires.0))
 
 pub mark-with-spec : {M : Type 1} → statement M
 mark-with-spec =

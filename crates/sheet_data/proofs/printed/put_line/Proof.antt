@@ -6,8 +6,8 @@ use lib.Seq.{length-take-le}
 use Rattle.sheet_data.proofs.Cuts.{PlanArrays, DrawingArrays, PlanCut, DrawingCut}
 use Rattle.sheet_data.proofs.Rooms.{in-plan, in-drawing}
 use Rattle.sheet_data.proofs.Remembered.{line-asked-by, line-fronts-by}
-use Rattle.sheet_data.specs.inner.Parts.{numbersIn}
-use Rattle.plan.specs.Limits.{maxVertices}
+use Rattle.sheet_data.specs.inner.Parts.{numbers_in}
+use Rattle.plan.specs.Limits.{max_vertices}
 use lib.ListN.{length}
 use Rattle.sheet_data.proofs.printed.put_line.Statement.{statement}
 use Rattle.sheet_data.proofs.printed.put_line.Tie as tie
@@ -32,14 +32,14 @@ of-plan c = in-plan c.args.plan c.args.drawing c.args.counts c.requires.0 (plan-
 of-drawing : (c : tie.Start) → DrawingCut c.args.drawing c.args.counts
 of-drawing c = in-drawing c.args.plan c.args.drawing c.args.counts c.requires.0 (plan-arrays c) (drawing-arrays c)
 
-numbers-long : (c : tie.Start) → length c.args.t2 ≡ maxVertices
-numbers-long c = search rules
+numbers_long : (c : tie.Start) → length c.args.t2 ≡ max_vertices
+numbers_long c = search rules
 
 array-share-prefix-remembered : tie.Need-array-share-prefix-remembered
-array-share-prefix-remembered c = omega (arith, (of-plan c.before.before.before.before.before.before.before.before.before.before).few, numbers-long c.before.before.before.before.before.before.before.before.before.before)
+array-share-prefix-remembered c = omega (arith, (of-plan c.before.before.before.before.before.before.before.before.before.before).few, numbers_long c.before.before.before.before.before.before.before.before.before.before)
 
 slice-aggregate-put-line-by : tie.Need-slice-aggregate-put-line-by
-slice-aggregate-put-line-by c = sym (length-take-le _ _ (omega (arith, (of-plan c.before.before.before.before.before.before.before.before.before.before.before).few, numbers-long c.before.before.before.before.before.before.before.before.before.before.before)))
+slice-aggregate-put-line-by c = sym (length-take-le _ _ (omega (arith, (of-plan c.before.before.before.before.before.before.before.before.before.before.before).few, numbers_long c.before.before.before.before.before.before.before.before.before.before.before)))
 
 array-share-prefix-sizes : tie.Need-array-share-prefix-sizes
 array-share-prefix-sizes c = omega (arith, (of-plan c.before.before.before.before.before.before.before.before.before.before.before).sizes, c.before.before.before.before.before.before.before.before.before.wide.ensures)
@@ -87,7 +87,7 @@ put-line-by-requires : tie.Need-put-line-by-requires
 put-line-by-requires c κs =
     let s = c.before.before.before.before.before.before.before.before.before.before.before.before.before.before.before.before.before.before.before.before in
     let a = s.args in
-    rw c.before.before.before.before.before.before.before.before.before.before.before.before.before.before.before.before.before.before.wide.ensures (line-asked-by a.plan a.drawing a.counts s.requires.0 (plan-arrays s) (drawing-arrays s) (numbersIn a.t2 a.counts) s.requires.1 a.n s.requires.2 s.requires.3)
+    rw c.before.before.before.before.before.before.before.before.before.before.before.before.before.before.before.before.before.before.wide.ensures (line-asked-by a.plan a.drawing a.counts s.requires.0 (plan-arrays s) (drawing-arrays s) (numbers_in a.t2 a.counts) s.requires.1 a.n s.requires.2 s.requires.3)
 
 same_length : tie.Need-same-length
 same_length c = c.before.before.put-line-by.auto.1.1.1.1.1.1.1.1.1.1.1.0
@@ -96,7 +96,7 @@ returns : tie.Need-returns
 returns c =
     let s = c.before.before.before.before.before.before.before.before.before.before.before.before.before.before.before.before.before.before.before.before.before.before.before in
     let a = s.args in
-    line-fronts-by a.plan a.drawing a.counts s.requires.0 (plan-arrays s) (drawing-arrays s) (numbersIn a.t2 a.counts) s.requires.1 a.n (rw c.before.before.before.before.before.before.before.before.before.before.before.before.before.before.before.before.before.before.before.before.before.wide.ensures at c.before.before.put-line-by.ensures)
+    line-fronts-by a.plan a.drawing a.counts s.requires.0 (plan-arrays s) (drawing-arrays s) (numbers_in a.t2 a.counts) s.requires.1 a.n (rw c.before.before.before.before.before.before.before.before.before.before.before.before.before.before.before.before.before.before.before.before.before.wide.ensures at c.before.before.put-line-by.ensures)
 
 pub put-line-spec : {M : Type 1} → statement M
 put-line-spec =

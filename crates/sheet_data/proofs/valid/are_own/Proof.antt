@@ -4,8 +4,8 @@ use native.Mathlib.Omega.{arith}
 use borrow.Author.Rules.{rules}
 use lib.ListN.{length}
 use lib.Seq.{length-take-le}
-use Rattle.plan.specs.Limits.{maxVertices}
-use Rattle.sheet_data.specs.inner.Parts.{planWith}
+use Rattle.plan.specs.Limits.{max_vertices}
+use Rattle.sheet_data.specs.inner.Parts.{plan_with}
 use Rattle.sheet_data.proofs.Cuts.{PlanArrays, PlanCut, plan-cut}
 use Rattle.sheet_data.proofs.ValidLaws.{few-numbers, its-numbers}
 use Rattle.sheet_data.proofs.valid.are_own.Statement.{statement}
@@ -14,8 +14,8 @@ use Rattle.sheet_data.proofs.valid.are_own.Tie as tie
 plan-arrays : (c : tie.Start) → PlanArrays c.args.plan
 plan-arrays c = record { sizes = search rules; vias = search rules; halves = search rules; uppers = search rules; lowers = search rules; ratings = search rules }
 
-numbers-long : (c : tie.Start) → length c.args.t2 ≡ maxVertices
-numbers-long c = search rules
+numbers_long : (c : tie.Start) → length c.args.t2 ≡ max_vertices
+numbers_long c = search rules
 
 in-plan : (c : tie.Start) → PlanCut c.args.plan c.args.counts
 in-plan c = plan-cut (plan-arrays c) c.args.counts c.requires
@@ -27,10 +27,10 @@ slice-aggregate-own-numbers : tie.Need-slice-aggregate-own-numbers
 slice-aggregate-own-numbers c = sym (length-take-le _ _ (omega (arith, (in-plan c.before.before.before).sizes, c.before.before.wide.ensures)))
 
 array-share-prefix-remembered : tie.Need-array-share-prefix-remembered
-array-share-prefix-remembered c = omega (arith, (in-plan c.before.before.before).few, numbers-long c.before.before.before)
+array-share-prefix-remembered c = omega (arith, (in-plan c.before.before.before).few, numbers_long c.before.before.before)
 
 slice-aggregate-own-numbers-2 : tie.Need-slice-aggregate-own-numbers-2
-slice-aggregate-own-numbers-2 c = sym (length-take-le _ _ (omega (arith, (in-plan c.before.before.before.before).few, numbers-long c.before.before.before.before)))
+slice-aggregate-own-numbers-2 c = sym (length-take-le _ _ (omega (arith, (in-plan c.before.before.before.before).few, numbers_long c.before.before.before.before)))
 
 own-numbers-requires : tie.Need-own-numbers-requires
 own-numbers-requires c κs =
@@ -42,7 +42,7 @@ returns : tie.Need-returns
 returns c =
     let s = c.before.before.before.before.before in
     let a = s.args in
-    c.own-numbers.ensures (planWith a.plan a.counts) (rw c.before.before.before.before.wide.ensures (its-numbers a.plan a.counts s.requires (plan-arrays s) a.t2 (numbers-long s)))
+    c.own-numbers.ensures (plan_with a.plan a.counts) (rw c.before.before.before.before.wide.ensures (its-numbers a.plan a.counts s.requires (plan-arrays s) a.t2 (numbers_long s)))
 
 pub are-own-spec : {M : Type 1} → statement M
 are-own-spec =

@@ -5,8 +5,8 @@ use Prim.Native.Nat.{◌≤◌}
 use native.Mathlib.Omega.{arith}
 use borrow.Author.Rules.{rules}
 use lib.Seq.{length-take-le}
-use Rattle.passes.specs.Words.{maxListed}
-use Rattle.sheet_data.specs.inner.Parts.{planWith}
+use Rattle.passes.specs.Words.{max_listed}
+use Rattle.sheet_data.specs.inner.Parts.{plan_with}
 use Rattle.sheet_data.proofs.Cuts.{PlanArrays, DrawingArrays, PlanCut, DrawingCut, plan-cut, drawing-cut}
 use Rattle.sheet_data.proofs.ValidLaws.{many-placings, few-placings, stored-levels, stored-plan, stored-list}
 use Rattle.sheet_data.proofs.valid.is_drawing_of.Statement.{statement}
@@ -29,7 +29,7 @@ drawing-arrays c = record {
 in-plan : (c : tie.Start) → PlanCut c.args.plan c.args.counts
 in-plan c = plan-cut (plan-arrays c) c.args.counts c.requires
 
-in-drawing : (c : tie.Start) → c.args.counts.placings ≤ maxListed → DrawingCut c.args.drawing c.args.counts
+in-drawing : (c : tie.Start) → c.args.counts.placings ≤ max_listed → DrawingCut c.args.drawing c.args.counts
 in-drawing c h = drawing-cut (drawing-arrays c) c.args.counts (in-plan c).few h
 
 returns : tie.Need-returns
@@ -93,7 +93,7 @@ returns-2 : tie.Need-returns-2
 returns-2 c =
     let s = c.before.before.before.before.before.before.before.before.before.before.before.before.before.before.before.before.before.before.before.before.before in
     let a = s.args in
-    few-placings a.plan a.drawing a.counts _ c.before.before.before.before.before.before.before.before.before.before.before.before.before.before.before.before.before.before.before.before.if1.false (c.is-drawing.ensures (planWith a.plan a.counts) (rw c.before.before.before.before.before.before.before.before.before.before.before.before.before.before.before.before.before.before.before.wide.ensures (stored-plan a.plan a.drawing a.counts s.requires)))
+    few-placings a.plan a.drawing a.counts _ c.before.before.before.before.before.before.before.before.before.before.before.before.before.before.before.before.before.before.before.before.if1.false (c.is-drawing.ensures (plan_with a.plan a.counts) (rw c.before.before.before.before.before.before.before.before.before.before.before.before.before.before.before.before.before.before.before.wide.ensures (stored-plan a.plan a.drawing a.counts s.requires)))
 
 pub is-drawing-of-spec : {M : Type 1} → statement M
 is-drawing-of-spec =

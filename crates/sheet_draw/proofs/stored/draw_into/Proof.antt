@@ -4,7 +4,7 @@ use native.Mathlib.Omega.{arith}
 use borrow.Author.Rules.{rules}
 use lib.ListN.{length, take}
 use lib.Seq.{length-take-le}
-use Rattle.plan.specs.Stored.{planData}
+use Rattle.plan.specs.Stored.{plan_data}
 use Rattle.report.specs.declared.data.Counts.{Counts}
 use Rattle.sheet_data.proofs.Cuts.{PlanArrays, PlanCut, plan-cut}
 use Rattle.sheet_draw.proofs.NewLaws.{plan-lists}
@@ -63,20 +63,20 @@ draw-requires : tie.Need-draw-requires
 draw-requires c κs =
     let s = c.before.before.before.before.before.before.before.before.before.before.before.before.before.before.before.before.before.before.before.before.before.before.before.before in
     record {
-      some = record { plan = planData s.args.plan s.args.v s.args.e; lists = rw c.before.before.before.before.before.before.before.before.before.before.before.before.before.before.before.before.before.before.before.wide.ensures (plan-lists s.args.plan (counts s) s.requires.plan) };
-      preliminaryRoom = s.requires.preliminaryRoom ∙ sym (vertices s);
-      finalRoom = s.requires.finalRoom ∙ sym (vertices s);
-      noPasses = s.requires.noPasses;
-      noLevels = s.requires.noLevels;
-      noCounts = s.requires.noBoxes;
-      noVertices = s.requires.noVertices;
-      noPositions = s.requires.noPositions;
+      some = record { plan = plan_data s.args.plan s.args.v s.args.e; lists = rw c.before.before.before.before.before.before.before.before.before.before.before.before.before.before.before.before.before.before.before.wide.ensures (plan-lists s.args.plan (counts s) s.requires.plan) };
+      preliminary_room = s.requires.preliminary_room ∙ sym (vertices s);
+      final_room = s.requires.final_room ∙ sym (vertices s);
+      no_passes = s.requires.no_passes;
+      no_levels = s.requires.no_levels;
+      no_counts = s.requires.no_boxes;
+      no_vertices = s.requires.no_vertices;
+      no_positions = s.requires.no_positions;
     }
 
 returns : tie.Need-returns
 returns c =
     let s = c.before.before.before.before.before.before.before.before.before.before.before.before.before.before.before.before.before.before.before.before.before.before.before.before.before.before.before.before.before.before.before.before.before.before.before.before in
-    c.before.before.before.before.before.before.before.before.before.before.before.draw.ensures (planData s.args.plan s.args.v s.args.e) (rw c.before.before.before.before.before.before.before.before.before.before.before.before.before.before.before.before.before.before.before.before.before.before.before.before.before.before.before.before.before.before.before.wide.ensures (plan-lists s.args.plan (counts s) s.requires.plan))
+    c.before.before.before.before.before.before.before.before.before.before.before.draw.ensures (plan_data s.args.plan s.args.v s.args.e) (rw c.before.before.before.before.before.before.before.before.before.before.before.before.before.before.before.before.before.before.before.before.before.before.before.before.before.before.before.before.before.before.before.wide.ensures (plan-lists s.args.plan (counts s) s.requires.plan))
 
 pub draw-into-spec : {M : Type 1} → statement M
 draw-into-spec =

@@ -4,7 +4,7 @@ use borrow.Author.Rules.{rules}
 use lib.ListN.{length, take, replicate}
 use lib.Seq.{length-take-le}
 use lib.IntN.{pos}
-use Rattle.sheet_data.specs.inner.Parts.{planWith}
+use Rattle.sheet_data.specs.inner.Parts.{plan_with}
 use Rattle.sheet_data.proofs.Cuts.{PlanArrays, PlanCut, plan-cut}
 use Rattle.sheet_data.proofs.ReadBack.{preliminary-of, final-of}
 use Rattle.sheet_draw.proofs.NewLaws.{new_is, draws}
@@ -38,13 +38,13 @@ draw-into-requires c κs =
     let s = c.before.before.before.before.before.before.before in
     record {
       plan = s.requires;
-      preliminaryRoom = zeros s;
-      finalRoom = zeros s;
-      noPasses = refl;
-      noLevels = refl;
-      noBoxes = refl;
-      noVertices = refl;
-      noPositions = refl;
+      preliminary_room = zeros s;
+      final_room = zeros s;
+      no_passes = refl;
+      no_levels = refl;
+      no_boxes = refl;
+      no_vertices = refl;
+      no_positions = refl;
     }
 
 returns : tie.Need-returns
@@ -52,7 +52,7 @@ returns c =
     let s = c.before.before.before.before.before.before.before.before.before.before.before.before.before.before.before in
     let a = s.args in
     draws a.plan (plan-arrays s) a.counts s.requires _
-    (new_is (planWith a.plan a.counts) a.counts.vertices _ _ _ _ _ _ _ _ (of-plan s).few (preliminary-of a.plan (plan-arrays s) a.counts.vertices a.counts.segments s.requires) (final-of a.plan (plan-arrays s) a.counts.vertices a.counts.segments s.requires)
+    (new_is (plan_with a.plan a.counts) a.counts.vertices _ _ _ _ _ _ _ _ (of-plan s).few (preliminary-of a.plan (plan-arrays s) a.counts.vertices a.counts.segments s.requires) (final-of a.plan (plan-arrays s) a.counts.vertices a.counts.segments s.requires)
     c.before.before.before.before.before.before.before.draw-into.ensures)
 
 pub draw-plan-spec : {M : Type 1} → statement M

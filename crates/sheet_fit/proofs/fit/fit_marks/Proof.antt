@@ -2,7 +2,7 @@
 use mathlib.Core.Path.{refl, sym, ap}
 use native.Mathlib.Omega.{arith}
 use borrow.Author.Rules.{rules}
-use Rattle.marks.specs.Marks.{markCount, allNumbers}
+use Rattle.marks.specs.Marks.{mark_count, all_numbers}
 use Rattle.marks.proofs.All.{all-long}
 use Rattle.marks.proofs.Laws.{count-is}
 use Rattle.sheet.specs.Results.{gives}
@@ -13,12 +13,12 @@ use Rattle.sheet_fit.proofs.fit.fit_marks.Tie as tie
 returns : tie.Need-returns
 returns c = λ p d.
     let a = c.before.before.before.before.before.before.before.args in
-    writes (fitted_short (markCount p) (allNumbers p a.finals.now) a.out.now (omega (arith, c.if1.true, all-long p a.finals.now, count-is d))) (record { answered = refl; left = refl })
+    writes (fitted_short (mark_count p) (all_numbers p a.finals.now) a.out.now (omega (arith, c.if1.true, all-long p a.finals.now, count-is d))) (record { answered = refl; left = refl })
 
 returns-2 : tie.Need-returns-2
 returns-2 c = λ p d.
     let a = c.before.before.before.before.before.before.before.before.before.before.before.args in
-    writes (fitted-long (markCount p) (allNumbers p a.finals.now) a.out.now (omega (arith, c.before.before.before.before.if1.false, all-long p a.finals.now, count-is d))) (record { answered = ap gives (sym (count-is d)); left = c.before.before.put-marks.ensures p d })
+    writes (fitted-long (mark_count p) (all_numbers p a.finals.now) a.out.now (omega (arith, c.before.before.before.before.if1.false, all-long p a.finals.now, count-is d))) (record { answered = ap gives (sym (count-is d)); left = c.before.before.put-marks.ensures p d })
 
 pub fit-marks-spec : {M : Type 1} → statement M
 fit-marks-spec = tie.close

@@ -5,7 +5,7 @@ use native.Mathlib.Omega.{arith}
 use borrow.Author.Rules.{rules}
 use lib.ListN.{length, replicate, length-append, length-replicate}
 use lib.Seq.{length-take-le, take_at}
-use Rattle.report_lines.specs.inner.Stored.{maxReport}
+use Rattle.report_lines.specs.inner.Stored.{max_report}
 use Rattle.report_numbers.specs.inner.Rooms.{HasNumbers}
 use Rattle.report_numbers.proofs.Rooms.{numberable, report-asked, report-is}
 use Rattle.sheet_fit.proofs.fit.fit_report_by.Statement.{statement}
@@ -13,54 +13,54 @@ use Rattle.sheet_fit.proofs.fit.fit_report_by.Tie as tie
 
 numbered : (c : tie.Start) → HasNumbers c.args.m.now c.args.sizes.now c.args.preliminary.now c.args.finals.now c.args.passes.now
     c.args.levels.now c.args.boxes.now c.args.vertices.now c.args.positions.now
-numbered c = (c.requires (replicate maxReport 0) (omega (arith, length-replicate {A = ℕ} maxReport 0))).numbered
+numbered c = (c.requires (replicate max_report 0) (omega (arith, length-replicate {A = ℕ} max_report 0))).numbered
 
 -- positions by number are as many as the numbers
-starts-long : (c : tie.After-in-numbers) → length c.in-numbers.new.1.1.1.1.1.0 ≡ length c.before.before.before.before.before.before.before.before.before.before.before.args.m.now
-starts-long c = c.in-numbers.auto.1.1.1.1.1.0 ∙ length-take-le _ _ (numbered c.before.before.before.before.before.before.before.before.before.before.before).inLimit
+starts_long : (c : tie.After-in-numbers) → length c.in-numbers.new.1.1.1.1.1.0 ≡ length c.before.before.before.before.before.before.before.before.before.before.before.args.m.now
+starts_long c = c.in-numbers.auto.1.1.1.1.1.0 ∙ length-take-le _ _ (numbered c.before.before.before.before.before.before.before.before.before.before.before).in_limit
 
-ends-long : (c : tie.After-in-numbers) → length c.in-numbers.new.1.1.1.1.1.1.0 ≡ length c.before.before.before.before.before.before.before.before.before.before.before.args.m.now
-ends-long c = c.in-numbers.auto.1.1.1.1.1.1.0 ∙ length-take-le _ _ (numbered c.before.before.before.before.before.before.before.before.before.before.before).inLimit
+ends_long : (c : tie.After-in-numbers) → length c.in-numbers.new.1.1.1.1.1.1.0 ≡ length c.before.before.before.before.before.before.before.before.before.before.before.args.m.now
+ends_long c = c.in-numbers.auto.1.1.1.1.1.1.0 ∙ length-take-le _ _ (numbered c.before.before.before.before.before.before.before.before.before.before.before).in_limit
 
 array-borrow-prefix-starts : tie.Need-array-borrow-prefix-starts
-array-borrow-prefix-starts c = (numbered c.before.before.before.before.before.before.before).inLimit
+array-borrow-prefix-starts c = (numbered c.before.before.before.before.before.before.before).in_limit
 
 slice-aggregate-in-numbers : tie.Need-slice-aggregate-in-numbers
-slice-aggregate-in-numbers c = sym (length-take-le _ _ (numbered c.before.before.before.before.before.before.before.before).inLimit)
+slice-aggregate-in-numbers c = sym (length-take-le _ _ (numbered c.before.before.before.before.before.before.before.before).in_limit)
 
 array-borrow-prefix-ends : tie.Need-array-borrow-prefix-ends
-array-borrow-prefix-ends c = (numbered c.before.before.before.before.before.before.before.before).inLimit
+array-borrow-prefix-ends c = (numbered c.before.before.before.before.before.before.before.before).in_limit
 
 slice-aggregate-in-numbers-2 : tie.Need-slice-aggregate-in-numbers-2
-slice-aggregate-in-numbers-2 c = sym (length-take-le _ _ (numbered c.before.before.before.before.before.before.before.before.before).inLimit)
+slice-aggregate-in-numbers-2 c = sym (length-take-le _ _ (numbered c.before.before.before.before.before.before.before.before.before).in_limit)
 
 in-numbers-requires : tie.Need-in-numbers-requires
 in-numbers-requires c κs =
     let h = numbered c.before.before.before.before.before.before.before.before.before.before in
-    numberable h _ _ _ (length-take-le _ _ h.inLimit) (length-take-le _ _ h.inLimit) (search rules)
+    numberable h _ _ _ (length-take-le _ _ h.in_limit) (length-take-le _ _ h.in_limit) (search rules)
 
 array-share-prefix-starts : tie.Need-array-share-prefix-starts
-array-share-prefix-starts c = rw length-append (omega (arith, starts-long c.before.before.before))
+array-share-prefix-starts c = rw length-append (omega (arith, starts_long c.before.before.before))
 
 slice-aggregate-fit-report : tie.Need-slice-aggregate-fit-report
-slice-aggregate-fit-report c = rw (take_at _ _ _ (starts-long c.before.before.before.before)) (sym (starts-long c.before.before.before.before))
+slice-aggregate-fit-report c = rw (take_at _ _ _ (starts_long c.before.before.before.before)) (sym (starts_long c.before.before.before.before))
 
 array-share-prefix-ends : tie.Need-array-share-prefix-ends
-array-share-prefix-ends c = rw length-append (omega (arith, ends-long c.before.before.before.before))
+array-share-prefix-ends c = rw length-append (omega (arith, ends_long c.before.before.before.before))
 
 slice-aggregate-fit-report-2 : tie.Need-slice-aggregate-fit-report-2
-slice-aggregate-fit-report-2 c = rw (take_at _ _ _ (ends-long c.before.before.before.before.before)) (sym (ends-long c.before.before.before.before.before))
+slice-aggregate-fit-report-2 c = rw (take_at _ _ _ (ends_long c.before.before.before.before.before)) (sym (ends_long c.before.before.before.before.before))
 
 fit-report-requires : tie.Need-fit-report-requires
 fit-report-requires c κs =
     let l = c.before.before.before.before.before.before.before in
-    rw (take_at _ _ _ (starts-long l), take_at _ _ _ (ends-long l)) (λ o k. report-asked l.in-numbers.ensures (c.before.before.before.before.before.before.before.before.before.before.before.before.before.before.before.before.before.before.requires o k))
+    rw (take_at _ _ _ (starts_long l), take_at _ _ _ (ends_long l)) (λ o k. report-asked l.in-numbers.ensures (c.before.before.before.before.before.before.before.before.before.before.before.before.before.before.before.before.before.before.requires o k))
 
 returns : tie.Need-returns
 returns c =
     let l = c.before.before.before.before.before.before.before.before.before.before in
     let s = c.before.before.before.before.before.before.before.before.before.before.before.before.before.before.before.before.before.before.before.before.before in
-    rw (report-is (numbered s) l.in-numbers.ensures s.args.spacing) at (rw (take_at _ _ _ (starts-long l), take_at _ _ _ (ends-long l)) at c.before.before.fit-report.ensures)
+    rw (report-is (numbered s) l.in-numbers.ensures s.args.spacing) at (rw (take_at _ _ _ (starts_long l), take_at _ _ _ (ends_long l)) at c.before.before.fit-report.ensures)
 
 pub fit-report-by-spec : {M : Type 1} → statement M
 fit-report-by-spec =

@@ -3,7 +3,7 @@ use mathlib.Core.Path.{sym}
 use native.Mathlib.Omega.{arith}
 use borrow.Author.Rules.{rules}
 use lib.Seq.{length-take-le}
-use Rattle.sheet_data.specs.inner.Parts.{planWith}
+use Rattle.sheet_data.specs.inner.Parts.{plan_with}
 use Rattle.sheet_data.proofs.Cuts.{PlanArrays, DrawingArrays, PlanCut, DrawingCut}
 use Rattle.sheet_data.proofs.Rooms.{in-plan, in-drawing, marks-asked, mark-data, marks-are}
 use Rattle.sheet_show.proofs.all_marks.marks_of.Statement.{statement}
@@ -75,7 +75,7 @@ returns : tie.Need-returns
 returns c =
     let s = c.before.before.before.before.before.before.before.before.before.before.before.before.before.before.before.before.before.before in
     let a = s.args in
-    rw (← marks-are a.plan a.counts s.requires.plan (plan-arrays s)) (c.before.before.fit-marks.ensures (planWith a.plan a.counts) (rw c.before.before.before.before.before.before.before.before.before.before.before.before.before.before.before.before.wide.ensures (mark-data a.plan a.drawing a.counts s.requires)))
+    rw (← marks-are a.plan a.counts s.requires.plan (plan-arrays s)) (c.before.before.fit-marks.ensures (plan_with a.plan a.counts) (rw c.before.before.before.before.before.before.before.before.before.before.before.before.before.before.before.before.wide.ensures (mark-data a.plan a.drawing a.counts s.requires)))
 
 pub marks-of-spec : {M : Type 1} → statement M
 marks-of-spec =

@@ -6,7 +6,7 @@ use borrow.Author.Rules.{rules}
 use lib.Seq.{length-take-le}
 use Rattle.sheet_fit.proofs.FitLaws.{writes, front_long, front-is}
 use Rattle.sheet_show.proofs.ShowLaws.{no_line, a-line}
-use Rattle.sheet_data.specs.inner.Parts.{lineWith}
+use Rattle.sheet_data.specs.inner.Parts.{line_with}
 use Rattle.sheet_data.proofs.Rooms.{Few, few}
 use Rattle.sheet_show.proofs.line.line_of.Statement.{statement}
 use Rattle.sheet_show.proofs.line.line_of.Tie as tie
@@ -34,7 +34,7 @@ slice-aggregate-fit c = sym (length-take-le _ _ (front_long c.before.before.put-
 returns-2 : tie.Need-returns-2
 returns-2 c =
     let a = c.before.before.before.before.before.before.before.before.before.before.before.args in
-    writes (a-line a.plan a.drawing a.counts a.n a.remembered a.out.now c.before.before.before.before.before.before.before.before.if1.false) (rw (front-is {w = lineWith a.plan a.remembered a.drawing a.counts a.n} c.before.before.before.before.before.before.put-line.ensures) at c.before.before.fit.ensures)
+    writes (a-line a.plan a.drawing a.counts a.n a.remembered a.out.now c.before.before.before.before.before.before.before.before.if1.false) (rw (front-is {w = line_with a.plan a.remembered a.drawing a.counts a.n} c.before.before.before.before.before.before.put-line.ensures) at c.before.before.fit.ensures)
 
 pub line-of-spec : {M : Type 1} → statement M
 line-of-spec =

@@ -6,10 +6,10 @@ use lib.Seq.{length-take-le}
 use Rattle.sheet_data.proofs.Cuts.{PlanArrays, DrawingArrays, PlanCut, DrawingCut}
 use Rattle.sheet_data.proofs.Rooms.{in-plan, in-drawing}
 use Rattle.sheet_data.proofs.Remembered.{report-asked-by, report-same-by}
-use Rattle.sheet_data.specs.inner.Parts.{numbersIn}
-use Rattle.plan.specs.Limits.{maxVertices}
+use Rattle.sheet_data.specs.inner.Parts.{numbers_in}
+use Rattle.plan.specs.Limits.{max_vertices}
 use lib.ListN.{length}
-use Rattle.sheet_fit.specs.inner.Fitted.{fittedText}
+use Rattle.sheet_fit.specs.inner.Fitted.{fitted_text}
 use Rattle.sheet_fit.proofs.FitLaws.{writes}
 use Rattle.sheet_show.proofs.whole.report_of.Statement.{statement}
 use Rattle.sheet_show.proofs.whole.report_of.Tie as tie
@@ -34,14 +34,14 @@ of-plan c = in-plan c.args.plan c.args.drawing c.args.counts c.requires.0 (plan-
 of-drawing : (c : tie.Start) → DrawingCut c.args.drawing c.args.counts
 of-drawing c = in-drawing c.args.plan c.args.drawing c.args.counts c.requires.0 (plan-arrays c) (drawing-arrays c)
 
-numbers-long : (c : tie.Start) → length c.args.t2 ≡ maxVertices
-numbers-long c = search rules
+numbers_long : (c : tie.Start) → length c.args.t2 ≡ max_vertices
+numbers_long c = search rules
 
 array-share-prefix-remembered : tie.Need-array-share-prefix-remembered
-array-share-prefix-remembered c = omega (arith, (of-plan c.before.before.before.before.before.before.before.before.before.before).few, numbers-long c.before.before.before.before.before.before.before.before.before.before)
+array-share-prefix-remembered c = omega (arith, (of-plan c.before.before.before.before.before.before.before.before.before.before).few, numbers_long c.before.before.before.before.before.before.before.before.before.before)
 
 slice-aggregate-fit-report-by : tie.Need-slice-aggregate-fit-report-by
-slice-aggregate-fit-report-by c = sym (length-take-le _ _ (omega (arith, (of-plan c.before.before.before.before.before.before.before.before.before.before.before).few, numbers-long c.before.before.before.before.before.before.before.before.before.before.before)))
+slice-aggregate-fit-report-by c = sym (length-take-le _ _ (omega (arith, (of-plan c.before.before.before.before.before.before.before.before.before.before.before).few, numbers_long c.before.before.before.before.before.before.before.before.before.before.before)))
 
 array-share-prefix-sizes : tie.Need-array-share-prefix-sizes
 array-share-prefix-sizes c = omega (arith, (of-plan c.before.before.before.before.before.before.before.before.before.before.before).sizes, c.before.before.before.before.before.before.before.before.before.wide.ensures)
@@ -89,7 +89,7 @@ fit-report-by-requires : tie.Need-fit-report-by-requires
 fit-report-by-requires c κs =
     let s = c.before.before.before.before.before.before.before.before.before.before.before.before.before.before.before.before.before.before.before.before in
     let a = s.args in
-    rw c.before.before.before.before.before.before.before.before.before.before.before.before.before.before.before.before.before.before.wide.ensures (λ o k. report-asked-by a.plan a.drawing a.counts s.requires.0 (plan-arrays s) (drawing-arrays s) (numbersIn a.t2 a.counts) s.requires.1 k)
+    rw c.before.before.before.before.before.before.before.before.before.before.before.before.before.before.before.before.before.before.wide.ensures (λ o k. report-asked-by a.plan a.drawing a.counts s.requires.0 (plan-arrays s) (drawing-arrays s) (numbers_in a.t2 a.counts) s.requires.1 k)
 
 same_length : tie.Need-same-length
 same_length c = c.before.before.fit-report-by.auto.1.1.1.1.1.1.1.1.1.1.0
@@ -98,7 +98,7 @@ returns : tie.Need-returns
 returns c =
     let s = c.before.before.before.before.before.before.before.before.before.before.before.before.before.before.before.before.before.before.before.before.before.before.before in
     let a = s.args in
-    writes (ap (λ w. fittedText w a.out.now) (report-same-by a.plan a.drawing a.counts s.requires.0 (plan-arrays s) (drawing-arrays s) (numbersIn a.t2 a.counts) s.requires.1)) (rw c.before.before.before.before.before.before.before.before.before.before.before.before.before.before.before.before.before.before.before.before.before.wide.ensures at c.before.before.fit-report-by.ensures)
+    writes (ap (λ w. fitted_text w a.out.now) (report-same-by a.plan a.drawing a.counts s.requires.0 (plan-arrays s) (drawing-arrays s) (numbers_in a.t2 a.counts) s.requires.1)) (rw c.before.before.before.before.before.before.before.before.before.before.before.before.before.before.before.before.before.before.before.before.before.wide.ensures at c.before.before.fit-report-by.ensures)
 
 pub report-of-spec : {M : Type 1} → statement M
 report-of-spec =

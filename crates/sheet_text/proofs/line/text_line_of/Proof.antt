@@ -11,7 +11,7 @@ use Rattle.report_validity.proofs.Stored.{stored_of}
 use Rattle.text.specs.Writing.{lines_of}
 use Rattle.text_write.specs.inner.Data.{line_of}
 use Rattle.text_write.specs.inner.Stored.{StoredPlan}
-use Rattle.sheet_data.specs.inner.Parts.{planWith}
+use Rattle.sheet_data.specs.inner.Parts.{plan_with}
 use Rattle.sheet_fit.proofs.FitLaws.{writes, front_long, front-is}
 use Rattle.sheet_text.proofs.Short.{line-short}
 use Rattle.sheet_text.proofs.TextLaws.{no_line, a-line}
@@ -37,8 +37,8 @@ stored-line-requires c κs =
     let a = c.before.before.before.before.before.before.args in
     let r = c.before.as_read in
     let is = r.ensures in
-    let line : a.n < length (lines_of (planWith r.result a.counts)) = omega (arith, is.lines, c.before.before.if1.false, c.before.before.before.before.wide.ensures) in
-    (is.limits, record { plan = is.limits.plan; line = line; room = rw length-replicate (omega (arith, line-short (planWith r.result a.counts) is.limits.plan is.three a.n line)) })
+    let line : a.n < length (lines_of (plan_with r.result a.counts)) = omega (arith, is.lines, c.before.before.if1.false, c.before.before.before.before.wide.ensures) in
+    (is.limits, record { plan = is.limits.plan; line = line; room = rw length-replicate (omega (arith, line-short (plan_with r.result a.counts) is.limits.plan is.three a.n line)) })
 
 array-share-prefix-room : tie.Need-array-share-prefix-room
 array-share-prefix-room c = front_long c.before.stored-line.ensures
@@ -50,7 +50,7 @@ returns-2 : tie.Need-returns-2
 returns-2 c =
     let a = c.before.before.before.before.before.before.before.before.before.before.before.before.before.args in
     let r = c.before.before.before.before.before.before.before.before.as_read in
-    let line = front-is {w = line_of (planWith r.result a.counts) a.n} c.before.before.before.before.before.before.stored-line.ensures ∙ ap (λ (d : PlanData). line_of d a.n) r.ensures.is in
+    let line = front-is {w = line_of (plan_with r.result a.counts) a.n} c.before.before.before.before.before.before.stored-line.ensures ∙ ap (λ (d : PlanData). line_of d a.n) r.ensures.is in
     writes (a-line a.plan a.remembered a.counts a.n a.out.now (omega (arith, c.before.before.before.before.before.before.before.before.before.if1.false, c.before.before.before.before.before.before.before.before.before.before.before.wide.ensures))) (rw line at c.before.before.fit.ensures)
 
 pub text-line-of-spec : {M : Type 1} → statement M

@@ -4,8 +4,8 @@ use native.Mathlib.Omega.{arith}
 use borrow.Author.Rules.{rules}
 use lib.ListN.{length}
 use lib.Seq.{length-take-le}
-use Rattle.plan.specs.Limits.{maxVertices}
-use Rattle.sheet_data.specs.inner.Parts.{planWith}
+use Rattle.plan.specs.Limits.{max_vertices}
+use Rattle.sheet_data.specs.inner.Parts.{plan_with}
 use Rattle.sheet_data.proofs.Cuts.{PlanArrays, PlanCut, plan-cut}
 use Rattle.sheet_text.proofs.ReadLaws.{numbered, as_read}
 use Rattle.sheet_text.proofs.read.as_read.Statement.{statement}
@@ -14,17 +14,17 @@ use Rattle.sheet_text.proofs.read.as_read.Tie as tie
 plan-arrays : (c : tie.Start) → PlanArrays c.args.plan
 plan-arrays c = record { sizes = search rules; vias = search rules; halves = search rules; uppers = search rules; lowers = search rules; ratings = search rules }
 
-numbers-long : (c : tie.Start) → length c.args.t2 ≡ maxVertices
-numbers-long c = search rules
+numbers_long : (c : tie.Start) → length c.args.t2 ≡ max_vertices
+numbers_long c = search rules
 
 cut : (c : tie.Start) → PlanCut c.args.plan c.args.counts
 cut c = plan-cut (plan-arrays c) c.args.counts c.requires.0
 
 array-share-prefix-remembered : tie.Need-array-share-prefix-remembered
-array-share-prefix-remembered c = omega (arith, (cut c.before.before.before.before.before.before).few, numbers-long c.before.before.before.before.before.before)
+array-share-prefix-remembered c = omega (arith, (cut c.before.before.before.before.before.before).few, numbers_long c.before.before.before.before.before.before)
 
 slice-aggregate-number-back : tie.Need-slice-aggregate-number-back
-slice-aggregate-number-back c = sym (length-take-le _ _ (omega (arith, (cut c.before.before.before.before.before.before.before).few, numbers-long c.before.before.before.before.before.before.before)))
+slice-aggregate-number-back c = sym (length-take-le _ _ (omega (arith, (cut c.before.before.before.before.before.before.before).few, numbers_long c.before.before.before.before.before.before.before)))
 
 array-borrow-prefix-vias : tie.Need-array-borrow-prefix-vias
 array-borrow-prefix-vias c = (cut c.before.before.before.before.before.before.before).vias
@@ -66,7 +66,7 @@ returns c =
     let s = c.before.before.before.before.before.before.before.before.before.before.before.before.before.before.before.before.before.before.before in
     let p = s.args.plan in
     let k = c.before.before.before.before.before.before.number-back.auto.1 in
-    let lists = c.before.before.before.before.before.before.number-back.ensures (planWith p s.args.counts) (record { viasAre = refl; halvesAre = refl; uppersAre = refl; lowersAre = refl; ratingsAre = refl }) in
+    let lists = c.before.before.before.before.before.before.number-back.ensures (plan_with p s.args.counts) (record { vias_are = refl; halves_are = refl; uppers_are = refl; lowers_are = refl; ratings_are = refl }) in
     rw c.new.ensures
     (as_read p s.args.t2 s.args.counts s.requires.0 s.requires.1 (plan-arrays s) _ _ _ _ _ lists
     (k.0 ∙ length-take-le _ _ (cut s).vias) (k.1.0 ∙ length-take-le _ _ (cut s).halves) (k.1.1.0 ∙ length-take-le _ _ (cut s).uppers) (k.1.1.1.0 ∙ length-take-le _ _ (cut s).lowers)

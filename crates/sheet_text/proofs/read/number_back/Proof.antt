@@ -5,7 +5,7 @@ use Prim.Native.Nat.{ℕ}
 use borrow.Author.Rules.{rules}
 use lib.ListN.{length, drop, replicate}
 use lib.Seq.{length-take-le, take_at}
-use Rattle.plan.specs.Limits.{maxVertices}
+use Rattle.plan.specs.Limits.{max_vertices}
 use Rattle.plan_renumber.specs.Renumber.{renumbered}
 use Rattle.plan_renumber.specs.inner.Words.{Lists}
 use Rattle.sheet_text.proofs.ReadLaws.{inverse-many, front-reach, front-many, by_front, renumberable}
@@ -14,7 +14,7 @@ use Rattle.sheet_text.proofs.read.number_back.Tie as tie
 
 -- what stands behind the inverted numbers
 abbrev beyond : tie.Start → List ℕ
-beyond s = drop (length s.args.remembered.now) (replicate maxVertices 0)
+beyond s = drop (length s.args.remembered.now) (replicate max_vertices 0)
 
 slice-aggregate-invert : tie.Need-slice-aggregate-invert
 slice-aggregate-invert c = sym (length-take-le _ _ c.before.before.before.before.before.before.before.requires.few)

@@ -6,7 +6,7 @@ use Rattle.text_marks.proofs.drawn.draw_positions.Tie as tie
 
 make-drawing-requires : tie.Need-make-drawing-requires
 make-drawing-requires c κs = let r = c.before.before.before.before.before.before.before.before.before.before.before.before.before.requires in
-    record { some = r.some; preliminaryRoom = r.preliminaryRoom; finalRoom = r.finalRoom; noList = λ w. absurd (omega (arith, w)) }
+    record { some = r.some; preliminary_room = r.preliminary_room; final_room = r.final_room; no_list = λ w. absurd (omega (arith, w)) }
 
 returns : tie.Need-returns
 returns c = λ p l. let m = c.before.before.before.before.before.before.before.make-drawing.ensures p l in record { started = m.started; ended = m.ended }

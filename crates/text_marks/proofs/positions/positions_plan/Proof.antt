@@ -8,11 +8,11 @@ use lib.ListN.{length, take, drop, replicate}
 use lib.Seq.{length-take-le}
 use lib.IntN.{ℤ, pos}
 use Rattle.ints.proofs.FrontLaws.{first-fit, first-is, first_count}
-use Rattle.plan.specs.Plan.{vertexCount}
+use Rattle.plan.specs.Plan.{vertex_count}
 use Rattle.plan.proofs.HeldLaws.{held-bounds}
 use Rattle.sheet.specs.Results.{gives}
 use Rattle.sheet_fit.proofs.FitLaws.{fitted_short, fitted-long, writes}
-use Rattle.text_marks.specs.Positions.{bothOf}
+use Rattle.text_marks.specs.Positions.{both_of}
 use Rattle.text_marks.proofs.Shown.{both_long}
 use Rattle.text_marks.proofs.Texts.{positions-of}
 use Rattle.text_marks.proofs.TwoFronts.{second-long, two-written}
@@ -58,7 +58,7 @@ finals-long c = c.draw-positions.auto.1.1.1.1.1.1.1.1.0 ∙ zeros (start c)
 returns : tie.Need-returns
 returns c = λ p l.
     let b = c.before.before.before.before.before.before.before.args.out.now in
-    writes (positions-of p b ∙ fitted_short (vertexCount p) (bothOf p) b (omega (arith, both_long p l.lists.ok, ap length l.lists.viasAre, c.if1.true))) (record { answered = refl; left = refl })
+    writes (positions-of p b ∙ fitted_short (vertex_count p) (both_of p) b (omega (arith, both_long p l.lists.ok, ap length l.lists.vias_are, c.if1.true))) (record { answered = refl; left = refl })
 
 slice-aggregate-draw-positions : tie.Need-slice-aggregate-draw-positions
 slice-aggregate-draw-positions c = sym (places c.before.before.before.before.before.before.before.before c.before.if1.false)
@@ -72,7 +72,7 @@ slice-aggregate-draw-positions-2 c = sym (zeros c.before.before.before.before.be
 draw-positions-requires : tie.Need-draw-positions-requires
 draw-positions-requires c κs =
     let s = c.before.before.before.before.before.before.before.before.before in
-    record { some = s.requires; preliminaryRoom = places s c.before.before.if1.false; finalRoom = zeros s }
+    record { some = s.requires; preliminary_room = places s c.before.before.if1.false; final_room = zeros s }
 
 array-share-prefix-finals : tie.Need-array-share-prefix-finals
 array-share-prefix-finals c = let d = c.before.before in let v = count (start d) in first-fit (finals d) (rest v) v (finals-long d)
@@ -92,8 +92,8 @@ returns-2 c = λ p l.
     let b = (start d).args.out.now in
     let v = count (start d) in
     let m = d.draw-positions.ensures p l in
-    writes (positions-of p b ∙ fitted-long (vertexCount p) (bothOf p) b (omega (arith, both_long p l.lists.ok, ap length l.lists.viasAre, fit d))) (record {
-      answered = ap gives (sym (ap length l.lists.viasAre));
+    writes (positions-of p b ∙ fitted-long (vertex_count p) (both_of p) b (omega (arith, both_long p l.lists.ok, ap length l.lists.vias_are, fit d))) (record {
+      answered = ap gives (sym (ap length l.lists.vias_are));
       left = two-written (firsts d) (finals d) c.before.copy-positions.new.1.0 b v p (firsts-long d) (finals-long d)
           (c.before.copy-positions.ensures ∙ first-is (finals d) (rest v) v (finals-long d)) m.started m.ended;
     })

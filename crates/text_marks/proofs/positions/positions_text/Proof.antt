@@ -6,7 +6,7 @@ use lib.Seq.{length-take-le}
 use Rattle.plan.specs.Plan.{PlanData}
 use Rattle.text_read.specs.inner.Taken.{InFronts}
 use Rattle.sheet_fit.proofs.FitLaws.{writes}
-use Rattle.text_marks.specs.Positions.{positionsOf}
+use Rattle.text_marks.specs.Positions.{positions_of}
 use Rattle.text_marks.proofs.Texts.{positions-not}
 use Rattle.text_marks.proofs.positions.positions_text.Statement.{statement}
 use Rattle.text_marks.proofs.positions.positions_text.Tie as tie
@@ -25,55 +25,55 @@ fronts c = ((done c).read-into.ensures.accepts c.if1.false).fronts
 returns : tie.Need-returns
 returns c =
     let b = c.before.before.before.before.before.before.before.before.before.before.before.before.before.before.before.before.args.out.now in
-    writes (ap (λ g. positionsOf g b) (c.before.before.before.before.before.before.before.before.read-into.ensures.refuses c.if1.true)) (positions-not _ b)
+    writes (ap (λ g. positions_of g b) (c.before.before.before.before.before.before.before.before.read-into.ensures.refuses c.if1.true)) (positions-not _ b)
 
 array-share-prefix-sizes : tie.Need-array-share-prefix-sizes
-array-share-prefix-sizes c = omega (arith, (fronts c.before.before).sizes-reach, c.wide.ensures)
+array-share-prefix-sizes c = omega (arith, (fronts c.before.before).sizes_reach, c.wide.ensures)
 
 slice-aggregate-positions-plan : tie.Need-slice-aggregate-positions-plan
-slice-aggregate-positions-plan c = sym (length-take-le _ _ (omega (arith, (fronts c.before.before.before).sizes-reach, c.before.wide.ensures)))
+slice-aggregate-positions-plan c = sym (length-take-le _ _ (omega (arith, (fronts c.before.before.before).sizes_reach, c.before.wide.ensures)))
 
 array-share-prefix-vias : tie.Need-array-share-prefix-vias
-array-share-prefix-vias c = (fronts c.before.before.before).vias-reach
+array-share-prefix-vias c = (fronts c.before.before.before).vias_reach
 
 slice-aggregate-positions-plan-2 : tie.Need-slice-aggregate-positions-plan-2
-slice-aggregate-positions-plan-2 c = sym (length-take-le _ _ (fronts c.before.before.before.before).vias-reach)
+slice-aggregate-positions-plan-2 c = sym (length-take-le _ _ (fronts c.before.before.before.before).vias_reach)
 
 array-share-prefix-halves : tie.Need-array-share-prefix-halves
-array-share-prefix-halves c = (fronts c.before.before.before.before).halves-reach
+array-share-prefix-halves c = (fronts c.before.before.before.before).halves_reach
 
 slice-aggregate-positions-plan-3 : tie.Need-slice-aggregate-positions-plan-3
-slice-aggregate-positions-plan-3 c = sym (length-take-le _ _ (fronts c.before.before.before.before.before).halves-reach)
+slice-aggregate-positions-plan-3 c = sym (length-take-le _ _ (fronts c.before.before.before.before.before).halves_reach)
 
 array-share-prefix-uppers : tie.Need-array-share-prefix-uppers
-array-share-prefix-uppers c = (fronts c.before.before.before.before.before).uppers-reach
+array-share-prefix-uppers c = (fronts c.before.before.before.before.before).uppers_reach
 
 slice-aggregate-positions-plan-4 : tie.Need-slice-aggregate-positions-plan-4
-slice-aggregate-positions-plan-4 c = sym (length-take-le _ _ (fronts c.before.before.before.before.before.before).uppers-reach)
+slice-aggregate-positions-plan-4 c = sym (length-take-le _ _ (fronts c.before.before.before.before.before.before).uppers_reach)
 
 array-share-prefix-lowers : tie.Need-array-share-prefix-lowers
-array-share-prefix-lowers c = (fronts c.before.before.before.before.before.before).lowers-reach
+array-share-prefix-lowers c = (fronts c.before.before.before.before.before.before).lowers_reach
 
 slice-aggregate-positions-plan-5 : tie.Need-slice-aggregate-positions-plan-5
-slice-aggregate-positions-plan-5 c = sym (length-take-le _ _ (fronts c.before.before.before.before.before.before.before).lowers-reach)
+slice-aggregate-positions-plan-5 c = sym (length-take-le _ _ (fronts c.before.before.before.before.before.before.before).lowers_reach)
 
 array-share-prefix-ratings : tie.Need-array-share-prefix-ratings
-array-share-prefix-ratings c = (fronts c.before.before.before.before.before.before.before).ratings-reach
+array-share-prefix-ratings c = (fronts c.before.before.before.before.before.before.before).ratings_reach
 
 slice-aggregate-positions-plan-6 : tie.Need-slice-aggregate-positions-plan-6
-slice-aggregate-positions-plan-6 c = sym (length-take-le _ _ (fronts c.before.before.before.before.before.before.before.before).ratings-reach)
+slice-aggregate-positions-plan-6 c = sym (length-take-le _ _ (fronts c.before.before.before.before.before.before.before.before).ratings_reach)
 
 positions-plan-requires : tie.Need-positions-plan-requires
 positions-plan-requires c κs =
     let e = c.before.before.before.before.before.before.before.before.before in
-    rw c.before.before.before.before.before.before.before.wide.ensures (record { plan = plan e; lists = record { lists = (fronts e).lists; ratingsAre = (fronts e).rated } })
+    rw c.before.before.before.before.before.before.before.wide.ensures (record { plan = plan e; lists = record { lists = (fronts e).lists; ratings_are = (fronts e).rated } })
 
 returns-2 : tie.Need-returns-2
 returns-2 c =
     let e = c.before.before.before.before.before.before.before.before.before.before.before in
     let b = (done e).before.before.before.before.before.before.before.before.args.out.now in
-    writes (ap (λ g. positionsOf g b) ((done e).read-into.ensures.accepts e.if1.false).reads)
-    (c.before.positions-plan.ensures (plan e) (rw c.before.before.before.before.before.before.before.before.before.wide.ensures (record { lists = (fronts e).lists; ratingsAre = (fronts e).rated })))
+    writes (ap (λ g. positions_of g b) ((done e).read-into.ensures.accepts e.if1.false).reads)
+    (c.before.positions-plan.ensures (plan e) (rw c.before.before.before.before.before.before.before.before.before.wide.ensures (record { lists = (fronts e).lists; ratings_are = (fronts e).rated })))
 
 pub positions-text-spec : {M : Type 1} → statement M
 positions-text-spec =

@@ -1,4 +1,4 @@
--- `text_read::form::in_limits` meets its contract: each step is one more question of `inLimits`.
+-- `text_read::form::in_limits` meets its contract: each step is one more question of `in_limits`.
 use borrow.Author.Rules.{rules}
 use Rattle.text_read.proofs.form.in_limits.Statement.{statement}
 use Rattle.text_read.proofs.form.in_limits.Tie as tie

@@ -28,10 +28,10 @@ word-at-requires : tie.Need-word-at-requires invariant-loop decreases-loop
 word-at-requires c κs = c.before.loop.invariant.reached.inside
 
 same_length : tie.Need-same-length invariant-loop decreases-loop
-same_length c = c.before.before.before.loop.invariant.sizes-long
+same_length c = c.before.before.before.loop.invariant.sizes_long
 
 same-length-2 : tie.Need-same-length-2 invariant-loop decreases-loop
-same-length-2 c = c.before.before.before.loop.invariant.vias-long
+same-length-2 c = c.before.before.before.loop.invariant.vias_long
 
 same-length-3 : tie.Need-same-length-3 invariant-loop decreases-loop
 same-length-3 c = c.before.before.before.loop.invariant.halves_long
@@ -50,11 +50,11 @@ level-rest-requires c κs =
 
 same-length-4 : tie.Need-same-length-4 invariant-loop decreases-loop
 same-length-4 c =
-    c.before.before.before.before.before.before.before.before.before.before.before.before.loop.invariant.sizes-long
+    c.before.before.before.before.before.before.before.before.before.before.before.before.loop.invariant.sizes_long
 
 same-length-5 : tie.Need-same-length-5 invariant-loop decreases-loop
 same-length-5 c =
-    c.before.before.before.before.before.before.level-rest.auto.1.1.1.0 ∙ c.before.before.before.before.before.before.before.before.before.before.before.before.loop.invariant.vias-long
+    c.before.before.before.before.before.before.level-rest.auto.1.1.1.0 ∙ c.before.before.before.before.before.before.before.before.before.before.before.before.loop.invariant.vias_long
 
 same-length-6 : tie.Need-same-length-6 invariant-loop decreases-loop
 same-length-6 c =

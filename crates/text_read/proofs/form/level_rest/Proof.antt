@@ -1,4 +1,4 @@
--- `text_read::form::level_rest` meets its contract: by the cases of `levelRest`: no vertex, no end of the line, or a line.
+-- `text_read::form::level_rest` meets its contract: by the cases of `level_rest`: no vertex, no end of the line, or a line.
 use mathlib.Core.Path.{◌≡◌, sym, ◌∙◌}
 use mathlib.Core.Bool.{true, false}
 use Prim.Native.Nat.{◌+◌}

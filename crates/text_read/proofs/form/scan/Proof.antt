@@ -3,7 +3,7 @@ use mathlib.Core.Path.{◌≡◌, refl, ◌∙◌}
 use mathlib.Core.Bool.{true, false}
 use borrow.Author.Rules.{rules}
 use borrow.Author.Tests.{not-true, not-false}
-use Rattle.text_scan.specs.inner.Scanned.{headerOf}
+use Rattle.text_scan.specs.inner.Scanned.{header_of}
 use Rattle.text_read.proofs.Texts.{form-none, form-broken, form-ends, scans-none, scans-lines}
 use Rattle.text_scan.proofs.Lines.{found, found-not}
 use Rattle.text_read.proofs.form.scan.Statement.{statement}
@@ -30,7 +30,7 @@ returns-2 c =
     let h = (header c.before.before.before.before.before.before.before.before).header_at in
     let a = (start (header c.before.before.before.before.before.before.before.before)).args in
     scans-none a.text.now _ _ _ _ _ _ _ _ _ _ _ _ _ refl
-    (form-broken a.text.now (headerOf h.result) _ _ r.ensures.rows (found h.ensures (not-false _ c.before.before.before.before.before.before.before.before.before.before.before.before.if1.false)) r.ensures.gives _ (r.ensures.broken (not-true _ c.if2.true)))
+    (form-broken a.text.now (header_of h.result) _ _ r.ensures.rows (found h.ensures (not-false _ c.before.before.before.before.before.before.before.before.before.before.before.before.if1.false)) r.ensures.gives _ (r.ensures.broken (not-true _ c.if2.true)))
 
 returns-3 : tie.Need-returns-3
 returns-3 c =
@@ -40,7 +40,7 @@ returns-3 c =
     let a = (start (header (rows c.before.before.before.before.before.before.before.before))).args in
     let f : c.before.ends.result ≡ false = not-true _ c.if3.true in
     scans-none a.text.now _ _ _ _ _ _ _ _ _ _ _ _ _ refl
-    (form-ends a.text.now (headerOf h.result) _ _ r.ensures.rows (found h.ensures (not-false _ c.before.before.before.before.before.before.before.before.before.before.before.before.before.before.before.before.before.before.before.before.before.before.before.before.if1.false)) r.ensures.gives s.ensures.segments s.result.next _ s.ensures.gives c.before.ends.ensures ∙ rw f)
+    (form-ends a.text.now (header_of h.result) _ _ r.ensures.rows (found h.ensures (not-false _ c.before.before.before.before.before.before.before.before.before.before.before.before.before.before.before.before.before.before.before.before.before.before.before.before.if1.false)) r.ensures.gives s.ensures.segments s.result.next _ s.ensures.gives c.before.ends.ensures ∙ rw f)
 
 returns-4 : tie.Need-returns-4
 returns-4 c =
@@ -50,9 +50,9 @@ returns-4 c =
     let a = (start (header (rows c.before.before.before.before.before.before.before.before.before))).args in
     let p = (start (header (rows c.before.before.before.before.before.before.before.before.before))).requires in
     let f : c.before.before.ends.result ≡ true = not-false _ c.before.if3.false in
-    scans-lines a.text.now _ _ _ _ _ _ _ _ _ _ _ _ h.result _ _ r.result s.result r.ensures s.ensures (not-false _ c.before.before.before.before.before.before.before.before.before.before.before.before.before.if2.false) p.sizes-fit p.vias-fit
-    p.halves-fit p.uppers-fit p.lowers-fit p.ratings-fit c.in-limits.result c.in-limits.ensures
-    (form-ends a.text.now (headerOf h.result) _ _ r.ensures.rows (found h.ensures (not-false _ c.before.before.before.before.before.before.before.before.before.before.before.before.before.before.before.before.before.before.before.before.before.before.before.before.before.if1.false)) r.ensures.gives s.ensures.segments s.result.next _ s.ensures.gives c.before.before.ends.ensures ∙ rw f)
+    scans-lines a.text.now _ _ _ _ _ _ _ _ _ _ _ _ h.result _ _ r.result s.result r.ensures s.ensures (not-false _ c.before.before.before.before.before.before.before.before.before.before.before.before.before.if2.false) p.sizes_fit p.vias_fit
+    p.halves_fit p.uppers_fit p.lowers_fit p.ratings_fit c.in-limits.result c.in-limits.ensures
+    (form-ends a.text.now (header_of h.result) _ _ r.ensures.rows (found h.ensures (not-false _ c.before.before.before.before.before.before.before.before.before.before.before.before.before.before.before.before.before.before.before.before.before.before.before.before.before.if1.false)) r.ensures.gives s.ensures.segments s.result.next _ s.ensures.gives c.before.before.ends.ensures ∙ rw f)
 
 pub scan-spec : {M : Type 1} → statement M
 scan-spec =

@@ -5,7 +5,7 @@ use native.Mathlib.Omega.{arith}
 use borrow.Author.Rules.{rules}
 use borrow.Author.Tests.{not-true, not-false}
 use lib.ListN.{length}
-use Rattle.text_scan.specs.inner.Scanned.{segmentOf}
+use Rattle.text_scan.specs.inner.Scanned.{segment_of}
 use Rattle.text_read.proofs.SegmentLines.{SegmentsSoFar, segments-none, segments-more, segments-end}
 use Rattle.text_scan.proofs.Lines.{found, found-not}
 use Rattle.text_read.proofs.form.segment_lines.Statement.{statement}
@@ -26,13 +26,13 @@ segment-at-requires : tie.Need-segment-at-requires invariant-loop decreases-loop
 segment-at-requires c κs = c.loop.invariant.reached.inside
 
 same_length : tie.Need-same-length invariant-loop decreases-loop
-same_length c = c.before.before.before.loop.invariant.uppers-long
+same_length c = c.before.before.before.loop.invariant.uppers_long
 
 same-length-2 : tie.Need-same-length-2 invariant-loop decreases-loop
-same-length-2 c = c.before.before.before.loop.invariant.lowers-long
+same-length-2 c = c.before.before.before.loop.invariant.lowers_long
 
 same-length-3 : tie.Need-same-length-3 invariant-loop decreases-loop
-same-length-3 c = c.before.before.before.loop.invariant.ratings-long
+same-length-3 c = c.before.before.before.loop.invariant.ratings_long
 
 returns : tie.Need-returns invariant-loop decreases-loop
 returns c =
@@ -52,7 +52,7 @@ loop-again c =
     let a = c.before.before.before.before.before.before.before.before.before.before.before.before.before.before.before.before.before.before.before.before.before.before.before.args in
     let s = c.before.before.before.before.before.before.before.before.before.before.before.before.before.before.before.before.before.segment-at in
     let e = not-false _ c.before.before.before.before.before.before.before.before.before.before.before.before.before.before.before.if1.false in
-    segments-more a.text.now a.from a.uppers.now a.lowers.now a.ratings.now c.before.before.before.before.before.before.before.before.before.before.before.before.before.before.before.before.before.before.loop.invariant (segmentOf s.result) s.result.next (found s.ensures e)
+    segments-more a.text.now a.from a.uppers.now a.lowers.now a.ratings.now c.before.before.before.before.before.before.before.before.before.before.before.before.before.before.before.before.before.before.loop.invariant (segment_of s.result) s.result.next (found s.ensures e)
     (s.ensures.onward e) s.ensures.inside c.before.before.before.before.before.before.before.before.before.before.before.before.before.put.ensures c.before.before.before.before.before.before.before.before.before.put2.ensures (c.before.before.before.before.put3.ensures ∙ rw c.before.before.before.before.before.rating-of.ensures)
     (c.both.ensures ∙ rw c.before.rating-in-limit.ensures)
 

@@ -5,7 +5,7 @@ use native.Mathlib.Omega.{arith}
 use borrow.Author.Rules.{rules}
 use borrow.Author.Tests.{not-true, not-false}
 use lib.ListN.{length}
-use Rattle.text_scan.specs.inner.Scanned.{vertexOf}
+use Rattle.text_scan.specs.inner.Scanned.{vertex_of}
 use Rattle.text_read.proofs.Rows.{RowSoFar, row-none, row_more, row-end}
 use Rattle.text_scan.proofs.Lines.{found, found-not}
 use Rattle.text_read.proofs.form.vertices.Statement.{statement}
@@ -25,7 +25,7 @@ vertex-at-requires : tie.Need-vertex-at-requires invariant-loop decreases-loop
 vertex-at-requires c κs = c.loop.invariant.reached.inside
 
 same_length : tie.Need-same-length invariant-loop decreases-loop
-same_length c = c.before.before.before.loop.invariant.vias-long
+same_length c = c.before.before.before.loop.invariant.vias_long
 
 same-length-2 : tie.Need-same-length-2 invariant-loop decreases-loop
 same-length-2 c = c.before.before.before.loop.invariant.halves_long
@@ -54,7 +54,7 @@ loop-again : tie.Need-loop-preserved invariant-loop decreases-loop
 loop-again c =
     let a = c.before.before.before.before.before.before.before.before.before.before.before.before.before.before.before.before.before.before.args in let v = c.before.before.before.before.before.before.before.before.before.before.before.before.before.vertex-at in
     let e = not-false _ c.before.before.before.before.before.before.before.before.before.before.before.if1.false in
-    row_more a.text.now a.from a.first a.vias.now a.halves.now c.before.before.before.before.before.before.before.before.before.before.before.before.before.before.loop.invariant (vertexOf v.result) v.result.next c.before.before.before.before.before.half_of.result
+    row_more a.text.now a.from a.first a.vias.now a.halves.now c.before.before.before.before.before.before.before.before.before.before.before.before.before.before.loop.invariant (vertex_of v.result) v.result.next c.before.before.before.before.before.half_of.result
     (found v.ensures e) (v.ensures.onward e) v.ensures.inside c.before.before.before.before.before.half_of.ensures c.before.before.before.before.before.before.before.before.before.put-via.ensures c.before.before.before.before.put-short.ensures (c.both.ensures ∙ rw c.before.half-fits.ensures)
 
 pub vertices-spec : {M : Type 1} → statement M

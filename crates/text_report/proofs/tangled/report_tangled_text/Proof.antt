@@ -8,10 +8,10 @@ use Rattle.plan.specs.Plan.{PlanData}
 use Rattle.plan.proofs.HeldLaws.{held-is}
 use Rattle.plan_untangle.specs.Order.{order, untangled}
 use Rattle.text_read.specs.inner.Taken.{InFronts}
-use Rattle.sheet_fit.specs.inner.Fitted.{fittedText}
+use Rattle.sheet_fit.specs.inner.Fitted.{fitted_text}
 use Rattle.sheet_fit.proofs.FitLaws.{writes}
-use Rattle.text_report.specs.Tangled.{tangledReportOf}
-use Rattle.text_report.specs.inner.Numbered.{reportNumbered}
+use Rattle.text_report.specs.Tangled.{tangled_report_of}
+use Rattle.text_report.specs.inner.Numbered.{report_numbered}
 use Rattle.text_report.proofs.Shown.{NumbersFront, numbers-front, remembers}
 use Rattle.text_report.proofs.Texts.{tangled-of, tangled-not}
 use Rattle.text_report.proofs.tangled.report_tangled_text.Statement.{statement}
@@ -33,48 +33,48 @@ fronts c = ((done c).read-tangled-into.ensures.accepts c.if1.false).fronts
 numbers : (c : tie.Else1) → let r = (done c).read-tangled-into in NumbersFront (read c) r.result.scanned.vertices r.last.1.1.1.1.1.1.1.0
 numbers c =
     let f = fronts c in
-    numbers-front (read c) f.lists.ok _ (ap length f.lists.viasAre ∙ length-take-le _ _ f.vias-reach) ((done c).read-tangled-into.ensures.accepts c.if1.false).numbered
+    numbers-front (read c) f.lists.ok _ (ap length f.lists.vias_are ∙ length-take-le _ _ f.vias_reach) ((done c).read-tangled-into.ensures.accepts c.if1.false).numbered
 
 returns : tie.Need-returns
 returns c =
     let b = c.before.before.before.before.before.before.before.before.before.before.before.before.before.before.before.before.before.before.before.args.out.now in
-    writes (ap (λ g. tangledReportOf g b) (c.before.before.before.before.before.before.before.before.before.read-tangled-into.ensures.refuses c.if1.true)) (tangled-not _ b)
+    writes (ap (λ g. tangled_report_of g b) (c.before.before.before.before.before.before.before.before.before.read-tangled-into.ensures.refuses c.if1.true)) (tangled-not _ b)
 
 array-share-prefix-sizes : tie.Need-array-share-prefix-sizes
-array-share-prefix-sizes c = omega (arith, (fronts c.before.before).sizes-reach, c.wide.ensures)
+array-share-prefix-sizes c = omega (arith, (fronts c.before.before).sizes_reach, c.wide.ensures)
 
 slice-aggregate-report-untangled : tie.Need-slice-aggregate-report-untangled
-slice-aggregate-report-untangled c = sym (length-take-le _ _ (omega (arith, (fronts c.before.before.before).sizes-reach, c.before.wide.ensures)))
+slice-aggregate-report-untangled c = sym (length-take-le _ _ (omega (arith, (fronts c.before.before.before).sizes_reach, c.before.wide.ensures)))
 
 array-share-prefix-vias : tie.Need-array-share-prefix-vias
-array-share-prefix-vias c = (fronts c.before.before.before).vias-reach
+array-share-prefix-vias c = (fronts c.before.before.before).vias_reach
 
 slice-aggregate-report-untangled-2 : tie.Need-slice-aggregate-report-untangled-2
-slice-aggregate-report-untangled-2 c = sym (length-take-le _ _ (fronts c.before.before.before.before).vias-reach)
+slice-aggregate-report-untangled-2 c = sym (length-take-le _ _ (fronts c.before.before.before.before).vias_reach)
 
 array-share-prefix-halves : tie.Need-array-share-prefix-halves
-array-share-prefix-halves c = (fronts c.before.before.before.before).halves-reach
+array-share-prefix-halves c = (fronts c.before.before.before.before).halves_reach
 
 slice-aggregate-report-untangled-3 : tie.Need-slice-aggregate-report-untangled-3
-slice-aggregate-report-untangled-3 c = sym (length-take-le _ _ (fronts c.before.before.before.before.before).halves-reach)
+slice-aggregate-report-untangled-3 c = sym (length-take-le _ _ (fronts c.before.before.before.before.before).halves_reach)
 
 array-share-prefix-uppers : tie.Need-array-share-prefix-uppers
-array-share-prefix-uppers c = (fronts c.before.before.before.before.before).uppers-reach
+array-share-prefix-uppers c = (fronts c.before.before.before.before.before).uppers_reach
 
 slice-aggregate-report-untangled-4 : tie.Need-slice-aggregate-report-untangled-4
-slice-aggregate-report-untangled-4 c = sym (length-take-le _ _ (fronts c.before.before.before.before.before.before).uppers-reach)
+slice-aggregate-report-untangled-4 c = sym (length-take-le _ _ (fronts c.before.before.before.before.before.before).uppers_reach)
 
 array-share-prefix-lowers : tie.Need-array-share-prefix-lowers
-array-share-prefix-lowers c = (fronts c.before.before.before.before.before.before).lowers-reach
+array-share-prefix-lowers c = (fronts c.before.before.before.before.before.before).lowers_reach
 
 slice-aggregate-report-untangled-5 : tie.Need-slice-aggregate-report-untangled-5
-slice-aggregate-report-untangled-5 c = sym (length-take-le _ _ (fronts c.before.before.before.before.before.before.before).lowers-reach)
+slice-aggregate-report-untangled-5 c = sym (length-take-le _ _ (fronts c.before.before.before.before.before.before.before).lowers_reach)
 
 array-share-prefix-ratings : tie.Need-array-share-prefix-ratings
-array-share-prefix-ratings c = (fronts c.before.before.before.before.before.before.before).ratings-reach
+array-share-prefix-ratings c = (fronts c.before.before.before.before.before.before.before).ratings_reach
 
 slice-aggregate-report-untangled-6 : tie.Need-slice-aggregate-report-untangled-6
-slice-aggregate-report-untangled-6 c = sym (length-take-le _ _ (fronts c.before.before.before.before.before.before.before.before).ratings-reach)
+slice-aggregate-report-untangled-6 c = sym (length-take-le _ _ (fronts c.before.before.before.before.before.before.before.before).ratings_reach)
 
 array-share-prefix-numbers : tie.Need-array-share-prefix-numbers
 array-share-prefix-numbers c = (numbers c.before.before.before.before.before.before.before.before).reach
@@ -95,8 +95,8 @@ returns-2 c =
     let r = (done e).read-tangled-into in
     let b = (done e).before.before.before.before.before.before.before.before.before.before.args.out.now in
     let f = fronts e in
-    writes (ap (λ g. tangledReportOf g b) (r.ensures.accepts e.if1.false).reads ∙ tangled-of (read e) b
-    ∙ ap (λ (q : PlanData). fittedText (reportNumbered q (order (read e))) b) (held-is r.result.scanned.spacing f.lists f.spaced f.rated))
+    writes (ap (λ g. tangled_report_of g b) (r.ensures.accepts e.if1.false).reads ∙ tangled-of (read e) b
+    ∙ ap (λ (q : PlanData). fitted_text (report_numbered q (order (read e))) b) (held-is r.result.scanned.spacing f.lists f.spaced f.rated))
     (rw (c.before.before.before.before.before.before.before.before.before.before.before.wide.ensures, (numbers e).front) at c.before.before.report-untangled.ensures)
 
 pub report-tangled-text-spec : {M : Type 1} → statement M

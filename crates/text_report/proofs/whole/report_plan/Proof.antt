@@ -8,10 +8,10 @@ use lib.Seq.{length-take-le}
 use lib.IntN.{ℤ, pos}
 use Rattle.ints.proofs.FrontLaws.{first-fit, first-is, first_count}
 use Rattle.plan.specs.Plan.{PlanData}
-use Rattle.plan.specs.inner.Held.{heldPlan}
-use Rattle.plan.proofs.HeldLaws.{holds-held, few-vertices}
+use Rattle.plan.specs.inner.Held.{held_plan}
+use Rattle.plan.proofs.HeldLaws.{holds-held, few_vertices}
 use Rattle.pass_draw.specs.inner.Made.{Made}
-use Rattle.sheet_fit.specs.inner.Fitted.{fittedText}
+use Rattle.sheet_fit.specs.inner.Fitted.{fitted_text}
 use Rattle.sheet_fit.proofs.FitLaws.{writes}
 use Rattle.text_report.proofs.Shown.{in-passes, in-levels, in-counts, report-asked, report-is}
 use Rattle.text_report.proofs.Texts.{report-of}
@@ -19,11 +19,11 @@ use Rattle.text_report.proofs.whole.report_plan.Statement.{statement}
 use Rattle.text_report.proofs.whole.report_plan.Tie as tie
 
 abbrev held : tie.Start → PlanData
-held c = let a = c.args in heldPlan a.gap a.spacing a.sizes.now a.vias.now a.halves.now a.uppers.now a.lowers.now a.ratings.now
+held c = let a = c.args in held_plan a.gap a.spacing a.sizes.now a.vias.now a.halves.now a.uppers.now a.lowers.now a.ratings.now
 
 -- as many zeros as there are vertices
 zeros : (c : tie.Start) → length (take (length c.args.vias.now) (replicate 1024 (pos 0))) ≡ length c.args.vias.now
-zeros c = length-take-le _ (replicate 1024 (pos 0)) (few-vertices (held c) c.requires)
+zeros c = length-take-le _ (replicate 1024 (pos 0)) (few_vertices (held c) c.requires)
 
 abbrev rest : ℕ → List ℤ
 rest n = drop n (replicate 1024 (pos 0))
@@ -55,16 +55,16 @@ finals-are c = first-is (finals c) (rest (count c)) (count c) (finals-long c)
 
 made : (c : tie.After-draw) → let l = c.draw.new.1.1.1.1.1.1.1.1.1 in
     Made (held (start c)) c.draw.result (firsts c) (finals c) l.0 l.1.0 l.1.1.0 l.1.1.1.0 l.1.1.1.1.0
-made c = c.draw.ensures (held (start c)) (record { lists = holds-held (start c).requires; ratingsAre = refl })
+made c = c.draw.ensures (held (start c)) (record { lists = holds-held (start c).requires; ratings_are = refl })
 
 array-borrow-prefix-preliminary : tie.Need-array-borrow-prefix-preliminary
-array-borrow-prefix-preliminary c = few-vertices (held c.before.before.before.before.before.before.before) c.before.before.before.before.before.before.before.requires
+array-borrow-prefix-preliminary c = few_vertices (held c.before.before.before.before.before.before.before) c.before.before.before.before.before.before.before.requires
 
 slice-aggregate-draw : tie.Need-slice-aggregate-draw
 slice-aggregate-draw c = sym (zeros c.before.before.before.before.before.before.before.before)
 
 array-borrow-prefix-finals : tie.Need-array-borrow-prefix-finals
-array-borrow-prefix-finals c = few-vertices (held c.before.before.before.before.before.before.before.before) c.before.before.before.before.before.before.before.before.requires
+array-borrow-prefix-finals c = few_vertices (held c.before.before.before.before.before.before.before.before) c.before.before.before.before.before.before.before.before.requires
 
 slice-aggregate-draw-2 : tie.Need-slice-aggregate-draw-2
 slice-aggregate-draw-2 c = sym (zeros c.before.before.before.before.before.before.before.before.before)
@@ -73,14 +73,14 @@ draw-requires : tie.Need-draw-requires
 draw-requires c κs =
     let s = c.before.before.before.before.before.before.before.before.before.before.before.before.before.before in
     record {
-      some = record { plan = held s; lists = record { lists = holds-held s.requires; ratingsAre = refl } };
-      preliminaryRoom = zeros s;
-      finalRoom = zeros s;
-      noPasses = refl;
-      noLevels = refl;
-      noCounts = refl;
-      noVertices = refl;
-      noPositions = refl;
+      some = record { plan = held s; lists = record { lists = holds-held s.requires; ratings_are = refl } };
+      preliminary_room = zeros s;
+      final_room = zeros s;
+      no_passes = refl;
+      no_levels = refl;
+      no_counts = refl;
+      no_vertices = refl;
+      no_positions = refl;
     }
 
 array-share-prefix-preliminary : tie.Need-array-share-prefix-preliminary
@@ -129,7 +129,7 @@ returns c =
     let d = c.before.before.before.before.before.before.before.before.before.before.before.before.before.before.before.before.before.before in
     let p = held (start d) in
     let b = (start d).args.out.now in
-    writes (report-of p b ∙ ap (λ w. fittedText w b) (report-is p (start d).requires (made d))) (rw (firsts-are d, finals-are d) at c.before.before.fit-report.ensures)
+    writes (report-of p b ∙ ap (λ w. fitted_text w b) (report-is p (start d).requires (made d))) (rw (firsts-are d, finals-are d) at c.before.before.fit-report.ensures)
 
 pub report-plan-spec : {M : Type 1} → statement M
 report-plan-spec =

@@ -9,7 +9,7 @@ use Rattle.plan.proofs.HeldLaws.{held-is}
 use Rattle.text.specs.Reading.{accepted}
 use Rattle.text_read.specs.inner.Taken.{InFronts}
 use Rattle.sheet_fit.proofs.FitLaws.{writes}
-use Rattle.text_report.specs.Texts.{reportOf}
+use Rattle.text_report.specs.Texts.{report_of}
 use Rattle.text_report.proofs.Texts.{report-not}
 use Rattle.text_report.proofs.whole.report_text.Statement.{statement}
 use Rattle.text_report.proofs.whole.report_text.Tie as tie
@@ -28,43 +28,43 @@ fronts c = ((done c).read-into.ensures.accepts c.if1.false).fronts
 returns : tie.Need-returns
 returns c =
     let b = c.before.before.before.before.before.before.before.before.before.before.before.before.before.before.before.before.before.args.out.now in
-    writes (ap (λ g. reportOf g b) (c.before.before.before.before.before.before.before.before.read-into.ensures.refuses c.if1.true)) (report-not _ b)
+    writes (ap (λ g. report_of g b) (c.before.before.before.before.before.before.before.before.read-into.ensures.refuses c.if1.true)) (report-not _ b)
 
 array-share-prefix-sizes : tie.Need-array-share-prefix-sizes
-array-share-prefix-sizes c = omega (arith, (fronts c.before.before).sizes-reach, c.wide.ensures)
+array-share-prefix-sizes c = omega (arith, (fronts c.before.before).sizes_reach, c.wide.ensures)
 
 slice-aggregate-report-plan : tie.Need-slice-aggregate-report-plan
-slice-aggregate-report-plan c = sym (length-take-le _ _ (omega (arith, (fronts c.before.before.before).sizes-reach, c.before.wide.ensures)))
+slice-aggregate-report-plan c = sym (length-take-le _ _ (omega (arith, (fronts c.before.before.before).sizes_reach, c.before.wide.ensures)))
 
 array-share-prefix-vias : tie.Need-array-share-prefix-vias
-array-share-prefix-vias c = (fronts c.before.before.before).vias-reach
+array-share-prefix-vias c = (fronts c.before.before.before).vias_reach
 
 slice-aggregate-report-plan-2 : tie.Need-slice-aggregate-report-plan-2
-slice-aggregate-report-plan-2 c = sym (length-take-le _ _ (fronts c.before.before.before.before).vias-reach)
+slice-aggregate-report-plan-2 c = sym (length-take-le _ _ (fronts c.before.before.before.before).vias_reach)
 
 array-share-prefix-halves : tie.Need-array-share-prefix-halves
-array-share-prefix-halves c = (fronts c.before.before.before.before).halves-reach
+array-share-prefix-halves c = (fronts c.before.before.before.before).halves_reach
 
 slice-aggregate-report-plan-3 : tie.Need-slice-aggregate-report-plan-3
-slice-aggregate-report-plan-3 c = sym (length-take-le _ _ (fronts c.before.before.before.before.before).halves-reach)
+slice-aggregate-report-plan-3 c = sym (length-take-le _ _ (fronts c.before.before.before.before.before).halves_reach)
 
 array-share-prefix-uppers : tie.Need-array-share-prefix-uppers
-array-share-prefix-uppers c = (fronts c.before.before.before.before.before).uppers-reach
+array-share-prefix-uppers c = (fronts c.before.before.before.before.before).uppers_reach
 
 slice-aggregate-report-plan-4 : tie.Need-slice-aggregate-report-plan-4
-slice-aggregate-report-plan-4 c = sym (length-take-le _ _ (fronts c.before.before.before.before.before.before).uppers-reach)
+slice-aggregate-report-plan-4 c = sym (length-take-le _ _ (fronts c.before.before.before.before.before.before).uppers_reach)
 
 array-share-prefix-lowers : tie.Need-array-share-prefix-lowers
-array-share-prefix-lowers c = (fronts c.before.before.before.before.before.before).lowers-reach
+array-share-prefix-lowers c = (fronts c.before.before.before.before.before.before).lowers_reach
 
 slice-aggregate-report-plan-5 : tie.Need-slice-aggregate-report-plan-5
-slice-aggregate-report-plan-5 c = sym (length-take-le _ _ (fronts c.before.before.before.before.before.before.before).lowers-reach)
+slice-aggregate-report-plan-5 c = sym (length-take-le _ _ (fronts c.before.before.before.before.before.before.before).lowers_reach)
 
 array-share-prefix-ratings : tie.Need-array-share-prefix-ratings
-array-share-prefix-ratings c = (fronts c.before.before.before.before.before.before.before).ratings-reach
+array-share-prefix-ratings c = (fronts c.before.before.before.before.before.before.before).ratings_reach
 
 slice-aggregate-report-plan-6 : tie.Need-slice-aggregate-report-plan-6
-slice-aggregate-report-plan-6 c = sym (length-take-le _ _ (fronts c.before.before.before.before.before.before.before.before).ratings-reach)
+slice-aggregate-report-plan-6 c = sym (length-take-le _ _ (fronts c.before.before.before.before.before.before.before.before).ratings_reach)
 
 report-plan-requires : tie.Need-report-plan-requires
 report-plan-requires c κs =
@@ -78,7 +78,7 @@ returns-2 c =
     let r = (done e).read-into in
     let b = (done e).before.before.before.before.before.before.before.before.before.args.out.now in
     let f = fronts e in
-    writes (ap (λ g. reportOf g b) ((r.ensures.accepts e.if1.false).reads ∙ ap accepted (held-is r.result.scanned.spacing f.lists f.spaced f.rated)))
+    writes (ap (λ g. report_of g b) ((r.ensures.accepts e.if1.false).reads ∙ ap accepted (held-is r.result.scanned.spacing f.lists f.spaced f.rated)))
     (rw c.before.before.before.before.before.before.before.before.before.before.wide.ensures at c.before.before.report-plan.ensures)
 
 pub report-text-spec : {M : Type 1} → statement M

@@ -1,4 +1,4 @@
--- `text_scan::limits::half_fits` meets its contract: the tests are those of `halfInLimit`.
+-- `text_scan::limits::half_fits` meets its contract: the tests are those of `half_in_limit`.
 use borrow.Author.Rules.{rules}
 use Rattle.text_scan.proofs.limits.half_fits.Statement.{statement}
 use Rattle.text_scan.proofs.limits.half_fits.Tie as tie

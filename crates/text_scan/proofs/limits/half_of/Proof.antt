@@ -4,9 +4,9 @@ use mathlib.Core.Bool.{false, ◌&&◌}
 use borrow.Author.Rules.{rules}
 use borrow.Author.Tests.{lt-leb}
 use lib.Dec.{leb}
-use Rattle.plan.specs.Limits.{maxHalfWidth}
-use Rattle.text_scan.specs.inner.Scanned.{vertexOf}
-use Rattle.text.specs.Reading.{halfInLimit}
+use Rattle.plan.specs.Limits.{max_half_width}
+use Rattle.text_scan.specs.inner.Scanned.{vertex_of}
+use Rattle.text.specs.Reading.{half_in_limit}
 use Rattle.text_scan.proofs.Both.{not-both}
 use Rattle.text.proofs.Words.{never}
 use Rattle.text_scan.proofs.limits.half_of.Statement.{statement}
@@ -22,9 +22,9 @@ returns-3 : tie.Need-returns-3
 returns-3 c =
     λ e.
     let v = c.before.before.before.args.v in
-    let out : leb v.half maxHalfWidth ≡ false = lt-leb _ _ c.if2.false in
-    let f : halfInLimit (vertexOf v) ≡ leb 1 v.half && leb v.half maxHalfWidth = rw c.before.before.if1.false in
-    never (sym (f ∙ not-both (leb 1 v.half) (leb v.half maxHalfWidth) out) ∙ e)
+    let out : leb v.half max_half_width ≡ false = lt-leb _ _ c.if2.false in
+    let f : half_in_limit (vertex_of v) ≡ leb 1 v.half && leb v.half max_half_width = rw c.before.before.if1.false in
+    never (sym (f ∙ not-both (leb 1 v.half) (leb v.half max_half_width) out) ∙ e)
 
 pub half-of-spec : {M : Type 1} → statement M
 half-of-spec = tie.close

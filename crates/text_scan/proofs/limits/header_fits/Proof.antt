@@ -1,4 +1,4 @@
--- `text_scan::limits::header_fits` meets its contract: its two tests are those of `headerInLimits`.
+-- `text_scan::limits::header_fits` meets its contract: its two tests are those of `header_in_limits`.
 use borrow.Author.Rules.{rules}
 use Rattle.text_scan.proofs.limits.header_fits.Statement.{statement}
 use Rattle.text_scan.proofs.limits.header_fits.Tie as tie

@@ -1,4 +1,4 @@
--- `text_scan::limits::rating_in_limit` meets its contract: the tests are those of `ratingInLimit`.
+-- `text_scan::limits::rating_in_limit` meets its contract: the tests are those of `rating_in_limit`.
 use mathlib.Core.Path.{◌≡◌}
 use mathlib.Core.Bool.{true, false}
 use borrow.Author.Rules.{rules}

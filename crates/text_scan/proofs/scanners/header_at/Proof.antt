@@ -1,4 +1,4 @@
--- `text_scan::scanners::header_at` meets its contract: by the cases of `planLine`.
+-- `text_scan::scanners::header_at` meets its contract: by the cases of `plan_line`.
 use mathlib.Core.Path.{◌≡◌}
 use mathlib.Core.Bool.{true}
 use native.Mathlib.Omega.{arith}

@@ -1,4 +1,4 @@
--- `text_scan::scanners::is_digit` meets its contract: the two tests are those of `isDigit`.
+-- `text_scan::scanners::is_digit` meets its contract: the two tests are those of `is_digit`.
 use borrow.Author.Tests.{le-leb, lt-leb}
 use Rattle.text_scan.proofs.scanners.is_digit.Statement.{statement}
 use Rattle.text_scan.proofs.scanners.is_digit.Tie as tie

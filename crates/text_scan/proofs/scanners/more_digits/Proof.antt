@@ -7,13 +7,13 @@ use native.Mathlib.Omega.{arith}
 use borrow.Author.Rules.{rules}
 use borrow.Author.Tests.{not-true, not-false}
 use lib.ListN.{length, drop}
-use Rattle.text.specs.Parser.{isDigit, digitsAfter}
+use Rattle.text.specs.Parser.{is_digit, digits_after}
 use Rattle.text.proofs.Numbers.{digit_low, digit-high, digit-within, cap, cap-all, cap-go, digits-none, digits-stop, digits-go}
 use Rattle.text_scan.proofs.scanners.more_digits.Statement.{statement}
 use Rattle.text_scan.proofs.scanners.more_digits.Tie as tie
 
 abbrev invariant-loop : tie.invariant-loop
-invariant-loop text from first at₀ value₀ left₀ at value left = (left ≤ 4) × (at ≤ length text) × (from ≤ at) × (value < cap left) × (digitsAfter 4 first (drop from text) ≡ digitsAfter left value (drop at text))
+invariant-loop text from first at₀ value₀ left₀ at value left = (left ≤ 4) × (at ≤ length text) × (from ≤ at) × (value < cap left) × (digits_after 4 first (drop from text) ≡ digits_after left value (drop at text))
 
 abbrev decreases-loop : tie.decreases-loop
 decreases-loop text from first at₀ value₀ left₀ at value left = left
@@ -24,7 +24,7 @@ loop-holds c = (omega arith, omega arith, omega arith, omega arith, refl)
 returns : tie.Need-returns invariant-loop decreases-loop
 returns c =
     let a = c.before.before.before.before.before.before.args in let l = c.before.before.before.before.loop in
-    let d : isDigit c.before.before.byte_at.result ≡ false = sym c.before.is_digit.ensures ∙ not-true _ c.if1.true in
+    let d : is_digit c.before.before.byte_at.result ≡ false = sym c.before.is_digit.ensures ∙ not-true _ c.if1.true in
     record { gives = l.invariant.4 ∙ digits-stop a.text.now l.left l.value l.at _ c.before.before.byte_at.ensures d; inside = l.invariant.1; onward = l.invariant.2 }
 
 mul-value : tie.Need-overflow-mul-value invariant-loop decreases-loop
@@ -32,7 +32,7 @@ mul-value c = let l = c.before.before.before.before.loop in omega (arith, cap-al
 
 sub-value : tie.Need-overflow-sub-value invariant-loop decreases-loop
 sub-value c =
-    let d : isDigit c.before.before.before.byte_at.result ≡ true = sym c.before.before.is_digit.ensures ∙ not-false _ c.before.if1.false in
+    let d : is_digit c.before.before.before.byte_at.result ≡ true = sym c.before.before.is_digit.ensures ∙ not-false _ c.before.if1.false in
     omega (arith, digit_low c.before.before.before.byte_at.result d)
 
 add-value : tie.Need-overflow-add-value invariant-loop decreases-loop
@@ -43,14 +43,14 @@ add-value c =
 add_at : tie.Need-overflow-add-at invariant-loop decreases-loop
 add_at c =
     let a = c.before.before.before.before.before.before.before.args in let l = c.before.before.before.before.before.loop in
-    let d : isDigit c.before.before.before.byte_at.result ≡ true = sym c.before.before.is_digit.ensures ∙ not-false _ c.before.if1.false in
+    let d : is_digit c.before.before.before.byte_at.result ≡ true = sym c.before.before.is_digit.ensures ∙ not-false _ c.before.if1.false in
     omega (arith, digit-within a.text.now l.at c.before.before.before.byte_at.result c.before.before.before.byte_at.ensures d)
 
 loop-again : tie.Need-loop-preserved invariant-loop decreases-loop
 loop-again c =
     let a = c.before.before.before.before.before.before.before.args in let l = c.before.before.before.before.before.loop in
     let b = c.before.before.before.byte_at.result in
-    let d : isDigit b ≡ true = sym c.before.before.is_digit.ensures ∙ not-false _ c.before.if1.false in
+    let d : is_digit b ≡ true = sym c.before.before.is_digit.ensures ∙ not-false _ c.before.if1.false in
     let w : c.wide.result ≡ b = c.wide.ensures.0 in
     let up = digit-high b d in
     let h = digit-within a.text.now l.at b c.before.before.before.byte_at.ensures d in

@@ -1,4 +1,4 @@
--- `text_scan::scanners::number_then` meets its contract: by the cases of `numberThen`: no number, no word after it, or both.
+-- `text_scan::scanners::number_then` meets its contract: by the cases of `number_then`: no number, no word after it, or both.
 use mathlib.Core.Path.{◌≡◌, ◌∙◌}
 use mathlib.Core.Bool.{true, false}
 use native.Mathlib.Omega.{arith}

@@ -1,11 +1,11 @@
--- `text_scan::scanners::segment_at` meets its contract: by the cases of `segmentLine`.
+-- `text_scan::scanners::segment_at` meets its contract: by the cases of `segment_line`.
 use mathlib.Core.Path.{◌≡◌}
 use mathlib.Core.Bool.{true}
 use native.Mathlib.Omega.{arith}
 use borrow.Author.Rules.{rules}
 use borrow.Author.Tests.{not-true, not-false}
 use lib.ListN.{drop}
-use Rattle.text_scan.specs.inner.Scanned.{ratingIf}
+use Rattle.text_scan.specs.inner.Scanned.{rating_if}
 use Rattle.text_scan.proofs.Lines.{has, has-not, found, found-not, segment-none, segment-not, segment-no-lower, segment-open, segment-found}
 use Rattle.text.proofs.Words.{never}
 use Rattle.text_scan.proofs.scanners.segment_at.Statement.{statement}
@@ -59,7 +59,7 @@ returns-5 c =
     let g : m.result.found ≡ true = not-false _ c.before.before.before.before.before.if3.false in
     let h = not-false _ c.before.if4.false in
     record {
-      gives = segment-found (drop a.at a.text.now) _ opens n.result.value _ (found n.ensures f) m.result.value (ratingIf w.result.found w.result.value) _ _ (found m.ensures g) w.ensures.gives _ (has c.before.before.word-at2.ensures h);
+      gives = segment-found (drop a.at a.text.now) _ opens n.result.value _ (found n.ensures f) m.result.value (rating_if w.result.found w.result.value) _ _ (found m.ensures g) w.ensures.gives _ (has c.before.before.word-at2.ensures h);
       inside = c.before.before.word-at2.ensures.inside h;
       onward = λ e. omega (arith, w.ensures.onward, m.ensures.onward g, n.ensures.onward f);
     }

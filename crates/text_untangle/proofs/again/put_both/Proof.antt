@@ -1,4 +1,4 @@
--- `text_untangle::again::put_both` meets its contract: its tests are those of `untangledText`.
+-- `text_untangle::again::put_both` meets its contract: its tests are those of `untangled_text`.
 use native.Mathlib.Omega.{arith}
 use borrow.Author.Rules.{rules}
 use Rattle.text_write.proofs.AgainLaws.{stored-limits}

@@ -1,7 +1,7 @@
 -- `text_untangle::again::text_length` meets its contract: no text of a plan that passes the checks is longer than the buffer.
 use borrow.Author.Rules.{rules}
 use lib.ListN.{length-replicate}
-use Rattle.plan.specs.Stored.{planData}
+use Rattle.plan.specs.Stored.{plan_data}
 use Rattle.text.proofs.RoundTrip.{text-short}
 use Rattle.text_write.proofs.AgainLaws.{stored-limits}
 use Rattle.text_untangle.proofs.again.text_length.Statement.{statement}
@@ -10,7 +10,7 @@ use Rattle.text_untangle.proofs.again.text_length.Tie as tie
 stored-text-requires : tie.Need-stored-text-requires
 stored-text-requires c κs =
     let s = c.before in
-    (stored-limits s.requires, rw length-replicate (text-short (planData s.args.plan s.args.vertices s.args.segments) s.requires.plan))
+    (stored-limits s.requires, rw length-replicate (text-short (plan_data s.args.plan s.args.vertices s.args.segments) s.requires.plan))
 
 returns : tie.Need-returns
 returns c = c.before.stored-text.ensures.count

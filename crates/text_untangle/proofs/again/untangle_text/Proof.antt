@@ -11,7 +11,7 @@ put-both-requires c κs =
 returns : tie.Need-returns
 returns c =
     let a = answer-accepted c.before.before.before.before.before.before.before.before.before.before.before.before.before.before.before.before.args.text.now c.before.before.before.before.before.before.before.before.before.before.before.before.read-tangled.result _ _ c.before.before.before.before.before.before.before.before.before.before.before.before.read-tangled.ensures c.before.before.before.before.before.before.before.before.before.answer.given.1 in
-    rw a.read (c.before.before.before.before.put_both.ensures a.text-plan a.is-untangled)
+    rw a.read (c.before.before.before.before.put_both.ensures a.text_plan a.is_untangled)
 
 returns-2 : tie.Need-returns-2
 returns-2 c =

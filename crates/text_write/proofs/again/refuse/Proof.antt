@@ -1,7 +1,7 @@
 -- `text_write::again::refuse` meets its contract: the line has at most 21 bytes.
 use Rattle.text_write.proofs.AgainLaws.{refused-short}
 use Rattle.text_write.proofs.Written.{room_after, wrote-long, and_then, and_both, front_of}
-use Rattle.text_write.specs.Again.{refusedLine}
+use Rattle.text_write.specs.Again.{refused_line}
 use Rattle.text.specs.Decimal.{decimal}
 use Rattle.text.specs.Bytes.{bytes}
 use lib.ListN.{length-append}
@@ -13,14 +13,14 @@ use Rattle.text_write.proofs.again.refuse.Statement.{statement}
 use Rattle.text_write.proofs.again.refuse.Tie as tie
 
 put-then-requires : tie.Need-put-then-requires
-unfolding refusedLine
-put-then-requires c κs = room_after (decimal c.before.before.before.before.before.before.before.before.args.n ++ bytes ")\n") (refusedLine c.before.before.before.before.before.before.before.before.args.n) c.before.before.before.before.put_word.ensures (omega (arith, refused-short c.before.before.before.before.before.before.before.before.args.n (omega (arith, c.before.before.before.before.before.before.before.before.ranges.n)), c.before.before.before.before.before.before.before.before.requires)) (simp length-append (omega arith))
+unfolding refused_line
+put-then-requires c κs = room_after (decimal c.before.before.before.before.before.before.before.before.args.n ++ bytes ")\n") (refused_line c.before.before.before.before.before.before.before.before.args.n) c.before.before.before.before.put_word.ensures (omega (arith, refused-short c.before.before.before.before.before.before.before.before.args.n (omega (arith, c.before.before.before.before.before.before.before.before.ranges.n)), c.before.before.before.before.before.before.before.before.requires)) (simp length-append (omega arith))
 
 same_length : tie.Need-same-length
 same_length c = wrote-long (and_then c.before.before.before.before.before.before.before.put_word.ensures c.before.before.put_then.ensures)
 
 returns : tie.Need-returns
-unfolding refusedLine
+unfolding refused_line
 returns c = front_of (and_both (decimal c.before.before.before.before.before.before.before.before.before.before.before.args.n) (bytes ")\n") c.before.before.before.before.before.before.before.put_word.ensures c.before.before.put_then.ensures) (omega (arith, refused-short c.before.before.before.before.before.before.before.before.before.before.before.args.n (omega (arith, c.before.before.before.before.before.before.before.before.before.before.before.ranges.n)), c.before.before.before.before.before.before.before.before.before.before.before.requires))
 
 pub refuse-spec : {M : Type 1} → statement M

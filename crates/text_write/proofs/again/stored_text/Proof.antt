@@ -2,7 +2,7 @@
 use Rattle.text_write.specs.inner.Stored.{StoredLimits}
 use lib.Seq.{length-take-le}
 use lib.ListN.{length}
-use Rattle.plan.specs.Limits.{maxLevels, maxVertices, maxSegments}
+use Rattle.plan.specs.Limits.{max_levels, max_vertices, max_segments}
 use borrow.Author.Rules.{rules}
 use native.Mathlib.Omega.{arith}
 use mathlib.Core.Path.{◌≡◌, sym}
@@ -12,22 +12,22 @@ use Rattle.text_write.proofs.again.stored_text.Tie as tie
 stored : (c : tie.Start) → StoredLimits c.args.plan c.args.vertices c.args.segments
 stored c = c.requires.0
 
-long-sizes : (c : tie.Start) → length c.args.plan.sizes ≡ maxLevels
+long-sizes : (c : tie.Start) → length c.args.plan.sizes ≡ max_levels
 long-sizes c = search rules
 
-long-vias : (c : tie.Start) → length c.args.plan.vias ≡ maxVertices
+long-vias : (c : tie.Start) → length c.args.plan.vias ≡ max_vertices
 long-vias c = search rules
 
-long-halves : (c : tie.Start) → length c.args.plan.halves ≡ maxVertices
+long-halves : (c : tie.Start) → length c.args.plan.halves ≡ max_vertices
 long-halves c = search rules
 
-long-uppers : (c : tie.Start) → length c.args.plan.uppers ≡ maxSegments
+long-uppers : (c : tie.Start) → length c.args.plan.uppers ≡ max_segments
 long-uppers c = search rules
 
-long-lowers : (c : tie.Start) → length c.args.plan.lowers ≡ maxSegments
+long-lowers : (c : tie.Start) → length c.args.plan.lowers ≡ max_segments
 long-lowers c = search rules
 
-long-ratings : (c : tie.Start) → length c.args.plan.ratings ≡ maxSegments
+long-ratings : (c : tie.Start) → length c.args.plan.ratings ≡ max_segments
 long-ratings c = search rules
 
 array-share-prefix-sizes : tie.Need-array-share-prefix-sizes

@@ -1,4 +1,4 @@
--- `text_write::again::text_if_short` meets its contract: its test is that of `textIfShort`.
+-- `text_write::again::text_if_short` meets its contract: its test is that of `text_if_short`.
 use native.Mathlib.Omega.{arith}
 use Rattle.text_write.proofs.AgainLaws.{stored-limits, leaves-short, leaves-written}
 use Rattle.text_write.proofs.again.text_if_short.Statement.{statement}

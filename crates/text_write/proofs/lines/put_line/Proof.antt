@@ -17,7 +17,7 @@ limits : (c : tie.Start) → Limits (plan c)
 limits c = laws.limits (plan c) c.requires.plan
 
 even : (c : tie.Start) → Even (plan c)
-even c = ((limits c).ends-long, (limits c).ratings-long)
+even c = ((limits c).ends_long, (limits c).ratings_long)
 
 put-plan-requires : tie.Need-put-plan-requires
 put-plan-requires c κs = let s = c.before.before.before.before.before.before.before.before.before in rw (line-0 (plan s) s.args.n c.before.if1.true) at s.requires.room
@@ -34,7 +34,7 @@ put-level-requires c κs =
     record {
       levels = (limits s).lists.levels;
       level = omega (arith, c.before.before.if1.false, c.before.if2.true);
-      vertices = (limits s).sizes-sum;
+      vertices = (limits s).sizes_sum;
       half = (limits s).halves_long;
       room = rw (line-l (plan s) s.args.n c.before.before.if1.false c.before.if2.true) at s.requires.room;
     }

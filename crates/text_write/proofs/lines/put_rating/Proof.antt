@@ -1,4 +1,4 @@
--- `text_write::lines::put_rating` meets its contract: its test is that of `ratingWords`.
+-- `text_write::lines::put_rating` meets its contract: its test is that of `rating_words`.
 use mathlib.Core.Path.{refl}
 use native.Mathlib.Omega.{arith}
 use borrow.Author.Tests.{eq-eqb, ne_eqb}
@@ -6,24 +6,24 @@ use mathlib.Core.List.{◌++◌}
 use lib.ListN.{length-append}
 use Rattle.text.specs.Bytes.{bytes}
 use Rattle.text.specs.Decimal.{decimal}
-use Rattle.text.specs.Writing.{ratingWords}
+use Rattle.text.specs.Writing.{rating_words}
 use Rattle.text_write.proofs.Written.{wrote_none, wrote-long, and_then, room_after}
 use Rattle.text_write.proofs.lines.put_rating.Statement.{statement}
 use Rattle.text_write.proofs.lines.put_rating.Tie as tie
 
 returns : tie.Need-returns
-unfolding ratingWords
+unfolding rating_words
 returns c = rw (eq-eqb _ _ c.if1.true) (wrote_none c.before.before.args.out.now c.before.before.args.at)
 
 put-word-requires : tie.Need-put-word-requires
-unfolding ratingWords
+unfolding rating_words
 put-word-requires c κs =
     let s = c.before.before.before.before in
     room_after (bytes " ") (bytes " " ++ decimal s.args.rating) (wrote_none s.args.out.now s.args.at) (rw (ne_eqb _ _ c.before.before.if1.false) at s.requires)
     (simp length-append (omega arith))
 
 put-decimal-requires : tie.Need-put-decimal-requires
-unfolding ratingWords
+unfolding rating_words
 put-decimal-requires c κs =
     let s = c.before.before.before.before.before.before.before.before in
     room_after (decimal s.args.rating) (bytes " " ++ decimal s.args.rating) c.before.before.before.put_word.ensures (rw (ne_eqb _ _ c.before.before.before.before.before.before.if1.false) at s.requires)
@@ -33,7 +33,7 @@ same_length : tie.Need-same-length
 same_length c = wrote-long (and_then c.before.before.before.before.before.before.put_word.ensures c.before.before.put-decimal.ensures)
 
 returns-2 : tie.Need-returns-2
-unfolding ratingWords
+unfolding rating_words
 returns-2 c = rw (ne_eqb _ _ c.before.before.before.before.before.before.before.before.before.if1.false) (and_then c.before.before.before.before.before.before.put_word.ensures c.before.before.put-decimal.ensures)
 
 pub put-rating-spec : {M : Type 1} → statement M

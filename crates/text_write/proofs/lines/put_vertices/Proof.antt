@@ -1,6 +1,6 @@
 use Rattle.text_write.proofs.Written.{wrote_none}
 use Rattle.text_write.proofs.LineLaws.{row-none, vertex-room, vertex-more}
-use Rattle.text_write.specs.inner.Data.{verticesOf, rowWords}
+use Rattle.text_write.specs.inner.Data.{vertices_of, row_words}
 use Rattle.text_write.specs.inner.Written.{Wrote}
 use Rattle.plan.specs.Plan.{numbers}
 use lib.ListN.{length}
@@ -15,13 +15,13 @@ use Rattle.text_write.proofs.lines.put_vertices.Lts as lts
 use Rattle.text_write.proofs.lines.put_vertex.Reads as put-vertex-reads
 
 abbrev invariant-loop : tie.invariant-loop
-invariant-loop out₀ from vias halves first count at₀ i₀ out at i = (i ≤ count) × (length out ≡ length out₀) × Wrote (rowWords (verticesOf vias halves) (numbers first i)) out₀ from at out
+invariant-loop out₀ from vias halves first count at₀ i₀ out at i = (i ≤ count) × (length out ≡ length out₀) × Wrote (row_words (vertices_of vias halves) (numbers first i)) out₀ from at out
 
 abbrev decreases-loop : tie.decreases-loop
 decreases-loop out₀ from vias halves first count at₀ i₀ out at i = count - i
 
 loop-holds : tie.Need-loop-init invariant-loop decreases-loop
-loop-holds c = (omega arith, refl, rw (row-none (verticesOf c.before.before.before.args.vias.now c.before.before.before.args.halves.now) c.before.before.before.args.first) (wrote_none c.before.before.before.args.out.now c.before.before.before.args.from))
+loop-holds c = (omega arith, refl, rw (row-none (vertices_of c.before.before.before.args.vias.now c.before.before.before.args.halves.now) c.before.before.before.args.first) (wrote_none c.before.before.before.args.out.now c.before.before.before.args.from))
 
 put-vertex-requires : tie.Need-put-vertex-requires invariant-loop decreases-loop
 put-vertex-requires c κs = vertex-room c.before.before.before.before.before.before.before.before.args.vias.now c.before.before.before.before.before.before.before.before.args.halves.now c.before.before.before.before.before.before.before.before.args.first c.before.before.before.before.loop.i c.before.before.before.before.before.before.before.before.args.count c.before.before.before.loop-test.true c.before.before.before.before.before.before.before.before.requires.2 c.before.before.before.before.loop.invariant.2

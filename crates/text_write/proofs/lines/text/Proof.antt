@@ -27,7 +27,7 @@ few : (c : tie.Start invariant-loop decreases-loop) → InLimits c.args.sizes.no
 few c = (limits (plan c) c.requires.0).lists
 
 count : (c : tie.Start invariant-loop decreases-loop) → length (lines_of (plan c)) ≡ length c.args.sizes.now + length c.args.uppers.now + 2
-count c = let l = limits (plan c) c.requires.0 in lines-count (plan c) (l.ends-long, l.ratings-long)
+count c = let l = limits (plan c) c.requires.0 in lines-count (plan c) (l.ends_long, l.ratings_long)
 
 add-lines : tie.Need-overflow-add-lines invariant-loop decreases-loop
 add-lines c = omega (arith, few c.before.before.before.before.before.before.before)

@@ -1,11 +1,11 @@
 -- `plan::data::Plan::empty` meets its contract: it is made of repeats.
 use borrow.Author.Rules.{rules}
-use Rattle.plan.specs.Stored.{emptyPlan}
+use Rattle.plan.specs.Stored.{empty_plan}
 use Rattle.plan.proofs.data.Plan.empty.Statement.{statement}
 use Rattle.plan.proofs.data.Plan.empty.Tie as tie
 
 returns : tie.Need-returns
-unfolding emptyPlan
+unfolding empty_plan
 returns c = c.new.ensures
 
 pub empty-spec : {M : Type 1} → statement M

@@ -1,11 +1,11 @@
 -- `sheet::types::Sheet::empty` meets its contract: by its definition.
 use borrow.Author.Rules.{rules}
-use Rattle.sheet.specs.Sheet.{emptySheet}
+use Rattle.sheet.specs.Sheet.{empty_sheet}
 use Rattle.sheet.proofs.types.Sheet.empty.Statement.{statement}
 use Rattle.sheet.proofs.types.Sheet.empty.Tie as tie
 
 returns : tie.Need-returns
-unfolding emptySheet
+unfolding empty_sheet
 returns c = rw (c.before.empty.ensures, c.empty2.ensures)
 
 pub empty-spec : {M : Type 1} → statement M
