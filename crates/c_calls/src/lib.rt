@@ -1,4 +1,6 @@
 // The calls for C and Rust: numbers and slices alone.
+#![tactic(auto)]
+
 ghost use Rattle.run.specs.Call.{call_of};
 ghost use Rattle.text.specs.Reading.{reading, tangled_reading};
 ghost use Rattle.text_write.specs.Again.{rewritten};

@@ -1,4 +1,6 @@
 // Answers and bounds as the numbers that calls for C give and take.
+#![tactic(auto)]
+
 ghost use Rattle.std.specs.Prelude.{◌≡◌};
 ghost use Rattle.run.specs.Call.{number_of};
 ghost use Rattle.sheet.specs.Results.{line_result_of};

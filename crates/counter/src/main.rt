@@ -1,4 +1,6 @@
 // Reads a plan text from standard input and prints all report lines, or the one line `(refused N)`.
+#![tactic(auto)]
+
 use libc::{STDIN_FILENO, STDOUT_FILENO};
 use sheet_fit::fit::blank;
 use text_report::print::print;

@@ -1,1 +1,2 @@
 // Demand 3 of every drawing: see proofs/Theorem.antt.
+#![tactic(auto)]

@@ -1,5 +1,7 @@
 // Arithmetic on positions, and the sum of counts. A position is an i64, a distance a u64, a count a u16. Each result is the
 // number that the contract names; where a sum or a cast could leave its type, `requires` bounds the sizes of what it is made of.
+#![tactic(auto)]
+
 pub mod within;
 
 ghost use Rattle.std.specs.Prelude.{◌≡◌, ◌+◌, ◌≤◌, ◌<◌, ◌^◌, length, ℤ, pos, ◌+ℤ◌, ◌-ℤ◌};

@@ -1,4 +1,6 @@
 // Which way a pass goes: the order of its levels, and the neighbours that it goes by.
+#![tactic(auto)]
+
 pub mod order;
 
 ghost use Rattle.run_columns.specs.inner.Sums.{ratings_between};

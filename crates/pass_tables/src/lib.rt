@@ -1,4 +1,6 @@
 // What the passes hold between two visits: distances, rows of neighbours, runs, marks of unsettled runs, readiness.
+#![tactic(auto)]
+
 pub mod distances;
 pub mod ready;
 pub mod rows;

@@ -1,1 +1,2 @@
 // The three passes: see specs/.
+#![tactic(auto)]

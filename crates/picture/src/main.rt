@@ -1,5 +1,7 @@
 // Reads a plan's text from standard input and prints the picture of its drawing. The file that the first argument names, if there is one,
 // has the names of boxes.
+#![tactic(auto)]
+
 use libc::{STDIN_FILENO, STDOUT_FILENO};
 use picture_fit::fit::blank;
 use picture_text::print::print;

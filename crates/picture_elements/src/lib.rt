@@ -1,2 +1,4 @@
 // The elements of a picture: see specs/.
+#![tactic(auto)]
+
 pub mod elements;

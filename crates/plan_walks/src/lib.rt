@@ -1,5 +1,7 @@
 // The walk from a level to the next (document 02, E3), and check 6 of document 01 as that walk over all levels; over slices that are
 // as long as the data.
+#![tactic(auto)]
+
 ghost use Rattle.std.specs.Prelude.{◌≡◌, true, false, cond, ◌&&◌, List, ℕ, ◌+◌, ◌<◌, ◌≤◌, length, get_or};
 ghost use Rattle.plan.specs.Limits.{max_levels, max_segments};
 ghost use Rattle.plan.specs.Checks.{check3, check4, check6};

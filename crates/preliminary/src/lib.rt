@@ -1,1 +1,2 @@
 // Preliminary positions: see specs/.
+#![tactic(auto)]

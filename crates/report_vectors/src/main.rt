@@ -1,5 +1,7 @@
 // Reads plan texts, each after a line with the number of its bytes, and prints of each all report lines, or the one line
 // `(refused N)`; ends at the first accepted text that is not written again as it is.
+#![tactic(auto)]
+
 pub mod inputs;
 
 ghost use Rattle.std.specs.Prelude.{◌≤◌, length};

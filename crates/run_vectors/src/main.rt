@@ -2,6 +2,8 @@
 // and value of either bound, then old positions, distances, neighbour counts, neighbours, ratings and the answer buffer, each
 // as its length and its numbers. One blank or line end stands after each number. A number that its type does not hold becomes the
 // nearest one that it holds.
+#![tactic(auto)]
+
 ghost use Rattle.std.specs.Prelude.{◌≤◌};
 
 use libc::{STDIN_FILENO, STDOUT_FILENO};

@@ -1,4 +1,6 @@
 // Reads a script from standard input, carries out its commands on a sheet, and writes their answers to standard output as it goes.
+#![tactic(auto)]
+
 ghost use Rattle.std.specs.Prelude.{◌≡◌, ◌≤◌, ◌<◌, length};
 ghost use Rattle.script_runs.specs.inner.Filled.{buffers};
 ghost use Rattle.script_commands.specs.Table.{command_of};

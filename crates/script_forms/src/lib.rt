@@ -1,2 +1,4 @@
 // Lines by their forms.
+#![tactic(auto)]
+
 pub mod forms;

@@ -1,4 +1,6 @@
 // The sheet and clear, what draw asks and leaves, and what is printed of an answer.
+#![tactic(auto)]
+
 pub mod changed;
 pub mod clear;
 pub mod printed;

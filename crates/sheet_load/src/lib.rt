@@ -1,3 +1,5 @@
 // Load, by either way.
+#![tactic(auto)]
+
 pub mod load;
 pub mod tangled;

@@ -1,1 +1,2 @@
 // The text of a plan: its form, reading it, writing it: see specs/.
+#![tactic(auto)]

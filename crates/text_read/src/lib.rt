@@ -1,4 +1,6 @@
 // Reading a plan text: checks 1 to 6 of document 01, "in this order".
+#![tactic(auto)]
+
 pub mod form;
 
 ghost use Rattle.std.specs.Prelude.{◌≡◌, true};

@@ -1,3 +1,5 @@
 // What stands at a position of a plan text, and whether it is within its limits.
+#![tactic(auto)]
+
 pub mod limits;
 pub mod scanners;

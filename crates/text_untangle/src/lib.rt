@@ -1,4 +1,6 @@
 // Reading a plan text that may be tangled, and untangling its plan.
+#![tactic(auto)]
+
 pub mod again;
 
 ghost use Rattle.std.specs.Prelude.{◌≡◌, length};

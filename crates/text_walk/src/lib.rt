@@ -1,4 +1,6 @@
 // The walk between two neighbouring levels of a text's plan (document 02, E3).
+#![tactic(auto)]
+
 ghost use Rattle.std.specs.Prelude.{◌≡◌, true, ◌≤◌, length};
 ghost use Rattle.plan.specs.Limits.{max_levels};
 ghost use Rattle.plan.specs.Checks.{check4};

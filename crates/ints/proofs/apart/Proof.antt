@@ -24,28 +24,28 @@ b-ba c = back (omega (arith, fit-dif))
 
 ruleset backs = (b-a, b-b, b-ab, b-ba)
 
-sub-result : tie.Need-overflow-sub-result
+sub-result : tie.Need-overflow_sub-result
 sub-result c = simp backs (omega (arith, fit-dif))
 
-cast-result : tie.Need-overflow-cast-result
-cast-result c = let a = c.before.args in let h = simp backs at c.if1.true in
+cast-result : tie.Need-overflow_cast-result
+cast-result c = let a = c.before.args in let h = simp backs at c.if-a-b.true in
     simp backs (cast-dif a.b a.a (omega (arith, ints)) (omega arith))
 
-sub-result-2 : tie.Need-overflow-sub-result-2
+sub-result-2 : tie.Need-overflow_sub-result-else-a-b
 sub-result-2 c = simp backs (omega (arith, fit-dif))
 
-cast-result-2 : tie.Need-overflow-cast-result-2
-cast-result-2 c = let a = c.before.args in let h = simp backs at c.if1.false in
+cast-result-2 : tie.Need-overflow_cast-result-else-a-b
+cast-result-2 c = let a = c.before.args in let h = simp backs at c.if-a-b.false in
     simp backs (cast-dif a.a a.b (omega (arith, ints)) (omega arith))
 
-returns : tie.Need-returns
+returns : tie.Need-returns-then-a-b
 unfolding gap
 returns c = simp backs (gap-turn c.before.args.b c.before.args.a)
 
-returns-2 : tie.Need-returns-2
+returns-2 : tie.Need-returns-else-a-b
 unfolding gap
 returns-2 c = simp backs
 
-pub apart-spec : {M : Type 1} → statement M
-apart-spec = tie.close
+pub apart_spec : {M : Type 1} → statement M
+apart_spec = tie.close
     (tie.spec sub-result cast-result sub-result-2 cast-result-2 returns returns-2)

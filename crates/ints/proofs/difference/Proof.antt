@@ -10,12 +10,12 @@ use Rattle.ints.proofs.difference.Tie as tie
 fits : (c : tie.Start) → SFits w64 (c.args.a -ℤ c.args.b)
 fits c = omega (arith, fit-dif)
 
-sub-result : tie.Need-overflow-sub-result
+sub-result : tie.Need-overflow_sub-result
 sub-result c = simp (back c.ranges.a, back c.ranges.b) (fits c)
 
 returns : tie.Need-returns
 returns c = simp (back c.ranges.a, back c.ranges.b, back (fits c))
 
-pub difference-spec : {M : Type 1} → statement M
-difference-spec = tie.close
+pub difference_spec : {M : Type 1} → statement M
+difference_spec = tie.close
     (tie.spec sub-result returns)

@@ -14,12 +14,12 @@ b-b c = back c.ranges.b
 
 ruleset backs = (b-a, b-b)
 
-returns : tie.Need-returns
-returns c = simp (backs, simp backs at c.if1.true)
+returns : tie.Need-returns-then-a-b
+returns c = simp (backs, simp backs at c.if-a-b.true)
 
-returns-2 : tie.Need-returns-2
-returns-2 c = simp (backs, simp backs at c.if1.false)
+returns-2 : tie.Need-returns-else-a-b
+returns-2 c = simp (backs, simp backs at c.if-a-b.false)
 
-pub greater-spec : {M : Type 1} → statement M
-greater-spec = tie.close
+pub greater_spec : {M : Type 1} → statement M
+greater_spec = tie.close
     (tie.spec returns returns-2)

@@ -14,12 +14,12 @@ b-b c = back c.ranges.b
 
 ruleset backs = (b-a, b-b)
 
-returns : tie.Need-returns
-returns c = simp (backs, simp backs at c.if1.true)
+returns : tie.Need-returns-then-b-a
+returns c = simp (backs, simp backs at c.if-b-a.true)
 
-returns-2 : tie.Need-returns-2
-returns-2 c = simp (backs, simp backs at c.if1.false)
+returns-2 : tie.Need-returns-else-b-a
+returns-2 c = simp (backs, simp backs at c.if-b-a.false)
 
-pub lesser-spec : {M : Type 1} → statement M
-lesser-spec = tie.close
+pub lesser_spec : {M : Type 1} → statement M
+lesser_spec = tie.close
     (tie.spec returns returns-2)

@@ -15,12 +15,12 @@ fits c = omega (arith, fit-dif)
 d-is : (c : tie.Start) → to_z w64 c.args.d ≡ pos c.args.d
 d-is c = of-nat c.args.d (omega arith)
 
-sub-result : tie.Need-overflow-sub-result
+sub-result : tie.Need-overflow_sub-result
 sub-result c = simp (back c.ranges.a, d-is c) (fits c)
 
 returns : tie.Need-returns
 returns c = simp (back c.ranges.a, d-is c, back (fits c))
 
-pub minus-spec : {M : Type 1} → statement M
-minus-spec = tie.close
+pub minus_spec : {M : Type 1} → statement M
+minus_spec = tie.close
     (tie.spec (λ c. search rules) sub-result returns)

@@ -15,12 +15,12 @@ fits c = omega (arith, fit-sum)
 d-is : (c : tie.Start) → to_z w64 c.args.d ≡ pos c.args.d
 d-is c = of-nat c.args.d (omega arith)
 
-add-result : tie.Need-overflow-add-result
+add-result : tie.Need-overflow_add-result
 add-result c = simp (back c.ranges.a, d-is c) (fits c)
 
 returns : tie.Need-returns
 returns c = simp (back c.ranges.a, d-is c, back (fits c))
 
-pub plus-spec : {M : Type 1} → statement M
-plus-spec = tie.close
+pub plus_spec : {M : Type 1} → statement M
+plus_spec = tie.close
     (tie.spec (λ c. search rules) add-result returns)

@@ -10,12 +10,12 @@ use Rattle.ints.proofs.sum.Tie as tie
 fits : (c : tie.Start) → SFits w64 (c.args.a +ℤ c.args.b)
 fits c = omega (arith, fit-sum)
 
-add-result : tie.Need-overflow-add-result
+add-result : tie.Need-overflow_add-result
 add-result c = simp (back c.ranges.a, back c.ranges.b) (fits c)
 
 returns : tie.Need-returns
 returns c = simp (back c.ranges.a, back c.ranges.b, back (fits c))
 
-pub sum-spec : {M : Type 1} → statement M
-sum-spec = tie.close
+pub sum_spec : {M : Type 1} → statement M
+sum_spec = tie.close
     (tie.spec add-result returns)

@@ -11,12 +11,12 @@ use Rattle.ints.proofs.too_near.Tie as tie
 fits : (c : tie.Start) → SFits w64 (c.args.b -ℤ c.args.a)
 fits c = omega (arith, fit-dif)
 
-sub-between : tie.Need-overflow-sub-between
+sub-between : tie.Need-overflow_sub-between
 sub-between c = simp (back c.ranges.a, back c.ranges.b) (fits c)
 
 returns : tie.Need-returns
 returns c = simp (back c.ranges.a, back c.ranges.b, back (fits c), of-nat c.args.d c.requires.1)
 
-pub too-near-spec : {M : Type 1} → statement M
-too-near-spec = tie.close
+pub too_near_spec : {M : Type 1} → statement M
+too_near_spec = tie.close
     (tie.spec sub-between (λ c. search rules) returns)

@@ -11,12 +11,12 @@ use Rattle.ints.proofs.within.is_within.Tie as tie
 b-x : (c : tie.Start) → to_z w64 (of_z w64 c.args.x) ≡ c.args.x
 b-x c = back c.ranges.x
 
-returns : tie.Need-returns
-returns c = simp b-x (within-high c.before.args.x (simp b-x at c.if1.true))
+returns : tie.Need-returns-then-x
+returns c = simp b-x (within-high c.before.args.x (simp b-x at c.if-x.true))
 
-returns-2 : tie.Need-returns-2
-returns-2 c = let e = simp b-x at c.if1.false in simp (b-x, e, within_low c.before.args.x e)
+returns-2 : tie.Need-returns-else-x
+returns-2 c = let e = simp b-x at c.if-x.false in simp (b-x, e, within_low c.before.args.x e)
 
-pub is-within-spec : {M : Type 1} → statement M
-is-within-spec = tie.close
+pub is_within_spec : {M : Type 1} → statement M
+is_within_spec = tie.close
     (tie.spec (λ c. search rules) returns returns-2)
