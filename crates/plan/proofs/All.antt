@@ -59,6 +59,7 @@ module _ {A : Type 0} where
   all-of-get (x ∷ xs) d f = all_cons (f 0 (omega arith)) (all-of-get xs d (λ i h. f (suc i) (omega arith)))
 
   pub all-mem : {Q : A → Type 0} {x : A} {xs : List A} → All Q xs → Memᴰ x xs → Q x
+  all-mem {Q = Q} all_nil x4 = elim x4 [ ]
   all-mem {Q} (all_cons q qs) (Memᴰ.head e) = subst Q (sym e) q
   all-mem (all_cons q qs) (Memᴰ.tail m) = all-mem qs m
 

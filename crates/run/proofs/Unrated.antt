@@ -34,9 +34,13 @@ reaching-unrated t a old (x ∷ xs) h = let b = a + 1 in
 abbrev pub between_middles : ℤ → List ℤ → ℤ
 between_middles old xs = half_down (get_or xs ((length xs + 1) / 2 - 1) old +ℤ get_or xs (length xs / 2) old)
 
-pub start-unrated : (old : ℤ) (xs : List ℤ) → start_of old (map unrated xs) ≡ between_middles old xs
+start-unrated_none : (old : ℤ) → start_of old [] ≡ between_middles old []
 unfolding start_of first_reaching
-start-unrated old [] = refl
+start-unrated_none old = refl
+
+pub start-unrated : (old : ℤ) (xs : List ℤ) → start_of old (map unrated xs) ≡ between_middles old xs
+unfolding start_of
+start-unrated old [] = start-unrated_none old
 start-unrated old (x ∷ xs) = let s = length (x ∷ xs) in
     let i : (s + 1) / 2 - 0 - 1 ≡ (s + 1) / 2 - 1 = omega arith in let j : (s + 1 + 1) / 2 - 0 - 1 ≡ s / 2 = omega arith in
     rw (total-unrated (x ∷ xs), reaching-unrated s 0 old (x ∷ xs) (omega arith), reaching-unrated (s + 1) 0 old (x ∷ xs) (omega arith), i, j)

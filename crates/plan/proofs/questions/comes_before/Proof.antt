@@ -3,15 +3,15 @@ use borrow.Author.Tests.{lt-ltb, le-ltb, eq-eqb, ne_eqb}
 use Rattle.plan.proofs.questions.comes_before.Statement.{statement}
 use Rattle.plan.proofs.questions.comes_before.Tie as tie
 
-returns : tie.Need-returns
-returns c = rw (lt-ltb _ _ c.if1.true)
+returns : tie.Need-returns-then-a-c
+returns c = rw (lt-ltb _ _ c.if-a-c.true)
 
-returns-2 : tie.Need-returns-2
-returns-2 c = rw (le-ltb _ _ c.before.if1.false, eq-eqb _ _ c.if2.true)
+returns-2 : tie.Need-returns-then-a-c-2
+returns-2 c = rw (le-ltb _ _ c.before.if-a-c.false, eq-eqb _ _ c.if-a-c-2.true)
 
-returns-3 : tie.Need-returns-3
-returns-3 c = rw (le-ltb _ _ c.before.if1.false, ne_eqb _ _ c.if2.false)
+returns-3 : tie.Need-returns-else-a-c-2
+returns-3 c = rw (le-ltb _ _ c.before.if-a-c.false, ne_eqb _ _ c.if-a-c-2.false)
 
-pub comes-before-spec : {M : Type 1} → statement M
-comes-before-spec = tie.close
+pub comes_before_spec : {M : Type 1} → statement M
+comes_before_spec = tie.close
     (tie.spec returns returns-2 returns-3)

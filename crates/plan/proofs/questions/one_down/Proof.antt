@@ -5,21 +5,21 @@ use native.Mathlib.Omega.{arith}
 use Rattle.plan.proofs.questions.one_down.Statement.{statement}
 use Rattle.plan.proofs.questions.one_down.Tie as tie
 
-returns : tie.Need-returns
-returns c = rw (le-ltb _ _ c.if1.true)
+returns : tie.Need-returns-then-level-upper
+returns c = rw (le-ltb _ _ c.if-level-upper.true)
 
-returns-2 : tie.Need-returns-2
-returns-2 c = rw (lt-ltb _ _ c.before.if1.false, le-ltb _ _ c.if2.true)
+returns-2 : tie.Need-returns-then-level-lower
+returns-2 c = rw (lt-ltb _ _ c.before.if-level-upper.false, le-ltb _ _ c.if-level-lower.true)
 
-add-result : tie.Need-overflow-add-result
-add-result c = omega (arith, c.before.shared-slice-known3.given c.before.before.before.before.before.before.before.args.a)
+add-result : tie.Need-overflow_add-result
+add-result c = omega (arith, c.before.shared_slice_known-3-1.given c.before.before.before.before.before.before.before.args.a)
 
-returns-3 : tie.Need-returns-3
+returns-3 : tie.Need-returns
 returns-3 c =
-    rw (lt-ltb _ _ c.before.before.before.before.before.if1.false, lt-ltb _ _ c.before.before.before.before.if2.false, c.before.before.wide.ensures, c.wide2.ensures)
+    rw (lt-ltb _ _ c.before.before.before.before.before.if-level-upper.false, lt-ltb _ _ c.before.before.before.before.if-level-lower.false, c.before.before.wide.ensures, c.wide-2.ensures)
 
-pub one-down-spec : {M : Type 1} → statement M
-one-down-spec =
+pub one_down_spec : {M : Type 1} → statement M
+one_down_spec =
     tie.close
     (tie.spec returns returns-2 (λ c. search rules) (λ c. search rules) (λ c κs. search rules) (λ c. search rules)
     (λ c. search rules) (λ c κs. search rules) add-result returns-3)

@@ -8,6 +8,6 @@ returns : tie.Need-returns
 unfolding empty_plan
 returns c = c.new.ensures
 
-pub empty-spec : {M : Type 1} → statement M
-empty-spec = tie.close
+pub empty_spec : {M : Type 1} → statement M
+empty_spec = tie.close
     (tie.spec (λ c κs. search rules) returns)
