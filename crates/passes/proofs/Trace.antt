@@ -67,7 +67,7 @@ module _ {p : PlanData} (so : Sound p) where
   pub reached-all : {s : State} {ws : List Visit} → Reached p s → ToRuns p ws → Reached p (visit_all p ws s)
   unfolding visit_all
   reached-all c all_nil = c
-  reached-all c (all_cons {x = w} i «is») = reached-all (reached-visit c w.pass i) «is»
+  reached-all {s = s} c (all_cons {x = w} {xs = xs} i «is») = reached-all {s = visit p w.pass w.run s} (reached-visit c w.pass i) «is»
 
 -- ---- the state at the start
 pub length-doubled : (p : PlanData) (v n : ℕ) → length (doubled_on p (numbers v n)) ≡ n
