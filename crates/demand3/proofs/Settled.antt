@@ -61,4 +61,4 @@ module _ {p : PlanData} (so : Sound p) {r : Run} (i : IsRun p r) (b : is_bounded
   pub stands-still : {s : State} {ws : List Visit} → Reached p s → Settled p s r → ToRuns p ws → position_of (visit_all p ws s).at v ≡ position_of s.at v
   unfolding visit_all
   stands-still c t all_nil = refl
-  stands-still {s} c t (all_cons {x = w} j js) = stands-still (reached-visit so c w.pass j) (settled-more p w s r t) js ∙ visit-still c t w j
+  stands-still {s} c t (all_cons {x = w} j js) = stands-still {s = visit p w.pass w.run s} (reached-visit so c w.pass j) (settled-more p w s r t) js ∙ visit-still c t w j

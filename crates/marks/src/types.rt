@@ -5,7 +5,7 @@ ghost use Rattle.marks.specs.Half.{max_whole};
 ghost use Rattle.marks.specs.Exact.{MadePoint};
 
 // A point in steps.
-#[derive(Drop)]
+#[derive(Clone, Copy)]
 pub struct Point {
     pub x: f64,
     pub y: f64,
@@ -24,7 +24,7 @@ impl Point {
     }
 }
 
-#[derive(Drop)]
+#[derive(Clone, Copy)]
 pub enum Mark {
     // Centre and half-width.
     Box(Point, f64),

@@ -11,7 +11,7 @@ use pass_neighbours::order::turn;
 use pass_tables::runs::run_end;
 
 // How many placings the list has, and how many boxes in all.
-#[derive(Drop)]
+#[derive(Clone, Copy)]
 pub struct Listed {
     pub placings: usize,
     pub boxes: usize,

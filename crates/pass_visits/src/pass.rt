@@ -60,7 +60,7 @@ fn make_tables(
 }
 
 // The vertices from `from` up to `to`.
-#[derive(Drop)]
+#[derive(Clone, Copy)]
 struct Stretch {
     from: usize,
     to: usize,

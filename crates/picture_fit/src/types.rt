@@ -1,5 +1,5 @@
 // What is answered when a picture is asked for.
-#[derive(Drop)]
+#[derive(Clone, Copy)]
 pub enum PictureAnswer {
     // So many bytes at the front of the buffer.
     Written(usize),

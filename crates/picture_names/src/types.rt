@@ -1,5 +1,5 @@
 // What was seen of a name up to some byte.
-#[derive(Drop)]
+#[derive(Clone, Copy)]
 pub enum Seen {
     // Nothing, or a space: a word has to begin.
     Start,
@@ -21,7 +21,7 @@ pub enum Seen {
 }
 
 // Whether names are good, or the first line that is not; 0 for a text that is too long.
-#[derive(Drop)]
+#[derive(Clone, Copy)]
 pub enum NamesAnswer {
     Good,
     Bad(u32),

@@ -8,7 +8,7 @@ use crate::columns::{chosen, columns_of};
 use script_words::parts::end_of;
 
 // A row of a name: where it ends, whether it is cut, and where what comes after it begins.
-#[derive(Drop)]
+#[derive(Clone, Copy)]
 pub struct Row {
     pub end: usize,
     pub cut: bool,

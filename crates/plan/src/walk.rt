@@ -1,5 +1,5 @@
 // What the walk over the inner segments between two neighbouring levels answers.
-#[derive(Drop)]
+#[derive(Clone, Copy)]
 pub struct Walk {
     pub crossed: bool,
     pub taken: usize,

@@ -38,7 +38,7 @@ impl Drawing {
 }
 
 // How many vertices, segments and placings there are.
-#[derive(Drop)]
+#[derive(Clone, Copy)]
 pub struct Counts {
     pub vertices: usize,
     pub segments: usize,

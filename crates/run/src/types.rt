@@ -1,13 +1,13 @@
 // What place-run takes and answers.
 
 // An optional bound on one side of a run.
-#[derive(Drop)]
+#[derive(Clone, Copy)]
 pub enum Bound {
     Free,
     At(i64),
 }
 
-#[derive(Drop)]
+#[derive(Clone, Copy)]
 pub enum Answer {
     Accepted,
     Refused,

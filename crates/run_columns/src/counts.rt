@@ -15,7 +15,7 @@ use ints::{apart, plus};
 
 // The ratings of the neighbours at or left of a place, and of those right of it. They are the same at the places that are at most
 // `back` to its left or less than `far` to its right.
-#[derive(Drop)]
+#[derive(Clone, Copy)]
 pub struct Counted {
     pub upto: u64,
     pub beyond: u64,

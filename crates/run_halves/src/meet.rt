@@ -13,7 +13,7 @@ use ints::{apart, greater, lesser, plus};
 use run_columns::counts::count_half;
 
 // Whether the ratings of those at or left of a place are more than of those right of it, there and at those places beside it.
-#[derive(Drop)]
+#[derive(Clone, Copy)]
 struct Tested {
     more: bool,
     back: u64,

@@ -5,7 +5,7 @@ ghost use Rattle.run.specs.Call.{max_neighbours};
 ghost use Rattle.run_columns.specs.inner.Sums.{ratings_between};
 ghost use Rattle.run_halves.specs.inner.Middles.{Reaches, total_of, AreMiddles};
 
-#[derive(Drop)]
+#[derive(Clone, Copy)]
 pub struct Middles {
     pub lower: usize,
     pub upper: usize,

@@ -23,7 +23,7 @@ const LINE_ROOM: usize = 2097152;
 const MOST_LINES: u64 = 18446744073709551615;
 
 // Where a line begins and ends in the room, and up to where the room is filled.
-#[derive(Drop)]
+#[derive(Clone, Copy)]
 struct Span {
     from: usize,
     end: usize,

@@ -5,7 +5,7 @@ use script_runs::types::RunRequest;
 // ends and the rating of a segment; the number that a vertex is remembered by; whether the plan was loaded as tangled; preliminary and final
 // position of a vertex; pass and level of a placing; and of a placing's box its vertex and position. Levels, vertices, segments,
 // placings and boxes are counted from 0.
-#[derive(Drop)]
+#[derive(Clone, Copy)]
 pub enum Poke {
     Empty,
     Loaded(usize, usize),
@@ -27,7 +27,7 @@ pub enum Poke {
 
 // A command. The text of Load, LoadTangled and Walk lies in a lent buffer, and the last number is how many bytes it has; the
 // lists of PlaceRun lie in others.
-#[derive(Drop)]
+#[derive(Clone, Copy)]
 pub enum Command {
     Skip,
     Unknown,

@@ -2,7 +2,7 @@
 use run::types::Bound;
 
 // Which numbers may stand in a list: without a sign, with a sign, or all of 64 bits.
-#[derive(Drop)]
+#[derive(Clone, Copy)]
 pub enum Kind {
     Unsigned,
     Signed,
@@ -10,7 +10,7 @@ pub enum Kind {
 }
 
 // A request whose lists lie at the front of lent buffers: how long each of them is. And the length of the answer buffer.
-#[derive(Drop)]
+#[derive(Clone, Copy)]
 pub struct RunRequest {
     pub boxes: u64,
     pub left: Bound,

@@ -7,7 +7,7 @@ ghost use Rattle.script_texts.specs.inner.Units.{Stands, Unescapes};
 use crate::types::Text;
 
 // A byte of a text, whether there is one, and where the next begins.
-#[derive(Drop)]
+#[derive(Clone, Copy)]
 struct Unit {
     good: bool,
     byte: u8,

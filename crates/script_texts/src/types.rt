@@ -1,5 +1,5 @@
 // What an escaped text stands for: so many bytes at the front of a lent buffer, or nothing.
-#[derive(Drop)]
+#[derive(Clone, Copy)]
 pub enum Text {
     Bytes(usize),
     Bad,

@@ -10,7 +10,7 @@ pub struct OneAnswer {
 }
 
 // Whether answers end within the room, and the position past them if they do.
-#[derive(Drop)]
+#[derive(Clone, Copy)]
 pub struct Laid {
     pub fits: bool,
     pub at: usize,

@@ -7,7 +7,7 @@ use plan::data::Plan;
 use report::data::Drawing;
 
 // "its stage: empty, loaded (with its vertex and segment counts), or drawn (with these and the count of placings)"
-#[derive(Drop)]
+#[derive(Clone, Copy)]
 pub enum Stage {
     Empty,
     Loaded(usize, usize),
@@ -15,7 +15,7 @@ pub enum Stage {
 }
 
 // The stage, and the way of loading: `tangled` if it was the second, which rearranges a plan.
-#[derive(Drop)]
+#[derive(Clone, Copy)]
 pub struct Header {
     pub stage: Stage,
     pub tangled: bool,
@@ -48,7 +48,7 @@ impl Sheet {
 }
 
 // What load, draw and clear answer,
-#[derive(Drop)]
+#[derive(Clone, Copy)]
 pub enum Answer {
     Accepted,
     Refused(u32),
@@ -62,14 +62,14 @@ pub struct Changed {
 }
 
 // What line answers: the line's length. And what the whole report answers: its length. And what all marks answer: their count.
-#[derive(Drop)]
+#[derive(Clone, Copy)]
 pub enum LineAnswer {
     Written(usize),
     Refused(u32),
 }
 
 // What mark answers.
-#[derive(Drop)]
+#[derive(Clone, Copy)]
 pub enum MarkAnswer {
     Given(Mark),
     Refused(u32),

@@ -10,7 +10,7 @@ use text_scan::limits::{both, half_fits, half_of, header_fits, rating_in_limit, 
 use text_scan::scanners::{FoundHeader, ends, header_at, segment_at, vertex_at, word_at};
 
 // A level line's vertices: how many, whether their half-widths are within the limit, and the position past them.
-#[derive(Drop)]
+#[derive(Clone, Copy)]
 pub struct Row {
     pub form: bool,
     pub count: usize,
@@ -20,7 +20,7 @@ pub struct Row {
 
 // The level lines: whether all that begin are in the form, how many they are, how many vertices they have, whether each is
 // within its limits, and the position past the last that is in the form.
-#[derive(Drop)]
+#[derive(Clone, Copy)]
 pub struct Rows {
     pub form: bool,
     pub levels: usize,
@@ -30,7 +30,7 @@ pub struct Rows {
 }
 
 // The segment lines: how many, whether the ratings written are within the limit, and the position past them.
-#[derive(Drop)]
+#[derive(Clone, Copy)]
 pub struct Segments {
     pub count: usize,
     pub fit: bool,
@@ -38,7 +38,7 @@ pub struct Segments {
 }
 
 // A whole text: whether it is in the form, whether it is within the limits, and its numbers and counts.
-#[derive(Drop)]
+#[derive(Clone, Copy)]
 pub struct Scanned {
     pub form: bool,
     pub limits: bool,

@@ -19,7 +19,7 @@ use plan_checks::checks::{check_plan, first_of};
 pub const MAX_BYTES: usize = 65536;
 
 // A plan with its numbers of vertices and segments, or the number of the first check that fails.
-#[derive(Drop)]
+#[derive(Clone, Copy)]
 pub enum Answer {
     Accepted(usize, usize),
     Refused(u32),
@@ -34,7 +34,7 @@ pub struct ReadText {
 
 // What reading a text into lent arrays finds: the number of the first check that fails, 0 if none does, and the text's numbers
 // and counts.
-#[derive(Drop)]
+#[derive(Clone, Copy)]
 pub struct Found {
     pub failed: u32,
     pub scanned: Scanned,

@@ -5,7 +5,7 @@ ghost use Rattle.text.specs.Form.{box, segment_line};
 ghost use Rattle.text_scan.specs.inner.Scanned.{Finds, HasWord, MoreDigits, number_then, vertex, vertex_of, MayRate, segment_of, plan_line, header_of, Ends};
 
 // A number, and the position past it.
-#[derive(Drop)]
+#[derive(Clone, Copy)]
 pub struct FoundNumber {
     pub found: bool,
     pub value: u32,
@@ -124,7 +124,7 @@ pub fn number_then(text: &[u8], at: usize, word: &[u8]) -> FoundNumber
 }
 
 // A vertex of a level line, and the position past it. A via's half-width is 0.
-#[derive(Drop)]
+#[derive(Clone, Copy)]
 pub struct FoundVertex {
     pub found: bool,
     pub via: bool,
@@ -197,7 +197,7 @@ fn rating_at(text: &[u8], at: usize) -> FoundNumber
 }
 
 // A segment's ends, whether a rating is written and which, and the position past its line.
-#[derive(Drop)]
+#[derive(Clone, Copy)]
 pub struct FoundSegment {
     pub found: bool,
     pub upper: u32,
@@ -246,7 +246,7 @@ pub fn segment_at(text: &[u8], at: usize) -> FoundSegment
 }
 
 // K, G and S of a plan, and the position past their line.
-#[derive(Drop)]
+#[derive(Clone, Copy)]
 pub struct FoundHeader {
     pub found: bool,
     pub levels: u32,

@@ -15,7 +15,7 @@ use plan_walks::walk_from;
 use text_read::{read_into, refuses_both};
 
 // A walk, or the number of the refusal.
-#[derive(Drop)]
+#[derive(Clone, Copy)]
 pub enum WalkAnswer {
     Walked(Walk),
     Refused(u32),

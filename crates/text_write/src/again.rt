@@ -16,7 +16,7 @@ use text_read::{Answer, read};
 
 // What writing a text again gives: how many bytes were written, the number of the text's refusal, or that the buffer is too
 // short.
-#[derive(Drop)]
+#[derive(Clone, Copy)]
 pub enum Rewritten {
     Written(usize),
     Refused(u32),

@@ -19,14 +19,14 @@ ruleset backs = (b-p, b-m)
 apart-requires : tie.Need-apart-requires
 apart-requires c κs = simp backs (omega (arith, c.before.requires))
 
-returns : tie.Need-returns
-returns c = let a = c.before.args in let h = lt-true a.m a.p (simp backs at c.if1.true) in (omega arith, λ k. omega arith)
+returns : tie.Need-returns-then-m-p
+returns c = let a = c.before.args in let h = lt-true a.m a.p (simp backs at c.if-m-p.true) in (omega arith, λ k. omega arith)
 
-returns-2 : tie.Need-returns-2
-returns-2 c = let a = c.before.before.before.args in let h = lt-false a.m a.p (simp backs at c.before.before.if1.false) in
+returns-2 : tie.Need-returns-else-m-p
+returns-2 c = let a = c.before.before.before.args in let h = lt-false a.m a.p (simp backs at c.before.before.if-m-p.false) in
     let e = simp backs at c.before.apart.ensures in let g = gap-r a.m a.p h in
     (omega (arith, c.least.ensures), λ k. omega (arith, c.least.ensures))
 
-pub back-to-spec : {M : Type 1} → statement M
-back-to-spec = tie.close
+pub back_to_spec : {M : Type 1} → statement M
+back_to_spec = tie.close
     (tie.spec apart-requires (λ c κs. search rules) returns returns-2)

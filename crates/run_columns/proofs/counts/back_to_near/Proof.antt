@@ -14,27 +14,27 @@ use Rattle.run_columns.proofs.counts.back_to_near.Tie as tie
 b-m : (c : tie.Start) → to_z w64 (of_z w64 c.args.m) ≡ c.args.m
 b-m c = back c.ranges.m
 
-b-p : (c : tie.After-back-to-arg) → let a = c.before.before.args in to_z w64 (of_z w64 (get_or a.near.now (a.n - 1) (pos 0))) ≡ get_or a.near.now (a.n - 1) (pos 0)
-b-p c = let a = c.before.before.args in back' (get_or a.near.now (a.n - 1) (pos 0)) c.back-to-arg.given
+b-p : (c : tie.After-back_to-arg-1) → let a = c.before.before.args in to_z w64 (of_z w64 (get_or a.near.now (a.n - 1) (pos 0))) ≡ get_or a.near.now (a.n - 1) (pos 0)
+b-p c = let a = c.before.before.args in back' (get_or a.near.now (a.n - 1) (pos 0)) c.back_to-arg-1.given
 
 ruleset backs = (b-m, b-p)
 
-mul-back-to : tie.Need-overflow-mul-back-to
-mul-back-to c = omega (arith, c.before.requires.1, c.if1.false)
+mul-back-to : tie.Need-offset_bounds-near-n
+mul-back-to c = omega (arith, c.before.requires.1, c.if-n-eq0.false)
 
-shared-slice-copy-out-back-to : tie.Need-shared-slice-copy-out-back-to
-shared-slice-copy-out-back-to c = omega (arith, c.before.requires.1, c.if1.false)
+shared-slice-copy-out-back-to : tie.Need-bounds-near-n
+shared-slice-copy-out-back-to c = omega (arith, c.before.requires.1, c.if-n-eq0.false)
 
-back-to-requires : tie.Need-back-to-requires
-back-to-requires c κs = let s = c.before.before in simp backs (omega (arith, s.requires.2, s.requires.0 (s.args.n - 1) (omega (arith, s.requires.1, c.before.if1.false))))
+back-to-requires : tie.Need-back_to-requires
+back-to-requires c κs = let s = c.before.before in simp backs (omega (arith, s.requires.2, s.requires.0 (s.args.n - 1) (omega (arith, s.requires.1, c.before.if-n-eq0.false))))
 
-returns : tie.Need-returns
-returns c = let e = c.if1.true in (omega arith, λ h k. absurd (omega arith))
+returns : tie.Need-returns-then-n-eq0
+returns c = let e = c.if-n-eq0.true in (omega arith, λ h k. absurd (omega arith))
 
-returns-2 : tie.Need-returns-2
+returns-2 : tie.Need-returns-else-n-eq0
 returns-2 c = let e = simp backs at c.back_to.ensures in (e.0, λ h k. e.1 k)
 
-pub back-to-near-spec : {M : Type 1} → statement M
-back-to-near-spec =
+pub back_to_near_spec : {M : Type 1} → statement M
+back_to_near_spec =
     tie.close
     (tie.spec (λ c. search rules) mul-back-to shared-slice-copy-out-back-to back-to-requires returns returns-2)

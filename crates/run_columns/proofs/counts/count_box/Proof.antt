@@ -28,88 +28,88 @@ b-z c = back c.ranges.z
 b-m : (c : tie.Start) → to_z w64 (of_z w64 c.args.m) ≡ c.args.m
 b-m c = back c.ranges.m
 
-b-plus : (c : tie.After-plus) → to_z w64 (of_z w64 c.plus.result) ≡ c.plus.result
-b-plus c = back' c.plus.result c.plus.type-inv
+b-plus : (c : tie.After-plus-at) → to_z w64 (of_z w64 c.plus-at.result) ≡ c.plus-at.result
+b-plus c = back' c.plus-at.result c.plus-at.type_inv
 
 ruleset backs = (b-z, b-m, b-plus)
 
 -- up to the box itself
-around : (c : tie.After-far-to) → let a = c.before.before.before.args in Around a.back a.far c.before.back_to.result c.far-to.result
-around c = record { left = c.before.back_to.ensures.0; right = c.far-to.ensures.0; some = c.far-to.ensures.1 }
+around : (c : tie.After-far_to-f) → let a = c.before.before.before.args in Around a.back a.far c.before.back_to-b.result c.far_to-f.result
+around c = record { left = c.before.back_to-b.ensures.0; right = c.far_to-f.ensures.0; some = c.far_to-f.ensures.1 }
 
-back-box : (c : tie.After-far-to) → let a = c.before.before.before.args in BackTo a.z a.m c.before.back_to.result
-back-box c = (simp backs at c.before.back_to.ensures).1
+back-box : (c : tie.After-far_to-f) → let a = c.before.before.before.args in BackTo a.z a.m c.before.back_to-b.result
+back-box c = (simp backs at c.before.back_to-b.ensures).1
 
-far-box : (c : tie.After-far-to) → let a = c.before.before.before.args in FarTo a.z a.m c.far-to.result
-far-box c = (simp backs at c.far-to.ensures).2
+far-box : (c : tie.After-far_to-f) → let a = c.before.before.before.args in FarTo a.z a.m c.far_to-f.result
+far-box c = (simp backs at c.far_to-f.ensures).2
 
-is-it : (c : tie.After-is-counted) → let a = c.before.before.before.before.args in c.is-counted.result ≡ counted a.left a.z a.m
-is-it c = simp backs at c.is-counted.ensures
+is-it : (c : tie.After-is_counted) → let a = c.before.before.before.before.args in c.is_counted.result ≡ counted a.left a.z a.m
+is-it c = simp backs at c.is_counted.ensures
 
 -- the place among the neighbours
-place : (c : tie.After-plus) → let a = c.before.before.before.before.before.before.args in c.plus.result ≡ a.m +ℤ pos a.offset
-place c = simp backs at c.plus.ensures
+place : (c : tie.After-plus-at) → let a = c.before.before.before.before.before.before.args in c.plus-at.result ≡ a.m +ℤ pos a.offset
+place c = simp backs at c.plus-at.ensures
 
-place-small : (c : tie.After-plus) → size c.plus.result ≤ 2 ^ 51
+place-small : (c : tie.After-plus-at) → size c.plus-at.result ≤ 2 ^ 51
 place-small c = let s = c.before.before.before.before.before.before in rw (place c) (omega (arith, s.requires.2, s.requires.4, sum s.args.m (pos s.args.offset)))
 
-got : (c : tie.After-count-up-to) → let a = c.before.before.before.before.before.before.before.args in c.count-up-to.result ≡ count_up_to (a.m +ℤ pos a.offset) a.near.now
-got c = let a = c.before.before.before.before.before.before.before.args in simp backs at c.count-up-to.ensures ∙ ap (λ (x : ℤ). count_up_to x a.near.now) (place c.before)
+got : (c : tie.After-count_up_to-n) → let a = c.before.before.before.before.before.before.before.args in c.count_up_to-n.result ≡ count_up_to (a.m +ℤ pos a.offset) a.near.now
+got c = let a = c.before.before.before.before.before.before.before.args in simp backs at c.count_up_to-n.ensures ∙ ap (λ (x : ℤ). count_up_to x a.near.now) (place c.before)
 
-got-bound : (c : tie.After-count-up-to) → c.count-up-to.result ≤ length c.before.before.before.before.before.before.before.args.near.now
+got-bound : (c : tie.After-count_up_to-n) → c.count_up_to-n.result ≤ length c.before.before.before.before.before.before.before.args.near.now
 got-bound c = let a = c.before.before.before.before.before.before.before.args in rw (got c) (count-bound (a.m +ℤ pos a.offset) a.near.now)
 
-back-to-requires : tie.Need-back-to-requires
+back-to-requires : tie.Need-back_to-b-requires
 back-to-requires c κs = simp backs (omega (arith, c.before.requires.3, c.before.requires.4))
 
-far-to-requires : tie.Need-far-to-requires
+far-to-requires : tie.Need-far_to-f-requires
 far-to-requires c κs = (simp backs (omega (arith, c.before.before.requires.3, c.before.before.requires.4)), c.before.before.requires.5)
 
-returns : tie.Need-returns
+returns : tie.Need-returns-then-not-is_counted
 returns c = let s = c.before.before.before.before.before in let a = s.args in let o = c.before.before in
-    box-uncounted a.left a.z a.m a.back a.far _ _ (around o) (back-box o) (far-box o) _ (sym (is-it c.before) ∙ not-true _ c.if1.true)
+    box-uncounted a.left a.z a.m a.back a.far _ _ (around o) (back-box o) (far-box o) _ (sym (is-it c.before) ∙ not-true _ c.if-not-is_counted.true-raw)
 
-plus-requires : tie.Need-plus-requires
+plus-requires : tie.Need-plus-at-requires
 plus-requires c κs = simp backs (omega (arith, c.before.before.before.before.before.requires.2, c.before.before.before.before.before.requires.4))
 
-count-up-to-requires : tie.Need-count-up-to-requires
+count-up-to-requires : tie.Need-count_up_to-n-requires
 count-up-to-requires c κs = c.before.before.before.before.before.before.requires.0
 
 -- the sums at the first, the n-th and the last
-sums-of : (c : tie.After-count-up-to) → let a = c.before.before.before.before.before.before.before.args in SumsOf a.sums.now a.near.now
+sums-of : (c : tie.After-count_up_to-n) → let a = c.before.before.before.before.before.before.before.args in SumsOf a.sums.now a.near.now
 sums-of c = c.before.before.before.before.before.before.before.requires.6
 
 rated-requires : tie.Need-rated-requires
-rated-requires c κs = let q = sums-of c in let n = c.count-up-to.result in let h = got-bound c in
+rated-requires c κs = let q = sums-of c in let n = c.count_up_to-n.result in let h = got-bound c in
     (omega (arith, q.long), omega (arith, q.long), omega (arith, first-ratings q n h))
 
 rated-requires-2 : tie.Need-rated-requires-2
-rated-requires-2 c κs = let q = sums-of c.before in let n = c.before.count-up-to.result in let h = got-bound c.before in let ws = ratings_between c.before.before.before.before.before.before.before.before.args.sums.now in
+rated-requires-2 c κs = let q = sums-of c.before in let n = c.before.count_up_to-n.result in let h = got-bound c.before in let ws = ratings_between c.before.before.before.before.before.before.before.before.args.sums.now in
     (omega (arith, q.long), omega (arith, q.long), omega (arith, first-ratings q n h, all-ratings q, sum-cut n ws))
 
-back-to-near-requires : tie.Need-back-to-near-requires
+back-to-near-requires : tie.Need-back_to_near-requires
 back-to-near-requires c κs = (c.before.before.before.before.before.before.before.before.before.requires.1, got-bound c.before.before, simp backs (place-small c.before.before.before))
 
-far-to-near-requires : tie.Need-far-to-near-requires
-far-to-near-requires c κs = (c.before.before.before.before.before.before.before.before.before.before.requires.1, simp backs (place-small c.before.before.before.before), c.before.before.before.before.before.before.before.far-to.ensures.1)
+far-to-near-requires : tie.Need-far_to_near-requires
+far-to-near-requires c κs = (c.before.before.before.before.before.before.before.before.before.before.requires.1, simp backs (place-small c.before.before.before.before), c.before.before.before.before.before.before.before.far_to-f.ensures.1)
 
 -- as ratings
-upto_is : (c : tie.After-rated2) → c.before.rated.result ≡ total (take c.before.before.count-up-to.result (ratings_between c.before.before.before.before.before.before.before.before.before.args.sums.now))
-upto_is c = let q = sums-of c.before.before in let n = c.before.before.count-up-to.result in omega (arith, c.before.rated.ensures, first-ratings q n (got-bound c.before.before))
+upto_is : (c : tie.After-rated-2) → c.before.rated.result ≡ total (take c.before.before.count_up_to-n.result (ratings_between c.before.before.before.before.before.before.before.before.before.args.sums.now))
+upto_is c = let q = sums-of c.before.before in let n = c.before.before.count_up_to-n.result in omega (arith, c.before.rated.ensures, first-ratings q n (got-bound c.before.before))
 
-beyond-is : (c : tie.After-rated2) → let ws = ratings_between c.before.before.before.before.before.before.before.before.before.args.sums.now in
-    c.rated2.result ≡ total ws - total (take c.before.before.count-up-to.result ws)
-beyond-is c = let q = sums-of c.before.before in let n = c.before.before.count-up-to.result in omega (arith, c.rated2.ensures, first-ratings q n (got-bound c.before.before), all-ratings q)
+beyond-is : (c : tie.After-rated-2) → let ws = ratings_between c.before.before.before.before.before.before.before.before.before.args.sums.now in
+    c.rated-2.result ≡ total ws - total (take c.before.before.count_up_to-n.result ws)
+beyond-is c = let q = sums-of c.before.before in let n = c.before.before.count_up_to-n.result in omega (arith, c.rated-2.ensures, first-ratings q n (got-bound c.before.before), all-ratings q)
 
-returns-2 : tie.Need-returns-2
+returns-2 : tie.Need-returns
 returns-2 c = let s = c.before.before.before.before.before.before.before.before.before.before.before in let a = s.args in let o = c.before.before.before.before.before.before.before.before in let p = place c.before.before.before.before.before in
-    let b = rw p at (simp backs at c.before.back-to-near.ensures) in let f = rw p at (simp backs at c.far-to-near.ensures) in
+    let b = rw p at (simp backs at c.before.back_to_near.ensures) in let f = rw p at (simp backs at c.far_to_near.ensures) in
     rw (upto_is c.before.before, beyond-is c.before.before) (box-counted a.left a.z a.m a.back a.far _ _ (around o) (back-box o) (far-box o) a.offset a.near.now (ratings_between a.sums.now) _ _ _
     (sym (as_many s.requires.6)) s.requires.0 (got c.before.before.before.before)
-    (record { left = b.0; right = f.0; some = f.1 }) b.1 f.2 (sym (is-it c.before.before.before.before.before.before.before) ∙ not-false _ c.before.before.before.before.before.before.if1.false))
+    (record { left = b.0; right = f.0; some = f.1 }) b.1 f.2 (sym (is-it c.before.before.before.before.before.before.before) ∙ not-false _ c.before.before.before.before.before.before.if-not-is_counted.false-raw))
 
-pub count-box-spec : {M : Type 1} → statement M
-count-box-spec =
+pub count_box_spec : {M : Type 1} → statement M
+count_box_spec =
     tie.close
     (tie.spec back-to-requires far-to-requires (λ c κs. search rules) returns plus-requires count-up-to-requires rated-requires rated-requires-2
     back-to-near-requires far-to-near-requires returns-2)

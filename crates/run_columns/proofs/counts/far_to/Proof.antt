@@ -19,14 +19,14 @@ ruleset backs = (b-p, b-m)
 apart-requires : tie.Need-apart-requires
 apart-requires c κs = simp backs (omega (arith, c.before.requires.0))
 
-returns : tie.Need-returns
-returns c = let a = c.before.before.before.args in let o = c.before.before.before.requires.1 in let h = lt-true a.m a.p (simp backs at c.before.before.if1.true) in
+returns : tie.Need-returns-then-m-p
+returns c = let a = c.before.before.before.args in let o = c.before.before.before.requires.1 in let h = lt-true a.m a.p (simp backs at c.before.before.if-m-p.true) in
     let e = simp backs at c.before.apart.ensures in let g = gap-r a.p a.m (omega arith) in
     (omega (arith, c.least.ensures), omega (arith, c.least.ensures), λ k. omega (arith, c.least.ensures))
 
-returns-2 : tie.Need-returns-2
-returns-2 c = let a = c.before.args in let h = lt-false a.m a.p (simp backs at c.if1.false) in (omega arith, c.before.requires.1, λ k. omega arith)
+returns-2 : tie.Need-returns-else-m-p
+returns-2 c = let a = c.before.args in let h = lt-false a.m a.p (simp backs at c.if-m-p.false) in (omega arith, c.before.requires.1, λ k. omega arith)
 
-pub far-to-spec : {M : Type 1} → statement M
-far-to-spec = tie.close
+pub far_to_spec : {M : Type 1} → statement M
+far_to_spec = tie.close
     (tie.spec apart-requires (λ c κs. search rules) returns returns-2)

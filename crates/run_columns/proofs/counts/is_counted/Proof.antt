@@ -20,12 +20,12 @@ ruleset backs = (b-z, b-m)
 at-or-left : (z m : ℤ) → le_z z m ≡ not (lt_z m z)
 at-or-left z m = cases_z z m (λ k. rw (make-le-true z m k, make-lt-false m z k)) (λ k. rw (make-le-false z m k, make-lt-true m z k))
 
-returns : tie.Need-returns
-returns c = simp (backs, c.if1.true)
+returns : tie.Need-returns-then-left
+returns c = simp (backs, c.if-left.true)
 
-returns-2 : tie.Need-returns-2
-returns-2 c = simp (backs, c.if1.false) (at-or-left c.before.args.z c.before.args.m)
+returns-2 : tie.Need-returns-else-left
+returns-2 c = simp (backs, c.if-left.false) (at-or-left c.before.args.z c.before.args.m)
 
-pub is-counted-spec : {M : Type 1} → statement M
-is-counted-spec = tie.close
+pub is_counted_spec : {M : Type 1} → statement M
+is_counted_spec = tie.close
     (tie.spec returns returns-2)

@@ -5,9 +5,9 @@ use borrow.Author.Rules.{rules}
 use Rattle.run_columns.proofs.offsets.distance_at.Statement.{statement}
 use Rattle.run_columns.proofs.offsets.distance_at.Tie as tie
 
-returns-2 : tie.Need-returns-2
-returns-2 c = sym (get_or-eq_default c.before.args.distances.now 0 c.if1.false)
+returns-2 : tie.Need-returns-else-i-distances
+returns-2 c = sym (get_or-eq_default c.before.args.distances.now 0 c.if-i-distances.false)
 
-pub distance-at-spec : {M : Type 1} → statement M
-distance-at-spec = tie.close
+pub distance_at_spec : {M : Type 1} → statement M
+distance_at_spec = tie.close
     (tie.spec (λ c. search rules) (λ c. search rules) (λ c. search rules) returns-2)

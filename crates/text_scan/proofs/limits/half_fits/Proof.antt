@@ -3,9 +3,9 @@ use borrow.Author.Rules.{rules}
 use Rattle.text_scan.proofs.limits.half_fits.Statement.{statement}
 use Rattle.text_scan.proofs.limits.half_fits.Tie as tie
 
-returns-2 : tie.Need-returns-2
-returns-2 c = rw c.before.if1.false c.half-width-fits.ensures
+returns-2 : tie.Need-returns-else-v
+returns-2 c = rw c.if-v.false c.half_width_fits.ensures
 
-pub half-fits-spec : {M : Type 1} → statement M
-half-fits-spec = tie.close
+pub half_fits_spec : {M : Type 1} → statement M
+half_fits_spec = tie.close
     (tie.spec (λ c κs. search rules) (λ c. search rules) returns-2)

@@ -12,20 +12,20 @@ use Rattle.text.proofs.Words.{never}
 use Rattle.text_scan.proofs.limits.half_of.Statement.{statement}
 use Rattle.text_scan.proofs.limits.half_of.Tie as tie
 
-returns : tie.Need-returns
-returns c = λ e. rw c.if1.true
+returns : tie.Need-returns-then-v
+returns c = λ e. rw c.if-v.true
 
-returns-2 : tie.Need-returns-2
-returns-2 c = λ e. rw c.before.before.before.if1.false
+returns-2 : tie.Need-returns-then-v-le-MAX_HALF_WIDTH
+returns-2 c = λ e. rw c.if-v.false
 
-returns-3 : tie.Need-returns-3
+returns-3 : tie.Need-returns
 returns-3 c =
     λ e.
-    let v = c.before.before.before.args.v in
-    let out : leb v.half max_half_width ≡ false = lt-leb _ _ c.if2.false in
-    let f : half_in_limit (vertex_of v) ≡ leb 1 v.half && leb v.half max_half_width = rw c.before.before.if1.false in
+    let v = c.args.v in
+    let out : leb v.half max_half_width ≡ false = lt-leb _ _ c.if-v-le-MAX_HALF_WIDTH.false in
+    let f : half_in_limit (vertex_of v) ≡ leb 1 v.half && leb v.half max_half_width = rw c.if-v.false in
     never (sym (f ∙ not-both (leb 1 v.half) (leb v.half max_half_width) out) ∙ e)
 
-pub half-of-spec : {M : Type 1} → statement M
-half-of-spec = tie.close
+pub half_of_spec : {M : Type 1} → statement M
+half_of_spec = tie.close
     (tie.spec returns (λ c. search rules) returns-2 returns-3)

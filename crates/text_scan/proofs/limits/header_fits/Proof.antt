@@ -4,7 +4,7 @@ use Rattle.text_scan.proofs.limits.header_fits.Statement.{statement}
 use Rattle.text_scan.proofs.limits.header_fits.Tie as tie
 
 returns : tie.Need-returns
-returns c = simp (c.both.ensures, c.before.wide.ensures, c.before.before.numbers_fit.ensures)
+returns c = simp (c.both.ensures, c.wide.ensures, c.numbers_fit-fit.ensures)
 
-pub header-fits-spec : {M : Type 1} → statement M
-header-fits-spec = tie.close (tie.spec (λ c κs. search rules) (λ c κs. search rules) (λ c κs. search rules) returns)
+pub header_fits_spec : {M : Type 1} → statement M
+header_fits_spec = tie.close (tie.spec (λ c κs. search rules) (λ c κs. search rules) (λ c κs. search rules) returns)

@@ -8,30 +8,30 @@ use Rattle.text.proofs.Words.{never}
 use Rattle.text_scan.proofs.scanners.vertex_at.Statement.{statement}
 use Rattle.text_scan.proofs.scanners.vertex_at.Tie as tie
 
-returns : tie.Need-returns
+returns : tie.Need-returns-then-b
 returns c =
-    let a = c.before.before.before.args in let b = c.before.box-at in
-    record { gives = vertex-box (drop a.at a.text.now) _ _ (found b.ensures c.if1.true) ∙ rw c.if1.true; inside = b.ensures.inside; onward = b.ensures.onward }
+    let a = c.args in let b = c.box_at-b in
+    record { gives = vertex-box (drop a.at a.text.now) _ _ (found b.ensures c.if-b.true) ∙ rw c.if-b.true; inside = b.ensures.inside; onward = b.ensures.onward }
 
-returns-2 : tie.Need-returns-2
+returns-2 : tie.Need-returns-then-word_at
 returns-2 c =
-    let a = c.before.before.before.before.before.before.args in let s = drop a.at a.text.now in
+    let a = c.args in let s = drop a.at a.text.now in
     record {
-      gives = vertex-via s (found-not c.before.before.before.before.box-at.ensures c.before.before.before.if1.false) ∙ via-found s _ (has c.before.word_at.ensures c.if2.true);
-      inside = c.before.word_at.ensures.inside c.if2.true;
+      gives = vertex-via s (found-not c.box_at-b.ensures c.if-b.false) ∙ via-found s _ (has c.word_at.ensures c.if-word_at.true);
+      inside = c.word_at.ensures.inside c.if-word_at.true;
       onward = λ e. omega arith;
     }
 
-returns-3 : tie.Need-returns-3
+returns-3 : tie.Need-returns
 returns-3 c =
-    let a = c.before.before.before.before.before.before.args in let s = drop a.at a.text.now in
+    let a = c.args in let s = drop a.at a.text.now in
     record {
-      gives = vertex-via s (found-not c.before.before.before.before.box-at.ensures c.before.before.before.if1.false) ∙ via-none s (has-not c.before.word_at.ensures c.if2.false);
-      inside = c.before.before.before.before.before.before.requires;
+      gives = vertex-via s (found-not c.box_at-b.ensures c.if-b.false) ∙ via-none s (has-not c.word_at.ensures c.if-word_at.false);
+      inside = c.requires;
       onward = never;
     }
 
-pub vertex-at-spec : {M : Type 1} → statement M
-vertex-at-spec =
+pub vertex_at_spec : {M : Type 1} → statement M
+vertex_at_spec =
     tie.close
-    (tie.spec (λ c κs. search rules) returns (λ c. search rules) (λ c κs. search rules) (λ c. search rules) returns-2 returns-3)
+    (tie.spec (λ c κs. search rules) returns (λ c κs. search rules) (λ c. search rules) returns-2 returns-3)
