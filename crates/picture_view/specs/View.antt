@@ -18,7 +18,7 @@ view_width lo hi u = (hi -ℤ lo) +ℤ pos (2 * u)
 -- The first line, with the view's height h in steps.
 unfoldable pub head_of : ℤ → ℤ → ℕ → ℕ → List ℕ
 head_of lo hi u h =
-    bytes "<svg xmlns=\"http://www.w3.org/2000/svg\" version=\"1.1\" class=\"drawing\" view_box=\"" ++ across (view_left lo u)
+    bytes "<svg xmlns=\"http://www.w3.org/2000/svg\" version=\"1.1\" class=\"drawing\" viewBox=\"" ++ across (view_left lo u)
     ++ bytes " " ++ across (view_top u) ++ bytes " " ++ across (view_width lo hi u) ++ bytes " " ++ down h ++ bytes "\">\n"
 
 -- "H = (K − 1) S + u": the lowest level's y, and u.

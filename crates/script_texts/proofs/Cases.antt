@@ -5,7 +5,7 @@ use mathlib.Core.Option.{none, some}
 use Rattle.text.specs.Bytes.{bytes}
 use Rattle.script_texts.specs.Texts.{hex_value, unescaped}
 
-text : unescaped (bytes "a\\n\\t\\r\\\\\\x00\\xf_f b") ≡ some (97 ∷ 10 ∷ 9 ∷ 13 ∷ 92 ∷ 0 ∷ 255 ∷ 32 ∷ 98 ∷ [])
+text : unescaped (bytes "a\\n\\t\\r\\\\\\x00\\xfF b") ≡ some (97 ∷ 10 ∷ 9 ∷ 13 ∷ 92 ∷ 0 ∷ 255 ∷ 32 ∷ 98 ∷ [])
 unfolding unescaped hex_value
 text = refl
 

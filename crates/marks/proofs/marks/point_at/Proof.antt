@@ -23,7 +23,7 @@ new-requires c κs =
 returns : tie.Need-returns
 returns c = c.new.ensures.is ∙ rw (read_back c.before.before.before.before)
 
-pub point-at-spec : {M : Type 1} → statement M
-point-at-spec =
+pub point_at_spec : {M : Type 1} → statement M
+point_at_spec =
     tie.close
     (tie.spec (λ c. search rules) (λ c. search rules) (λ c. search rules) (λ c. search rules) new-requires returns)

@@ -5,8 +5,8 @@ use Rattle.marks.proofs.marks.segment_mark.Statement.{statement}
 use Rattle.marks.proofs.marks.segment_mark.Tie as tie
 
 returns : tie.Need-returns
-returns c = rw (c.before.point_at.ensures, c.point-at2.ensures) refl
+returns c = rw (c.point_at-upper.ensures, c.point_at-lower.ensures) refl
 
-pub segment-mark-spec : {M : Type 1} → statement M
-segment-mark-spec = tie.close
+pub segment_mark_spec : {M : Type 1} → statement M
+segment_mark_spec = tie.close
     (tie.spec (λ c κs. search rules) (λ c κs. search rules) returns)

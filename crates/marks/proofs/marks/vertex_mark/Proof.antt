@@ -4,13 +4,13 @@ use Rattle.marks.specs.Half.{whole_of}
 use Rattle.marks.proofs.marks.vertex_mark.Statement.{statement}
 use Rattle.marks.proofs.marks.vertex_mark.Tie as tie
 
-returns : tie.Need-returns
-returns c = rw c.if1.true
+returns : tie.Need-returns-then-via
+returns c = rw c.if-via.true
 
-returns-2 : tie.Need-returns-2
+returns-2 : tie.Need-returns
 unfolding whole_of
-returns-2 c = rw c.before.if1.false
+returns-2 c = rw c.if-via.false
 
-pub vertex-mark-spec : {M : Type 1} → statement M
-vertex-mark-spec = tie.close
+pub vertex_mark_spec : {M : Type 1} → statement M
+vertex_mark_spec = tie.close
     (tie.spec returns (λ c. search rules) returns-2)

@@ -3,12 +3,12 @@ use borrow.Author.Tests.{eq-eqb, ne_eqb}
 use Rattle.pass_tables.proofs.ready.or_else.Statement.{statement}
 use Rattle.pass_tables.proofs.ready.or_else.Tie as tie
 
-returns : tie.Need-returns
-returns c = rw (eq-eqb c.before.args.w 2048 c.if1.true)
+returns : tie.Need-returns-then-w-eq-NONE
+returns c = rw (eq-eqb c.args.w 2048 c.if-w-eq-NONE.true)
 
-returns-2 : tie.Need-returns-2
-returns-2 c = rw (ne_eqb c.before.args.w 2048 c.if1.false)
+returns-2 : tie.Need-returns-else-w-eq-NONE
+returns-2 c = rw (ne_eqb c.args.w 2048 c.if-w-eq-NONE.false)
 
-pub or-else-spec : {M : Type 1} → statement M
-or-else-spec = tie.close
+pub or_else_spec : {M : Type 1} → statement M
+or_else_spec = tie.close
     (tie.spec returns returns-2)

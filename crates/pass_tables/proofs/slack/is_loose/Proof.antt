@@ -21,27 +21,27 @@ bw c = bits_back _ (c.requires.2.3 c.args.w)
 
 ruleset backs = (bv, bw)
 
-returns : tie.Need-returns
-returns c = let a = c.before.before.args in sym (loose_none a.doubled.now a.at.now a.v a.w a.to c.if1.true)
+returns : tie.Need-returns-then-w-to
+returns c = let a = c.args in sym (loose_none a.doubled.now a.at.now a.v a.w a.to c.if-w-to.true)
 
-too-near-requires : tie.Need-too-near-requires
-too-near-requires c κs = simp backs (omega (arith, c.before.before.before.before.before.requires.2.3 c.before.before.before.before.before.args.v, c.before.before.before.before.before.requires.2.3 c.before.before.before.before.before.args.w, c.before.before.span.ensures.1), omega (arith, c.before.before.span.ensures.1))
+too-near-requires : tie.Need-too_near-requires
+too-near-requires c κs = simp backs (omega (arith, c.requires.2.3 c.args.v, c.requires.2.3 c.args.w, c.span-d.ensures.1), omega (arith, c.span-d.ensures.1))
 
-returns-2 : tie.Need-returns-2
-returns-2 c = let a = c.before.before.before.before.before.before.before.args in
-    let near = sym (simp backs at c.before.too-near.ensures) ∙ c.if2.true in
-    loose-near a.doubled.now a.at.now a.v a.w a.to c.before.before.before.before.before.if1.false c.before.before.before.before.span.result c.before.before.before.before.span.ensures.0 near
+returns-2 : tie.Need-returns-then-too_near
+returns-2 c = let a = c.args in
+    let near = sym (simp backs at c.too_near.ensures) ∙ c.if-too_near.true in
+    loose-near a.doubled.now a.at.now a.v a.w a.to c.if-w-to.false c.span-d.result c.span-d.ensures.0 near
 
-too-near-requires-2 : tie.Need-too-near-requires-2
-too-near-requires-2 c κs = simp backs (omega (arith, c.before.before.before.before.before.before.before.before.before.requires.2.3 c.before.before.before.before.before.before.before.before.before.args.v, c.before.before.before.before.before.before.before.before.before.requires.2.3 c.before.before.before.before.before.before.before.before.before.args.w, c.before.before.before.before.before.before.span.ensures.1), omega (arith, c.before.before.before.before.before.before.span.ensures.1))
+too-near-requires-2 : tie.Need-too_near-requires-2
+too-near-requires-2 c κs = simp backs (omega (arith, c.requires.2.3 c.args.v, c.requires.2.3 c.args.w, c.span-d.ensures.1), omega (arith, c.span-d.ensures.1))
 
-returns-3 : tie.Need-returns-3
-returns-3 c = let a = c.before.before.before.before.before.before.before.before.before.before.args in
-    let far = sym (simp backs at c.before.before.before.before.too-near.ensures) ∙ c.before.before.before.if2.false in
-    ap not (simp backs at c.too-near2.ensures) ∙ loose-far a.doubled.now a.at.now a.v a.w a.to c.before.before.before.before.before.before.before.before.if1.false c.before.before.before.before.before.before.before.span.result c.before.before.before.before.before.before.before.span.ensures.0 far
+returns-3 : tie.Need-returns
+returns-3 c = let a = c.args in
+    let far = sym (simp backs at c.too_near.ensures) ∙ c.if-too_near.false in
+    ap not (simp backs at c.too_near-2.ensures) ∙ loose-far a.doubled.now a.at.now a.v a.w a.to c.if-w-to.false c.span-d.result c.span-d.ensures.0 far
 
-pub is-loose-spec : {M : Type 1} → statement M
-is-loose-spec =
+pub is_loose_spec : {M : Type 1} → statement M
+is_loose_spec =
     tie.close
     (tie.spec returns (λ c κs. search rules) (λ c. search rules) (λ c. search rules) (λ c. search rules) (λ c. search rules)
     too-near-requires returns-2 (λ c. search rules) (λ c. search rules) (λ c. search rules) (λ c. search rules)

@@ -5,13 +5,13 @@ use Rattle.picture_names.specs.Chars.{seen_more}
 use Rattle.picture_names.proofs.chars.after_ef.Statement.{statement}
 use Rattle.picture_names.proofs.chars.after_ef.Tie as tie
 
-returns : tie.Need-returns
+returns : tie.Need-returns-then-b-eq191
 unfolding seen_more
-returns c = rw (eq-eqb c.before.args.b 0xBF c.if1.true)
+returns c = rw (eq-eqb c.args.b 0xBF c.if-b-eq191.true)
 
-returns-2 : tie.Need-returns-2
+returns-2 : tie.Need-returns
 unfolding seen_more
-returns-2 c = rw (ne_eqb c.before.before.args.b 0xBF c.before.if1.false) c.ranged.ensures
+returns-2 c = rw (ne_eqb c.args.b 0xBF c.if-b-eq191.false) c.ranged.ensures
 
-pub after-ef-spec : {M : Type 1} → statement M
-after-ef-spec = tie.close (tie.spec returns (λ c κs. search rules) returns-2)
+pub after_ef_spec : {M : Type 1} → statement M
+after_ef_spec = tie.close (tie.spec returns (λ c κs. search rules) returns-2)

@@ -4,23 +4,23 @@ use Rattle.picture_names.specs.Chars.{begun_four}
 use Rattle.picture_names.proofs.chars.begun_four.Statement.{statement}
 use Rattle.picture_names.proofs.chars.begun_four.Tie as tie
 
-returns : tie.Need-returns
+returns : tie.Need-returns-then-b-le240
 unfolding begun_four
-returns c = rw (le-leb _ _ c.if1.true)
+returns c = rw (le-leb _ _ c.if-b-le240.true)
 
-returns-2 : tie.Need-returns-2
+returns-2 : tie.Need-returns-then-b-le243
 unfolding begun_four
-returns-2 c = rw (lt-leb _ _ c.before.if1.false, le-leb _ _ c.if2.true)
+returns-2 c = rw (lt-leb _ _ c.if-b-le240.false, le-leb _ _ c.if-b-le243.true)
 
-returns-3 : tie.Need-returns-3
+returns-3 : tie.Need-returns-then-b-le244
 unfolding begun_four
-returns-3 c = rw (lt-leb _ _ c.before.before.if1.false, lt-leb _ _ c.before.if2.false, le-leb _ _ c.if3.true)
+returns-3 c = rw (lt-leb _ _ c.if-b-le240.false, lt-leb _ _ c.if-b-le243.false, le-leb _ _ c.if-b-le244.true)
 
-returns-4 : tie.Need-returns-4
+returns-4 : tie.Need-returns
 unfolding begun_four
-returns-4 c = rw (lt-leb _ _ c.before.before.if1.false, lt-leb _ _ c.before.if2.false, lt-leb _ _ c.if3.false)
+returns-4 c = rw (lt-leb _ _ c.if-b-le240.false, lt-leb _ _ c.if-b-le243.false, lt-leb _ _ c.if-b-le244.false)
 
-pub begun-four-spec : {M : Type 1} → statement M
-begun-four-spec =
+pub begun_four_spec : {M : Type 1} → statement M
+begun_four_spec =
     tie.close
     (tie.spec returns returns-2 returns-3 returns-4)

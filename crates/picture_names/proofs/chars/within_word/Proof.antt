@@ -5,13 +5,13 @@ use Rattle.picture_names.specs.Chars.{seen_more}
 use Rattle.picture_names.proofs.chars.within_word.Statement.{statement}
 use Rattle.picture_names.proofs.chars.within_word.Tie as tie
 
-returns : tie.Need-returns
+returns : tie.Need-returns-then-b-eq32
 unfolding seen_more
-returns c = rw (eq-eqb c.before.args.b 32 c.if1.true)
+returns c = rw (eq-eqb c.args.b 32 c.if-b-eq32.true)
 
-returns-2 : tie.Need-returns-2
+returns-2 : tie.Need-returns
 unfolding seen_more
-returns-2 c = rw (ne_eqb c.before.before.args.b 32 c.before.if1.false) c.begun.ensures
+returns-2 c = rw (ne_eqb c.args.b 32 c.if-b-eq32.false) c.begun.ensures
 
-pub within-word-spec : {M : Type 1} → statement M
-within-word-spec = tie.close (tie.spec returns (λ c κs. search rules) returns-2)
+pub within_word_spec : {M : Type 1} → statement M
+within_word_spec = tie.close (tie.spec returns (λ c κs. search rules) returns-2)

@@ -8,28 +8,28 @@ use Rattle.picture_names.proofs.NameLaws.{says_none, says-not, says-name}
 use Rattle.picture_names.proofs.line.read_line.Statement.{statement}
 use Rattle.picture_names.proofs.line.read_line.Tie as tie
 
-returns : tie.Need-returns
-returns c = says_none c.before.before.number-then.ensures (not-true _ c.if1.true)
+returns : tie.Need-returns-then-not-n
+returns c = says_none c.number_then-n.ensures (not-true _ c.if-not-n.true)
 
-returns-2 : tie.Need-returns-2
+returns-2 : tie.Need-returns-then-not-is_name
 returns-2 c =
-    let c3 = c.before.before.before in
-    let c5 = c3.before.before in
-    let c8 = c5.before.before.before in
-    let n = c5.number-then in
-    says-not n.ensures (not-false _ c3.if1.false)
-    (ap is_name (sym (rest n.result.next c8.args.line.now)) ∙ sym c.before.is_name.ensures ∙ not-true _ c.if2.true)
+    let c3 = c in
+    let c5 = c3 in
+    let c8 = c5 in
+    let n = c5.number_then-n in
+    says-not n.ensures (not-false _ c3.if-not-n.false)
+    (ap is_name (sym (rest n.result.next c8.args.line.now)) ∙ sym c.is_name.ensures ∙ not-true _ c.if-not-is_name.true-raw)
 
-returns-3 : tie.Need-returns-3
+returns-3 : tie.Need-returns
 returns-3 c =
-    let c3 = c.before.before.before in
-    let c5 = c3.before.before in
-    let c8 = c5.before.before.before in
-    let n = c5.number-then in
-    says-name n.ensures (not-false _ c3.if1.false)
-    (ap is_name (sym (rest n.result.next c8.args.line.now)) ∙ sym c.before.is_name.ensures ∙ not-false _ c.if2.false)
+    let c3 = c in
+    let c5 = c3 in
+    let c8 = c5 in
+    let n = c5.number_then-n in
+    says-name n.ensures (not-false _ c3.if-not-n.false)
+    (ap is_name (sym (rest n.result.next c8.args.line.now)) ∙ sym c.is_name.ensures ∙ not-false _ c.if-not-is_name.false-raw)
 
-pub read-line-spec : {M : Type 1} → statement M
-read-line-spec =
+pub read_line_spec : {M : Type 1} → statement M
+read_line_spec =
     tie.close
-    (tie.spec (λ c. search rules) (λ c κs. search rules) returns (λ c. search rules) (λ c. search rules) (λ c. search rules) (λ c κs. search rules) returns-2 returns-3)
+    (tie.spec (λ c κs. search rules) returns (λ c. search rules) (λ c. search rules) (λ c. search rules) (λ c κs. search rules) returns-2 returns-3)

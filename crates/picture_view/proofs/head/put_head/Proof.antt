@@ -64,7 +64,7 @@ put-across-requires c κs =
     let a = s.args in
     rw (left_is c1) (
       omega (arith, s.requires.0.left, s.requires.0.measure, dif a.lo (pos a.measure)),
-      room_after ((bytes "<svg xmlns=\"http://www.w3.org/2000/svg\" version=\"1.1\" class=\"drawing\" view_box=\"") ++ (across (view_left a.lo a.measure)))
+      room_after ((bytes "<svg xmlns=\"http://www.w3.org/2000/svg\" version=\"1.1\" class=\"drawing\" viewBox=\"") ++ (across (view_left a.lo a.measure)))
           (head_of a.lo a.hi a.measure a.height)
           (wrote_none a.out.now a.at) s.requires.1 (simp length-append (omega arith)),
     )

@@ -12,39 +12,39 @@ use Rattle.plan_checks.proofs.SegmentLaws.{every-on, every-stop, every-end, chec
 use Rattle.plan_checks.proofs.checks.check_ends.Statement.{statement}
 use Rattle.plan_checks.proofs.checks.check_ends.Tie as tie
 
-abbrev invariant-loop : tie.invariant-loop
+abbrev invariant-loop : tie.invariant-loop-i
 invariant-loop level uppers lowers i₀ i = (i ≤ length uppers) × (every (one_down level) (after uppers lowers i) ≡ every (one_down level) (after uppers lowers 0))
 
-abbrev decreases-loop : tie.decreases-loop
+abbrev decreases-loop : tie.decreases-loop-i
 decreases-loop level uppers lowers i₀ i = length uppers - i
 
-loop-holds : tie.Need-loop-init invariant-loop decreases-loop
+loop-holds : tie.Need-loop-i-init invariant-loop decreases-loop
 loop-holds c = (omega arith, refl)
 
-returns : tie.Need-returns invariant-loop decreases-loop
+returns : tie.Need-returns-then-not-one_down invariant-loop decreases-loop
 returns c =
-    let s = c.before.before.before.before.before.before.before.before.before in
-    let l = c.before.before.before.before.before.loop in
-    let stop = sym c.before.one_down.ensures ∙ not-true _ c.if1.true in
+    let s = c in
+    let l = c.loop-i in
+    let stop = sym c.one_down.ensures ∙ not-true _ c.if-not-one_down.true-raw in
     let none = every-stop (one_down s.args.level.now) s.args.uppers.now s.args.lowers.now l.i s.requires (omega arith) stop in
     λ sizes vias w e. sym none ∙ l.invariant.1 ∙ sym (check3-same sizes vias s.args.level.now w e s.args.uppers.now s.args.lowers.now)
 
-loop-again : tie.Need-loop-preserved invariant-loop decreases-loop
+loop-again : tie.Need-loop-i-preserved invariant-loop decreases-loop
 loop-again c =
-    let s = c.before.before.before.before.before.before.before.before.before in
-    let l = c.before.before.before.before.before.loop in
-    let on = sym c.before.one_down.ensures ∙ not-false _ c.if1.false in
+    let s = c in
+    let l = c.loop-i in
+    let on = sym c.one_down.ensures ∙ not-false _ c.if-not-one_down.false-raw in
     (omega arith, sym (every-on (one_down s.args.level.now) s.args.uppers.now s.args.lowers.now l.i s.requires (omega arith) on) ∙ l.invariant.1)
 
-returns-2 : tie.Need-returns-2 invariant-loop decreases-loop
+returns-2 : tie.Need-returns invariant-loop decreases-loop
 returns-2 c =
-    let s = c.before.before.before.before.before in
-    let l = c.before.loop in
+    let s = c in
+    let l = c.loop-i in
     let all = every-end (one_down s.args.level.now) s.args.uppers.now s.args.lowers.now l.i (omega arith) in
     λ sizes vias w e. sym all ∙ l.invariant.1 ∙ sym (check3-same sizes vias s.args.level.now w e s.args.uppers.now s.args.lowers.now)
 
-pub check-ends-spec : {M : Type 1} → statement M
-check-ends-spec =
+pub check_ends_spec : {M : Type 1} → statement M
+check_ends_spec =
     tie.close
     (tie.spec invariant-loop decreases-loop loop-holds (λ c. search rules) (λ c. search rules) (λ c. search rules) (λ c. search rules)
     (λ c κs. search rules) returns (λ c. search rules) (λ c. search rules) loop-again returns-2)

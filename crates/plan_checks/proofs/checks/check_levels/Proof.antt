@@ -8,27 +8,27 @@ use lib.Seq.{length-take-le, take_at}
 use Rattle.plan_checks.proofs.checks.check_levels.Statement.{statement}
 use Rattle.plan_checks.proofs.checks.check_levels.Tie as tie
 
-slice-aggregate-levels : tie.Need-slice-aggregate-levels
-slice-aggregate-levels c = sym (length-take-le _ _ c.before.before.before.before.before.requires.vertices)
+slice-aggregate-levels : tie.Need-slice_bounds-levels-end
+slice-aggregate-levels c = sym (length-take-le _ _ c.requires.vertices)
 
 -- what `levels` wrote is as long as the vertices
-long : (c : tie.After-levels) → length c.levels.new.1.0 ≡ length c.before.before.before.before.before.before.args.vias.now
-long c = c.levels.auto.1.0 ∙ length-take-le _ _ c.before.before.before.before.before.before.requires.vertices
+long : (c : tie.After-levels) → length c.levels.new.level ≡ length c.args.vias.now
+long c = c.levels.auto.level ∙ length-take-le _ _ c.requires.vertices
 
-array-share-prefix-level : tie.Need-array-share-prefix-level
+array-share-prefix-level : tie.Need-slice_bounds-level-end-2
 array-share-prefix-level c = rw length-append (omega (arith, long c.before))
 
-slice-aggregate-check-ends : tie.Need-slice-aggregate-check-ends
+slice-aggregate-check-ends : tie.Need-slice_bounds-check_ends-end
 slice-aggregate-check-ends c = rw (take_at _ _ _ (long c.before.before)) (sym (long c.before.before))
 
 returns : tie.Need-returns
 returns c =
-    let s = c.before.before.before.before.before.before.before.before.before in
-    let told = rw (take_at _ _ _ (long c.before.before.before)) at c.check-ends.ensures in
-    told s.args.sizes.now s.args.vias.now c.before.before.before.levels.ensures (sym (long c.before.before.before))
+    let s = c in
+    let told = rw (take_at _ _ _ (long c.before.before.before)) at c.check_ends.ensures in
+    told s.args.sizes.now s.args.vias.now c.levels.ensures (sym (long c.before.before.before))
 
-pub check-levels-spec : {M : Type 1} → statement M
-check-levels-spec =
+pub check_levels_spec : {M : Type 1} → statement M
+check_levels_spec =
     tie.close
     (tie.spec (λ c. search rules) slice-aggregate-levels (λ c κs. search rules) array-share-prefix-level
     slice-aggregate-check-ends (λ c κs. search rules) returns)

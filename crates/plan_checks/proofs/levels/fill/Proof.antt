@@ -9,22 +9,22 @@ use Rattle.plan.proofs.LevelLaws.{filled_none, filled_more}
 use Rattle.plan_checks.proofs.levels.fill.Statement.{statement}
 use Rattle.plan_checks.proofs.levels.fill.Tie as tie
 
-abbrev invariant-loop : tie.invariant-loop
+abbrev invariant-loop : tie.invariant-loop-v
 invariant-loop level₀ from to l v₀ level v = (length level ≡ length level₀) × (filled level v (to - v) l ≡ filled level₀ from (to - from) l)
 
-abbrev decreases-loop : tie.decreases-loop
+abbrev decreases-loop : tie.decreases-loop-v
 decreases-loop level₀ from to l v₀ level v = to - v
 
-loop-again : tie.Need-loop-preserved invariant-loop decreases-loop
+loop-again : tie.Need-loop-v-preserved invariant-loop decreases-loop
 loop-again c =
-    let a = c.before.before.args in
-    let l = c.before.loop in
+    let a = c.args in
+    let l = c.loop-v in
     (length-set l.level l.v a.l ∙ l.invariant.0, sym (filled_more l.level l.v (a.to - l.v) (a.to - (l.v + 1)) a.l (omega arith)) ∙ l.invariant.1)
 
 returns : tie.Need-returns invariant-loop decreases-loop
 returns c =
-    let a = c.before.before.args in
-    let l = c.before.loop in
+    let a = c.args in
+    let l = c.loop-v in
     sym (filled_none l.level l.v (a.to - l.v) a.l (omega arith)) ∙ l.invariant.1
 
 pub fill_spec : {M : Type 1} → statement M

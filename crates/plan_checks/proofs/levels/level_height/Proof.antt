@@ -8,13 +8,13 @@ use borrow.Author.Rules.{rules}
 use Rattle.plan_checks.proofs.levels.level_height.Statement.{statement}
 use Rattle.plan_checks.proofs.levels.level_height.Tie as tie
 
-mul-result : tie.Need-overflow-mul-result
+mul-result : tie.Need-overflow_mul-result
 mul-result c = let few : c.args.l - 1 ≤ 64 = omega arith in omega (arith, mul-le-mul_left c.args.spacing few)
 
 returns : tie.Need-returns
 unfolding height_of
 returns c = refl
 
-pub level-height-spec : {M : Type 1} → statement M
-level-height-spec = tie.close
+pub level_height_spec : {M : Type 1} → statement M
+level_height_spec = tie.close
     (tie.spec (λ c. search rules) (λ c. search rules) mul-result returns)

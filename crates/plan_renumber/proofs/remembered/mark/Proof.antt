@@ -11,51 +11,51 @@ use Rattle.plan_renumber.proofs.Marks.{mark-start, mark_on, mark-fails, new-belo
 use Rattle.plan_renumber.proofs.remembered.mark.Statement.{statement}
 use Rattle.plan_renumber.proofs.remembered.mark.Tie as tie
 
-abbrev invariant-loop : tie.invariant-loop
+abbrev invariant-loop : tie.invariant-loop-i
 invariant-loop level numbers seen₀ i₀ seen i = Marked level numbers seen i
 
-abbrev decreases-loop : tie.decreases-loop
+abbrev decreases-loop : tie.decreases-loop-i
 decreases-loop level numbers seen₀ i₀ seen i = length numbers - i
 
-loop-holds : tie.Need-loop-init invariant-loop decreases-loop
-loop-holds c = mark-start c.before.before.before.args.level.now c.before.before.before.args.numbers.now c.before.before.before.args.seen.now c.before.before.before.requires
+loop-holds : tie.Need-loop-i-init invariant-loop decreases-loop
+loop-holds c = mark-start c.args.level.now c.args.numbers.now c.args.seen.now c.requires
 
-mul-is-new : tie.Need-overflow-mul-is-new invariant-loop decreases-loop
-mul-is-new c = omega (arith, c.before.before.before.before.before.before.before.before.requires.levels, c.before.before.before.loop-test.true)
+mul-is-new : tie.Need-offset_bounds-level-i invariant-loop decreases-loop
+mul-is-new c = omega (arith, c.requires.levels, c.loop-i-test.true)
 
-shared-slice-read-is-new : tie.Need-shared-slice-read-is-new invariant-loop decreases-loop
-shared-slice-read-is-new c = omega (arith, c.before.before.before.before.before.before.before.before.before.requires.levels, c.before.before.before.before.loop-test.true)
+shared-slice-read-is-new : tie.Need-bounds-level-i invariant-loop decreases-loop
+shared-slice-read-is-new c = omega (arith, c.requires.levels, c.loop-i-test.true)
 
-is-new-requires : tie.Need-is-new-requires invariant-loop decreases-loop
-is-new-requires c κs = omega (arith, c.before.before.before.before.before.before.before.before.before.requires.levels, c.before.before.before.before.before.loop.invariant.long)
+is-new-requires : tie.Need-is_new-requires invariant-loop decreases-loop
+is-new-requires c κs = omega (arith, c.requires.levels, c.loop-i.invariant.long)
 
-same_length : tie.Need-same-length invariant-loop decreases-loop
-same_length c = c.before.before.before.before.before.before.before.loop.invariant.long ∙ sym c.before.before.before.before.before.before.before.before.before.before.before.requires.long
+same_length : tie.Need-shape_of-seen-then-not-is_new invariant-loop decreases-loop
+same_length c = c.loop-i.invariant.long ∙ sym c.requires.long
 
-returns : tie.Need-returns invariant-loop decreases-loop
+returns : tie.Need-returns-then-not-is_new invariant-loop decreases-loop
 returns c = record {
   new = λ e. absurd (false≢true e);
-  fails = λ e. mark-fails c.before.before.before.before.before.before.before.before.before.before.before.args.level.now c.before.before.before.before.before.before.before.before.before.before.before.args.numbers.now c.before.before.before.before.before.before.before.loop.seen c.before.before.before.before.before.before.before.loop.i c.before.before.before.before.before.before.before.loop.invariant c.before.before.before.before.before.before.loop-test.true c.before.before.before.before.before.before.before.before.before.before.before.requires.levels
-      (ap (is_new c.before.before.before.before.before.before.before.before.before.before.before.args.level.now c.before.before.before.before.before.before.before.loop.seen _) (sym c.before.before.before.before.wide.ensures) ∙ sym c.before.is-new.ensures ∙ not-true _ c.if1.true);
+  fails = λ e. mark-fails c.args.level.now c.args.numbers.now c.loop-i.seen c.loop-i.i c.loop-i.invariant c.loop-i-test.true c.requires.levels
+      (ap (is_new c.args.level.now c.loop-i.seen _) (sym c.wide-v.ensures) ∙ sym c.is_new.ensures ∙ not-true _ c.if-not-is_new.true-raw);
 }
 
-slice-write-seen : tie.Need-slice-write-seen invariant-loop decreases-loop
+slice-write-seen : tie.Need-bounds-seen-v invariant-loop decreases-loop
 slice-write-seen c =
-    let new = sym c.before.is-new.ensures ∙ not-false _ c.if1.false in
-    omega (arith, new-below c.before.before.before.before.before.before.before.before.before.before.before.args.level.now c.before.before.before.before.before.before.before.loop.seen _ _ new, c.before.before.before.before.before.before.before.before.before.before.before.requires.levels, c.before.before.before.before.before.before.before.loop.invariant.long)
+    let new = sym c.is_new.ensures ∙ not-false _ c.if-not-is_new.false-raw in
+    omega (arith, new-below c.args.level.now c.loop-i.seen _ _ new, c.requires.levels, c.loop-i.invariant.long)
 
-loop-again : tie.Need-loop-preserved invariant-loop decreases-loop
+loop-again : tie.Need-loop-i-preserved invariant-loop decreases-loop
 loop-again c =
-    let new = ap (is_new c.before.before.before.before.before.before.before.before.before.before.before.args.level.now c.before.before.before.before.before.before.before.loop.seen _) (sym c.before.before.before.before.wide.ensures) ∙ sym c.before.is-new.ensures ∙ not-false _ c.if1.false in
-    rw c.before.before.before.before.wide.ensures (mark_on c.before.before.before.before.before.before.before.before.before.before.before.args.level.now c.before.before.before.before.before.before.before.before.before.before.before.args.numbers.now c.before.before.before.before.before.before.before.loop.seen c.before.before.before.before.before.before.before.loop.i c.before.before.before.before.before.before.before.loop.invariant c.before.before.before.before.before.before.loop-test.true c.before.before.before.before.before.before.before.before.before.before.before.requires.levels new)
+    let new = ap (is_new c.args.level.now c.loop-i.seen _) (sym c.wide-v.ensures) ∙ sym c.is_new.ensures ∙ not-false _ c.if-not-is_new.false-raw in
+    rw c.wide-v.ensures (mark_on c.args.level.now c.args.numbers.now c.loop-i.seen c.loop-i.i c.loop-i.invariant c.loop-i-test.true c.requires.levels new)
 
-same-length-2 : tie.Need-same-length-2 invariant-loop decreases-loop
-same-length-2 c = c.before.loop.invariant.long ∙ sym c.before.before.before.before.before.requires.long
+same-length-2 : tie.Need-shape_of-seen invariant-loop decreases-loop
+same-length-2 c = c.loop-i.invariant.long ∙ sym c.requires.long
 
-returns-2 : tie.Need-returns-2 invariant-loop decreases-loop
+returns-2 : tie.Need-returns invariant-loop decreases-loop
 returns-2 c =
-    let e : c.before.loop.i ≡ length c.before.before.before.before.before.args.numbers.now = omega (arith, c.before.loop.invariant.within, c.loop-test.false) in
-    record { new = λ q. rw e at c.before.loop.invariant; fails = λ q. absurd (true≢false q) }
+    let e : c.loop-i.i ≡ length c.args.numbers.now = omega (arith, c.loop-i.invariant.within, c.loop-i-test.false) in
+    record { new = λ q. rw e at c.loop-i.invariant; fails = λ q. absurd (true≢false q) }
 
 pub mark_spec : {M : Type 1} → statement M
 mark_spec =

@@ -8,17 +8,17 @@ use Rattle.plan_renumber.proofs.Marks.{none-set}
 use Rattle.plan_renumber.proofs.remembered.own_numbers.Statement.{statement}
 use Rattle.plan_renumber.proofs.remembered.own_numbers.Tie as tie
 
-slice-aggregate-own-by : tie.Need-slice-aggregate-own-by
-slice-aggregate-own-by c = sym (length-take-le _ _ c.before.before.before.requires.vertices)
+slice-aggregate-own-by : tie.Need-slice_bounds-own_by-end
+slice-aggregate-own-by c = sym (length-take-le _ _ c.requires.vertices)
 
-slice-aggregate-own-by-2 : tie.Need-slice-aggregate-own-by-2
-slice-aggregate-own-by-2 c = sym (length-take-le _ _ c.before.before.before.before.requires.vertices)
+slice-aggregate-own-by-2 : tie.Need-slice_bounds-own_by-end-2
+slice-aggregate-own-by-2 c = sym (length-take-le _ _ c.requires.vertices)
 
-own-by-requires : tie.Need-own-by-requires
+own-by-requires : tie.Need-own_by-requires
 own-by-requires c κs =
-    (c.before.before.before.before.requires, record { levels = length-take-le _ _ c.before.before.before.before.requires.vertices; long = length-take-le _ _ c.before.before.before.before.requires.vertices; none = λ v. none-set (length c.before.before.before.before.args.numbers.now) max_vertices v })
+    (c.requires, record { levels = length-take-le _ _ c.requires.vertices; long = length-take-le _ _ c.requires.vertices; none = λ v. none-set (length c.args.numbers.now) max_vertices v })
 
-pub own-numbers-spec : {M : Type 1} → statement M
-own-numbers-spec =
+pub own_numbers_spec : {M : Type 1} → statement M
+own_numbers_spec =
     tie.close
     (tie.spec (λ c. search rules) slice-aggregate-own-by (λ c. search rules) slice-aggregate-own-by-2 own-by-requires (λ c. search rules))

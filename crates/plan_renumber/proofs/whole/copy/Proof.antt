@@ -7,20 +7,20 @@ use Rattle.plan_renumber.proofs.Loops.{Mapping, map-start, map_on, map-copy}
 use Rattle.plan_renumber.proofs.whole.copy.Statement.{statement}
 use Rattle.plan_renumber.proofs.whole.copy.Tie as tie
 
-abbrev invariant-loop : tie.invariant-loop
+abbrev invariant-loop : tie.invariant-loop-i
 invariant-loop xs out₀ i₀ out i = Mapping (λ x. x) xs out₀ out i
 
-abbrev decreases-loop : tie.decreases-loop
+abbrev decreases-loop : tie.decreases-loop-i
 decreases-loop xs out₀ i₀ out i = length xs - i
 
-loop-holds : tie.Need-loop-init invariant-loop decreases-loop
+loop-holds : tie.Need-loop-i-init invariant-loop decreases-loop
 loop-holds c = map-start (λ x. x) c.args.xs.now c.args.out.now
 
-loop-again : tie.Need-loop-preserved invariant-loop decreases-loop
-loop-again c = map_on (λ x. x) c.before.before.before.args.xs.now c.before.before.before.args.out.now c.before.before.loop.out c.before.before.loop.i 0 (get_or c.before.before.before.args.xs.now c.before.before.loop.i 0) c.before.before.before.requires c.before.before.loop.invariant c.before.loop-test.true refl
+loop-again : tie.Need-loop-i-preserved invariant-loop decreases-loop
+loop-again c = map_on (λ x. x) c.args.xs.now c.args.out.now c.loop-i.out c.loop-i.i 0 (get_or c.args.xs.now c.loop-i.i 0) c.requires c.loop-i.invariant c.loop-i-test.true refl
 
 returns : tie.Need-returns invariant-loop decreases-loop
-returns c = map-copy c.before.before.args.xs.now c.before.before.args.out.now c.before.loop.out c.before.loop.i c.before.before.requires c.before.loop.invariant c.loop-test.false
+returns c = map-copy c.args.xs.now c.args.out.now c.loop-i.out c.loop-i.i c.requires c.loop-i.invariant c.loop-i-test.false
 
 pub copy_spec : {M : Type 1} → statement M
 copy_spec =

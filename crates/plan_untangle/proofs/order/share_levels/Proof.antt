@@ -9,106 +9,106 @@ use Rattle.plan_untangle.proofs.Levels.{Rearranging, rearrange-start, level-smal
 use Rattle.plan_untangle.proofs.order.share_levels.Statement.{statement}
 use Rattle.plan_untangle.proofs.order.share_levels.Tie as tie
 
-abbrev invariant-loop : tie.invariant-loop
+abbrev invariant-loop : tie.invariant-loop-l
 invariant-loop sizes turn upper order₀ places₀ codes₀ first₀ l₀ order places codes first l = Rearranging sizes turn upper order₀ places₀ codes₀ order places codes first l
 
-abbrev decreases-loop : tie.decreases-loop
+abbrev decreases-loop : tie.decreases-loop-l
 decreases-loop sizes turn upper order₀ places₀ codes₀ first₀ l₀ order places codes first l = length sizes + 1 - l
 
-loop-holds : tie.Need-loop-init invariant-loop decreases-loop
+loop-holds : tie.Need-loop-l-init invariant-loop decreases-loop
 loop-holds c =
-    let args = c.before.before.before.before.before.before.args in
-    let pre = c.before.before.before.before.before.before.requires in
+    let args = c.args in
+    let pre = c.requires in
     rearrange-start args.sizes.now args.turn.now args.upper.now args.order.now args.places.now args.codes.now pre.0
 
-sub_wide : tie.Need-overflow-sub-wide invariant-loop decreases-loop
-sub_wide c = omega (arith, c.before.loop.invariant.low)
+sub_wide : tie.Need-overflow_sub-l invariant-loop decreases-loop
+sub_wide c = omega (arith, c.loop-l.invariant.low)
 
-mul_wide : tie.Need-overflow-mul-wide invariant-loop decreases-loop
-mul_wide c = omega (arith, c.before.loop.invariant.low, c.loop-test.true)
+mul_wide : tie.Need-offset_bounds-sizes-l invariant-loop decreases-loop
+mul_wide c = omega (arith, c.loop-l.invariant.low, c.loop-l-test.true)
 
-shared-slice-read-wide : tie.Need-shared-slice-read-wide invariant-loop decreases-loop
-shared-slice-read-wide c = omega (arith, c.before.before.loop.invariant.low, c.before.loop-test.true)
+shared-slice-read-wide : tie.Need-bounds-sizes-l invariant-loop decreases-loop
+shared-slice-read-wide c = omega (arith, c.loop-l.invariant.low, c.loop-l-test.true)
 
-add-first : tie.Need-overflow-add-first invariant-loop decreases-loop
+add-first : tie.Need-overflow_add-first invariant-loop decreases-loop
 add-first c =
-    let args = c.before.before.before.before.before.before.before.before.before.before.args in
-    let pre = c.before.before.before.before.before.before.before.before.before.before.requires in
-    let loop = c.before.before.before.loop in
-    let loop-test = c.before.before.loop-test in
-    let wide = c.wide in
+    let args = c.args in
+    let pre = c.requires in
+    let loop = c.loop-l in
+    let loop-test = c.loop-l-test in
+    let wide = c.wide-first in
     omega (arith, wide.ensures, level-small args.sizes.now args.turn.now args.upper.now args.order.now args.places.now args.codes.now pre.0 loop.order loop.places loop.codes loop.first loop.l loop.invariant)
 
-sub-wide-2 : tie.Need-overflow-sub-wide-2 invariant-loop decreases-loop
-sub-wide-2 c = omega (arith, c.before.before.before.loop.invariant.low)
+sub-wide-2 : tie.Need-overflow_sub-l-in-loop-l invariant-loop decreases-loop
+sub-wide-2 c = omega (arith, c.loop-l.invariant.low)
 
-mul-wide-2 : tie.Need-overflow-mul-wide-2 invariant-loop decreases-loop
-mul-wide-2 c = omega (arith, c.before.before.before.loop.invariant.low, c.before.before.loop-test.true)
+mul-wide-2 : tie.Need-offset_bounds-sizes-l-in-loop-l invariant-loop decreases-loop
+mul-wide-2 c = omega (arith, c.loop-l.invariant.low, c.loop-l-test.true)
 
-shared-slice-read-wide-2 : tie.Need-shared-slice-read-wide-2 invariant-loop decreases-loop
-shared-slice-read-wide-2 c = omega (arith, c.before.before.before.before.loop.invariant.low, c.before.before.before.loop-test.true)
+shared-slice-read-wide-2 : tie.Need-bounds-sizes-l-in-loop-l invariant-loop decreases-loop
+shared-slice-read-wide-2 c = omega (arith, c.loop-l.invariant.low, c.loop-l-test.true)
 
-add-end : tie.Need-overflow-add-end invariant-loop decreases-loop
+add-end : tie.Need-overflow_add-end invariant-loop decreases-loop
 add-end c =
-    let args = c.before.before.before.before.before.before.before.before.before.before.before.before.args in
-    let pre = c.before.before.before.before.before.before.before.before.before.before.before.before.requires in
-    let loop = c.before.before.before.before.before.loop in
-    let wide = c.before.before.wide in
-    let wide2 = c.wide2 in
+    let args = c.args in
+    let pre = c.requires in
+    let loop = c.loop-l in
+    let wide = c.wide-first in
+    let wide2 = c.wide in
     omega (arith, wide.ensures, wide2.ensures, level-small args.sizes.now args.turn.now args.upper.now args.order.now args.places.now args.codes.now pre.0 loop.order loop.places loop.codes loop.first loop.l loop.invariant)
 
-cast-share-level : tie.Need-overflow-cast-share-level invariant-loop decreases-loop
+cast-share-level : tie.Need-overflow_cast-l invariant-loop decreases-loop
 cast-share-level c =
-    let pre = c.before.before.before.before.before.before.before.before.before.before.before.before.requires in
-    omega (arith, c.before.before.before.before.loop-test.true, (limits pre.0.plan pre.0.tables.limits).levels_high, pre.0.tables.levels_are)
+    let pre = c.requires in
+    omega (arith, c.loop-l-test.true, (limits pre.0.plan pre.0.tables.limits).levels_high, pre.0.tables.levels_are)
 
-share-level-requires : tie.Need-share-level-requires invariant-loop decreases-loop
+share-level-requires : tie.Need-share_level-requires invariant-loop decreases-loop
 share-level-requires c κs =
-    let args = c.before.before.before.before.before.before.before.before.before.before.before.before.before.before.before.args in
-    let pre = c.before.before.before.before.before.before.before.before.before.before.before.before.before.before.before.requires in
-    let loop = c.before.before.before.before.before.before.before.before.loop in
-    let wide = c.before.before.before.before.before.wide in
-    let wide2 = c.before.before.before.wide2 in
+    let args = c.args in
+    let pre = c.requires in
+    let loop = c.loop-l in
+    let wide = c.wide-first in
+    let wide2 = c.wide in
     rearrange-sharable args.sizes.now args.turn.now args.upper.now args.order.now args.places.now args.codes.now pre.0 loop.order loop.places loop.codes loop.first loop.l loop.invariant _ _
     (ap (λ n. loop.first + n) wide.ensures) (ap (λ n. loop.first + wide.result + n) wide2.ensures) pre.1
 
-add-l : tie.Need-overflow-add-l invariant-loop decreases-loop
+add-l : tie.Need-overflow_add-l invariant-loop decreases-loop
 add-l c =
-    let pre = c.before.before.before.before.before.before.before.before.before.before.before.before.before.before.before.before.before.before.before.before.before.before.requires in
-    omega (arith, c.before.before.before.before.before.before.before.before.before.before.before.before.before.before.loop-test.true, (limits pre.0.plan pre.0.tables.limits).levels_high, pre.0.tables.levels_are)
+    let pre = c.requires in
+    omega (arith, c.loop-l-test.true, (limits pre.0.plan pre.0.tables.limits).levels_high, pre.0.tables.levels_are)
 
-loop-less : tie.Need-loop-smaller invariant-loop decreases-loop
-loop-less c = omega (arith, c.before.before.before.before.before.before.before.before.before.before.before.before.before.before.loop-test.true)
+loop-less : tie.Need-loop-l-smaller invariant-loop decreases-loop
+loop-less c = omega (arith, c.loop-l-test.true)
 
-loop-again : tie.Need-loop-preserved invariant-loop decreases-loop
+loop-again : tie.Need-loop-l-preserved invariant-loop decreases-loop
 loop-again c =
-    let args = c.before.before.before.before.before.before.before.before.before.before.before.before.before.before.before.before.before.before.before.before.before.before.args in
-    let pre = c.before.before.before.before.before.before.before.before.before.before.before.before.before.before.before.before.before.before.before.before.before.before.requires in
-    let loop = c.before.before.before.before.before.before.before.before.before.before.before.before.before.before.before.loop in
-    let loop-test = c.before.before.before.before.before.before.before.before.before.before.before.before.before.before.loop-test in
-    let wide = c.before.before.before.before.before.before.before.before.before.before.before.before.wide in
-    let share-level = c.before.before.before.before.before.before.share-level in
+    let args = c.args in
+    let pre = c.requires in
+    let loop = c.loop-l in
+    let loop-test = c.loop-l-test in
+    let wide = c.wide-first in
+    let share-level = c.share_level in
     rearrange-on args.sizes.now args.turn.now args.upper.now args.order.now args.places.now args.codes.now pre.0 loop.order loop.places loop.codes loop.first loop.l loop.invariant _ _ _ _ loop-test.true (ap (λ n. loop.first + n) wide.ensures)
-    share-level.auto.1.1.1.0 share-level.auto.1.1.1.1.1.1.0 share-level.auto.1.1.1.1.1.1.1.0 share-level.ensures
+    share-level.auto.order share-level.auto.places share-level.auto.codes share-level.ensures
 
-same_length : tie.Need-same-length invariant-loop decreases-loop
-same_length c = c.before.loop.invariant.order_long
+same_length : tie.Need-shape_of-order invariant-loop decreases-loop
+same_length c = c.loop-l.invariant.order_long
 
-same-length-2 : tie.Need-same-length-2 invariant-loop decreases-loop
-same-length-2 c = c.before.loop.invariant.places_long
+same-length-2 : tie.Need-shape_of-places invariant-loop decreases-loop
+same-length-2 c = c.loop-l.invariant.places_long
 
-same-length-3 : tie.Need-same-length-3 invariant-loop decreases-loop
-same-length-3 c = c.before.loop.invariant.codes_long
+same-length-3 : tie.Need-shape_of-codes invariant-loop decreases-loop
+same-length-3 c = c.loop-l.invariant.codes_long
 
 returns : tie.Need-returns invariant-loop decreases-loop
 returns c =
-    let args = c.before.before.before.before.before.before.before.before.args in
-    let pre = c.before.before.before.before.before.before.before.before.requires in
-    let loop = c.before.loop in
-    let loop-test = c.loop-test in
+    let args = c.args in
+    let pre = c.requires in
+    let loop = c.loop-l in
+    let loop-test = c.loop-l-test in
     rearrange-end args.sizes.now args.turn.now args.upper.now args.order.now args.places.now args.codes.now pre.0 loop.order loop.places loop.codes loop.first loop.l loop.invariant loop-test.false
 
-pub share-levels-spec : {M : Type 1} → statement M
-share-levels-spec =
+pub share_levels_spec : {M : Type 1} → statement M
+share_levels_spec =
     tie.close
     (tie.spec invariant-loop decreases-loop loop-holds sub_wide mul_wide shared-slice-read-wide (λ c κs. search rules) add-first sub-wide-2 mul-wide-2 shared-slice-read-wide-2 (λ c κs. search rules) add-end cast-share-level share-level-requires add-l loop-less loop-again same_length same-length-2 same-length-3 returns)

@@ -10,73 +10,73 @@ use Rattle.plan_untangle.proofs.Tables.{Ending, ending-start, ending-on, ending-
 use Rattle.plan_untangle.proofs.order.upper_ends.Statement.{statement}
 use Rattle.plan_untangle.proofs.order.upper_ends.Tie as tie
 
-abbrev invariant-loop : tie.invariant-loop
+abbrev invariant-loop : tie.invariant-loop-i
 invariant-loop uppers lowers upper₀ i₀ upper i = Ending (segments_from uppers lowers) upper₀ upper i
 
-abbrev decreases-loop : tie.decreases-loop
+abbrev decreases-loop : tie.decreases-loop-i
 decreases-loop uppers lowers upper₀ i₀ upper i = i
 
-loop-holds : tie.Need-loop-init invariant-loop decreases-loop
+loop-holds : tie.Need-loop-i-init invariant-loop decreases-loop
 loop-holds c = ending-start c.args.uppers.now c.args.lowers.now c.args.upper.now c.requires
 
-mul-v : tie.Need-overflow-mul-v invariant-loop decreases-loop
-mul-v c = omega (arith, c.before.loop.invariant.within, segments-count c.before.before.args.uppers.now c.before.before.args.lowers.now (sym c.before.before.requires.ends), c.before.before.requires.ends, c.loop-test.true)
+mul-v : tie.Need-offset_bounds-lowers-i invariant-loop decreases-loop
+mul-v c = omega (arith, c.loop-i.invariant.within, segments-count c.args.uppers.now c.args.lowers.now (sym c.requires.ends), c.requires.ends, c.loop-i-test.true)
 
-shared-slice-read-v : tie.Need-shared-slice-read-v invariant-loop decreases-loop
-shared-slice-read-v c = omega (arith, c.before.before.loop.invariant.within, segments-count c.before.before.before.args.uppers.now c.before.before.before.args.lowers.now (sym c.before.before.before.requires.ends), c.before.before.before.requires.ends, c.before.loop-test.true)
+shared-slice-read-v : tie.Need-bounds-lowers-i invariant-loop decreases-loop
+shared-slice-read-v c = omega (arith, c.loop-i.invariant.within, segments-count c.args.uppers.now c.args.lowers.now (sym c.requires.ends), c.requires.ends, c.loop-i-test.true)
 
-cast-v : tie.Need-overflow-cast-v invariant-loop decreases-loop
-cast-v c = omega (arith, c.shared-slice-known.given (c.before.before.loop.i - 1))
+cast-v : tie.Need-overflow_cast-v invariant-loop decreases-loop
+cast-v c = omega (arith, c.shared_slice_known-1.given (c.loop-i.i - 1))
 
-mul-upper : tie.Need-overflow-mul-upper invariant-loop decreases-loop
-mul-upper c = omega (arith, c.before.before.loop.invariant.within, segments-count c.before.before.before.args.uppers.now c.before.before.before.args.lowers.now (sym c.before.before.before.requires.ends), c.before.before.before.requires.ends, c.before.loop-test.true)
+mul-upper : tie.Need-offset_bounds-uppers-i invariant-loop decreases-loop
+mul-upper c = omega (arith, c.loop-i.invariant.within, segments-count c.args.uppers.now c.args.lowers.now (sym c.requires.ends), c.requires.ends, c.loop-i-test.true)
 
-shared-slice-read-upper : tie.Need-shared-slice-read-upper invariant-loop decreases-loop
-shared-slice-read-upper c = omega (arith, c.before.before.before.loop.invariant.within, segments-count c.before.before.before.before.args.uppers.now c.before.before.before.before.args.lowers.now (sym c.before.before.before.before.requires.ends), c.before.before.before.before.requires.ends, c.before.before.loop-test.true)
+shared-slice-read-upper : tie.Need-bounds-uppers-i invariant-loop decreases-loop
+shared-slice-read-upper c = omega (arith, c.loop-i.invariant.within, segments-count c.args.uppers.now c.args.lowers.now (sym c.requires.ends), c.requires.ends, c.loop-i-test.true)
 
-cast-upper : tie.Need-overflow-cast-upper invariant-loop decreases-loop
+cast-upper : tie.Need-overflow_cast-upper invariant-loop decreases-loop
 cast-upper c =
-    let pre = c.before.before.before.before.requires in
-    let loop = c.before.before.before.loop in
-    let args = c.before.before.before.before.args in
-    let loop-test = c.before.before.loop-test in
+    let pre = c.requires in
+    let loop = c.loop-i in
+    let args = c.args in
+    let loop-test = c.loop-i-test in
     omega (arith, pre.upper_ends (loop.i - 1) (omega (arith, loop.invariant.within, segments-count args.uppers.now args.lowers.now (sym pre.ends), loop-test.true)), pre.few)
 
-mul-upper-2 : tie.Need-overflow-mul-upper-2 invariant-loop decreases-loop
+mul-upper-2 : tie.Need-offset_bounds-upper-v invariant-loop decreases-loop
 mul-upper-2 c =
-    let pre = c.before.before.before.before.requires in
-    let loop = c.before.before.before.loop in
-    let args = c.before.before.before.before.args in
-    let loop-test = c.before.before.loop-test in
+    let pre = c.requires in
+    let loop = c.loop-i in
+    let args = c.args in
+    let loop-test = c.loop-i-test in
     omega (arith, pre.lower_ends (loop.i - 1) (omega (arith, loop.invariant.within, segments-count args.uppers.now args.lowers.now (sym pre.ends), pre.ends, loop-test.true)), loop.invariant.long)
 
-slice-write-upper : tie.Need-slice-write-upper invariant-loop decreases-loop
+slice-write-upper : tie.Need-bounds-upper-v invariant-loop decreases-loop
 slice-write-upper c =
-    let pre = c.before.before.before.before.requires in
-    let loop = c.before.before.before.loop in
-    let args = c.before.before.before.before.args in
-    let loop-test = c.before.before.loop-test in
+    let pre = c.requires in
+    let loop = c.loop-i in
+    let args = c.args in
+    let loop-test = c.loop-i-test in
     omega (arith, pre.lower_ends (loop.i - 1) (omega (arith, loop.invariant.within, segments-count args.uppers.now args.lowers.now (sym pre.ends), pre.ends, loop-test.true)), loop.invariant.long)
 
-loop-again : tie.Need-loop-preserved invariant-loop decreases-loop
+loop-again : tie.Need-loop-i-preserved invariant-loop decreases-loop
 loop-again c =
-    let pre = c.before.before.before.before.requires in
-    let loop = c.before.before.before.loop in
-    let loop-test = c.before.before.loop-test in
-    let a = c.before.before.before.before.args in
+    let pre = c.requires in
+    let loop = c.loop-i in
+    let loop-test = c.loop-i-test in
+    let a = c.args in
     let g = pre in
     let i = loop.i - 1 in
     let e : loop.i ≡ i + 1 = omega (arith, loop-test.true) in
     let h : i < length a.uppers.now = omega (arith, loop.invariant.within, segments-count a.uppers.now a.lowers.now (sym g.ends), loop-test.true) in
     ending-on a.uppers.now a.lowers.now a.upper.now loop.upper i g.ends (rw e at loop.invariant) h (g.lower_ends i (omega (arith, g.ends)))
 
-same_length : tie.Need-same-length invariant-loop decreases-loop
-same_length c = c.before.loop.invariant.long
+same_length : tie.Need-shape_of-upper invariant-loop decreases-loop
+same_length c = c.loop-i.invariant.long
 
 returns : tie.Need-returns invariant-loop decreases-loop
-returns c = ending-end c.before.before.args.uppers.now c.before.before.args.lowers.now c.before.before.args.upper.now c.before.loop.upper c.before.loop.i c.before.loop.invariant (omega (arith, c.loop-test.false))
+returns c = ending-end c.args.uppers.now c.args.lowers.now c.args.upper.now c.loop-i.upper c.loop-i.i c.loop-i.invariant (omega (arith, c.loop-i-test.false))
 
-pub upper-ends-spec : {M : Type 1} → statement M
-upper-ends-spec =
+pub upper_ends_spec : {M : Type 1} → statement M
+upper_ends_spec =
     tie.close
     (tie.spec invariant-loop decreases-loop loop-holds (λ c. search rules) mul-v shared-slice-read-v cast-v mul-upper shared-slice-read-upper cast-upper mul-upper-2 slice-write-upper (λ c. search rules) loop-again same_length returns)

@@ -10,44 +10,44 @@ use Rattle.script_forms.proofs.FormLaws.{first-here, first-none, first_on}
 use Rattle.script_forms.proofs.forms.first_form.Statement.{statement}
 use Rattle.script_forms.proofs.forms.first_form.Tie as tie
 
-abbrev invariant-loop : tie.invariant-loop
+abbrev invariant-loop : tie.invariant-loop-from
 invariant-loop forms line from₀ k₀ from k =
     (from ≤ length forms) × (k ≤ from) × (k + first_form (parts 10 (drop from forms)) line ≡ first_form (parts 10 forms) line)
 
-abbrev decreases-loop : tie.decreases-loop
+abbrev decreases-loop : tie.decreases-loop-from
 decreases-loop forms line from₀ k₀ from k = length forms - from
 
-loop-holds : tie.Need-loop-init invariant-loop decreases-loop
+loop-holds : tie.Need-loop-from-init invariant-loop decreases-loop
 loop-holds c = (omega arith, omega arith, omega arith)
 
-returns : tie.Need-returns invariant-loop decreases-loop
+returns : tie.Need-returns-then-has_form invariant-loop decreases-loop
 returns c =
-    let c7 = c.before.before.before.before.before.before.before in
-    let a = c7.args in let l = c.before.before.before.before.loop in let e = c.before.before.before.end_of_lem in
-    let q = first-here a.forms.now a.line.now l.from e.result e.ensures (sym c.before.has-form.ensures ∙ c.if1.true) in
+    let c7 = c in
+    let a = c7.args in let l = c.loop-from in let e = c.end_of-end in
+    let q = first-here a.forms.now a.line.now l.from e.result e.ensures (sym c.has_form.ensures ∙ c.if-has_form.true) in
     omega (arith, q, l.invariant.2)
 
-returns-2 : tie.Need-returns-2 invariant-loop decreases-loop
+returns-2 : tie.Need-returns-then-end-forms invariant-loop decreases-loop
 returns-2 c =
-    let c8 = c.before.before.before.before.before.before.before.before in
-    let a = c8.args in let l = c.before.before.before.before.before.loop in let e = c.before.before.before.before.end_of_lem in
+    let c8 = c in
+    let a = c8.args in let l = c.loop-from in let e = c.end_of-end in
     let q = first-none a.forms.now a.line.now l.from e.result e.ensures
-    (sym c.before.before.has-form.ensures ∙ c.before.if1.false) c.if2.true in
+    (sym c.has_form.ensures ∙ c.if-has_form.false) c.if-end-forms.true in
     omega (arith, q, l.invariant.2)
 
-loop-less : tie.Need-loop-smaller invariant-loop decreases-loop
-loop-less c = omega (arith, c.before.before.before.before.end_of_lem.ensures.onward, c.if2.false)
+loop-less : tie.Need-loop-from-smaller invariant-loop decreases-loop
+loop-less c = omega (arith, c.end_of-end.ensures.onward, c.if-end-forms.false)
 
-loop-again : tie.Need-loop-preserved invariant-loop decreases-loop
+loop-again : tie.Need-loop-from-preserved invariant-loop decreases-loop
 loop-again c =
-    let c8 = c.before.before.before.before.before.before.before.before in
-    let a = c8.args in let l = c.before.before.before.before.before.loop in let e = c.before.before.before.before.end_of_lem in
+    let c8 = c in
+    let a = c8.args in let l = c.loop-from in let e = c.end_of-end in
     let q = first_on a.forms.now a.line.now l.from e.result e.ensures
-    (sym c.before.before.has-form.ensures ∙ c.before.if1.false) c.if2.false in
-    (omega (arith, c.if2.false), omega (arith, e.ensures.onward), omega (arith, q, l.invariant.2))
+    (sym c.has_form.ensures ∙ c.if-has_form.false) c.if-end-forms.false in
+    (omega (arith, c.if-end-forms.false), omega (arith, e.ensures.onward), omega (arith, q, l.invariant.2))
 
-pub first-form-spec : {M : Type 1} → statement M
-first-form-spec =
+pub first_form_spec : {M : Type 1} → statement M
+first_form_spec =
     tie.close
     (tie.spec invariant-loop decreases-loop loop-holds (λ c κs. search rules) (λ c. search rules) (λ c. search rules) (λ c. search rules) (λ c κs. search rules)
     returns (λ c. search rules) returns-2 (λ c. search rules) (λ c. search rules) loop-less loop-again)

@@ -7,10 +7,10 @@ use Rattle.script_forms.proofs.forms.signed_at.Statement.{statement}
 use Rattle.script_forms.proofs.forms.signed_at.Tie as tie
 
 returns : tie.Need-returns
-returns c = back' c.signed.result c.signed.type-inv ∙ c.signed.ensures
-    ∙ ap signed_of (c.before.number.ensures ∙ ap number_in c.before.before.word.ensures)
+returns c = back' c.signed.result c.signed.type_inv ∙ c.signed.ensures
+    ∙ ap signed_of (c.number.ensures ∙ ap number_in c.word.ensures)
 
-pub signed-at-spec : {M : Type 1} → statement M
-signed-at-spec =
+pub signed_at_spec : {M : Type 1} → statement M
+signed_at_spec =
     tie.close
     (tie.spec (λ c κs. search rules) (λ c κs. search rules) (λ c κs. search rules) returns)

@@ -6,9 +6,9 @@ use Rattle.script_forms.proofs.forms.whole_at.Statement.{statement}
 use Rattle.script_forms.proofs.forms.whole_at.Tie as tie
 
 returns : tie.Need-returns
-returns c = c.whole.ensures ∙ ap whole_of (c.before.number.ensures ∙ ap number_in c.before.before.word.ensures)
+returns c = c.whole.ensures ∙ ap whole_of (c.number.ensures ∙ ap number_in c.word.ensures)
 
-pub whole-at-spec : {M : Type 1} → statement M
-whole-at-spec =
+pub whole_at_spec : {M : Type 1} → statement M
+whole_at_spec =
     tie.close
     (tie.spec (λ c κs. search rules) (λ c κs. search rules) (λ c κs. search rules) returns)

@@ -5,13 +5,13 @@ use Rattle.script_words.proofs.Filling.{puts_one, puts_none}
 use Rattle.script_runs.proofs.lists.put_signed.Statement.{statement}
 use Rattle.script_runs.proofs.lists.put_signed.Tie as tie
 
-returns : tie.Need-returns
-returns c = let a = c.before.args in simp (back c.before.ranges.x) (puts_one a.x a.n a.out.now c.if1.true)
+returns : tie.Need-returns-then-n-out
+returns c = let a = c.args in simp (back c.ranges.x) (puts_one a.x a.n a.out.now c.if-n-out.true)
 
-returns-2 : tie.Need-returns-2
-returns-2 c = let a = c.before.args in puts_none a.x a.n a.out.now c.before.requires c.if1.false
+returns-2 : tie.Need-returns
+returns-2 c = let a = c.args in puts_none a.x a.n a.out.now c.requires c.if-n-out.false
 
-pub put-signed-spec : {M : Type 1} → statement M
-put-signed-spec =
+pub put_signed_spec : {M : Type 1} → statement M
+put_signed_spec =
     tie.close
     (tie.spec (λ c. search rules) (λ c. search rules) (λ c. search rules) (λ c. search rules) returns returns-2)

@@ -17,79 +17,79 @@ use Rattle.script_runs.proofs.ListLaws.{items-none, items-some, fill_on, fill-la
 use Rattle.script_runs.proofs.lists.signeds_in.Statement.{statement}
 use Rattle.script_runs.proofs.lists.signeds_in.Tie as tie
 
-abbrev invariant-loop : tie.invariant-loop
+abbrev invariant-loop : tie.invariant-loop-from
 invariant-loop word out₀ from₀ n₀ out from n =
     (from ≤ length word) × (n ≤ length out₀) × (length out ≡ length out₀)
     × (take (length out₀) (take n out ++ map (λ v. signed_of (number_in v)) (parts 44 (drop from word))) ≡ take (length out₀) (signeds_in word))
 
-abbrev decreases-loop : tie.decreases-loop
+abbrev decreases-loop : tie.decreases-loop-from
 decreases-loop word out₀ from₀ n₀ out from n = length word - from
 
-returns : tie.Need-returns invariant-loop decreases-loop
+returns : tie.Need-returns-then-word-eq0 invariant-loop decreases-loop
 unfolding signeds_in
-returns c = let a = c.before.before.args in record {
+returns c = let a = c.args in record {
   holds = sym
-      (rw (items-none a.word.now c.if1.true) (take-nil (length a.out.now)));
+      (rw (items-none a.word.now c.if-word-eq0.true) (take-nil (length a.out.now)));
   inside = omega arith;
 }
 
-loop-holds : tie.Need-loop-init invariant-loop decreases-loop
+loop-holds : tie.Need-loop-from-init invariant-loop decreases-loop
 unfolding signeds_in
 loop-holds c =
-    let a = c.before.before.args in (
+    let a = c.args in (
       omega arith,
       omega arith,
       refl,
       ap (λ ws. take (length a.out.now) (map (λ v. signed_of (number_in v)) ws))
-          (sym (items-some a.word.now c.if1.false)),
+          (sym (items-some a.word.now c.if-word-eq0.false)),
     )
 
 -- the number that was put
-number_put : (c : tie.After-put-signed invariant-loop decreases-loop)
-    → Puts (signed_of (number_in (between c.before.before.before.before.before.before.loop.from
-    c.before.before.before.before.before.end_of_lem.result
-    c.before.before.before.before.before.before.before.before.before.args.word.now)))
-    c.before.before.before.before.before.before.loop.n c.before.before.before.before.before.before.loop.out
-    c.put-signed.result c.put-signed.new.0
+number_put : (c : tie.After-put_signed-n invariant-loop decreases-loop)
+    → Puts (signed_of (number_in (between c.loop-from.from
+    c.end_of-to.result
+    c.args.word.now)))
+    c.loop-from.n c.loop-from.out
+    c.put_signed-n.result c.put_signed-n.new.out
 number_put c =
-    let c6 = c.before.before.before.before.before.before in
-    let l = c6.loop in
-    let q = back' c.before.signed.result c.before.signed.type-inv ∙ c.before.signed.ensures
-    ∙ ap signed_of c.before.before.number.ensures in
-    subst (λ (x : ℤ). Puts x l.n l.out c.put-signed.result c.put-signed.new.0) q c.put-signed.ensures
+    let c6 = c in
+    let l = c6.loop-from in
+    let q = back' c.signed.result c.signed.type_inv ∙ c.signed.ensures
+    ∙ ap signed_of c.number.ensures in
+    subst (λ (x : ℤ). Puts x l.n l.out c.put_signed-n.result c.put_signed-n.new.out) q c.put_signed-n.ensures
 
-returns-2 : tie.Need-returns-2 invariant-loop decreases-loop
+returns-2 : tie.Need-returns-then-to-word invariant-loop decreases-loop
 returns-2 c =
-    let c7 = c.before.before.before.before.before.before.before in
-    let c8 = c7.before in
-    let c11 = c8.before.before.before in
-    let a = c11.args in let l = c8.loop in let e = c7.end_of_lem in let p = c.before.before.put-signed in
+    let c7 = c in
+    let c8 = c7 in
+    let c11 = c8 in
+    let a = c11.args in let l = c8.loop-from in let e = c7.end_of-to in let p = c.put_signed-n in
     record {
       holds = fill-last a.word.now l.from e.result e.ensures (λ v. signed_of (number_in v)) l.n p.result (length a.out.now)
-          l.out p.new.0 l.invariant.2 (number_put c.before.before) c.if2.true ∙ l.invariant.3;
+          l.out p.new.out l.invariant.2 (number_put c.before.before) c.if-to-word.true ∙ l.invariant.3;
       inside = omega (arith, p.ensures.inside, l.invariant.2);
     }
 
-loop-less : tie.Need-loop-smaller invariant-loop decreases-loop
+loop-less : tie.Need-loop-from-smaller invariant-loop decreases-loop
 loop-less c =
-    let c7 = c.before.before.before.before.before.before.before in
-    omega (arith, c7.end_of_lem.ensures.onward, c.if2.false)
+    let c7 = c in
+    omega (arith, c7.end_of-to.ensures.onward, c.if-to-word.false)
 
-loop-again : tie.Need-loop-preserved invariant-loop decreases-loop
+loop-again : tie.Need-loop-from-preserved invariant-loop decreases-loop
 loop-again c =
-    let c7 = c.before.before.before.before.before.before.before in
-    let c8 = c7.before in
-    let c11 = c8.before.before.before in
-    let a = c11.args in let l = c8.loop in let e = c7.end_of_lem in let p = c.before.before.put-signed in (
-      omega (arith, c.if2.false),
+    let c7 = c in
+    let c8 = c7 in
+    let c11 = c8 in
+    let a = c11.args in let l = c8.loop-from in let e = c7.end_of-to in let p = c.put_signed-n in (
+      omega (arith, c.if-to-word.false),
       omega (arith, p.ensures.inside, l.invariant.2),
-      p.auto.0 ∙ l.invariant.2,
+      p.auto.out ∙ l.invariant.2,
       fill_on a.word.now l.from e.result e.ensures (λ v. signed_of (number_in v)) l.n p.result (length a.out.now) l.out
-          p.new.0 l.invariant.2 (number_put c.before.before) c.if2.false ∙ l.invariant.3,
+          p.new.out l.invariant.2 (number_put c.before.before) c.if-to-word.false ∙ l.invariant.3,
     )
 
-pub signeds-in-spec : {M : Type 1} → statement M
-signeds-in-spec =
+pub signeds_in_spec : {M : Type 1} → statement M
+signeds_in_spec =
     tie.close
     (tie.spec invariant-loop decreases-loop returns loop-holds (λ c κs. search rules) (λ c. search rules) (λ c. search rules) (λ c. search rules)
     (λ c κs. search rules) (λ c κs. search rules) (λ c κs. search rules) (λ c. search rules) returns-2 (λ c. search rules) loop-less loop-again)

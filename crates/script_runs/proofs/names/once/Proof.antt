@@ -9,13 +9,13 @@ use Rattle.script_runs.specs.Names.{value_before}
 use Rattle.script_runs.proofs.names.once.Statement.{statement}
 use Rattle.script_runs.proofs.names.once.Tie as tie
 
-returns : tie.Need-returns
-returns c = (sym (ap (λ g. length (value_before g [])) (has c.before.word_at.ensures c.if1.true)), omega arith)
+returns : tie.Need-returns-then-word_at
+returns c = (sym (ap (λ g. length (value_before g [])) (has c.word_at.ensures c.if-word_at.true)), omega arith)
 
-returns-2 : tie.Need-returns-2
-returns-2 c = (sym (ap (λ g. length (value_before g [])) (has-not c.before.word_at.ensures c.if1.false)), omega arith)
+returns-2 : tie.Need-returns
+returns-2 c = (sym (ap (λ g. length (value_before g [])) (has-not c.word_at.ensures c.if-word_at.false)), omega arith)
 
-pub once-spec : {M : Type 1} → statement M
-once-spec =
+pub once_spec : {M : Type 1} → statement M
+once_spec =
     tie.close
     (tie.spec (λ c κs. search rules) returns returns-2)

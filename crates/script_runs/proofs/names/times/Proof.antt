@@ -10,48 +10,48 @@ use Rattle.script_runs.proofs.NameLaws.{times-last, times-on}
 use Rattle.script_runs.proofs.names.times.Statement.{statement}
 use Rattle.script_runs.proofs.names.times.Tie as tie
 
-abbrev invariant-loop : tie.invariant-loop
+abbrev invariant-loop : tie.invariant-loop-from
 invariant-loop given name from₀ n₀ from n =
     (from ≤ length given) × (n ≤ from) × (n + times_of name (words (drop from given)) ≡ times_of name (words given))
 
-abbrev decreases-loop : tie.decreases-loop
+abbrev decreases-loop : tie.decreases-loop-from
 decreases-loop given name from₀ n₀ from n = length given - from
 
-loop-holds : tie.Need-loop-init invariant-loop decreases-loop
+loop-holds : tie.Need-loop-from-init invariant-loop decreases-loop
 loop-holds c = (omega arith, omega arith, omega arith)
 
-returns : tie.Need-returns invariant-loop decreases-loop
+returns : tie.Need-returns-then-to-given invariant-loop decreases-loop
 returns c =
-    let c7 = c.before.before.before.before.before.before.before in
-    let a = c7.args in let l = c.before.before.before.before.loop in let e = c.before.before.before.end_of_lem in
+    let c7 = c in
+    let a = c7.args in let l = c.loop-from in let e = c.end_of-to in
     omega (
       arith,
       l.invariant.2,
-      c.before.once.ensures.0,
+      c.once-n.ensures.0,
       times-last a.name.now a.given.now l.from e.result e.ensures
-          c.if1.true,
+          c.if-to-given.true,
     )
 
-loop-less : tie.Need-loop-smaller invariant-loop decreases-loop
-loop-less c = omega (arith, c.before.before.before.end_of_lem.ensures.onward, c.if1.false)
+loop-less : tie.Need-loop-from-smaller invariant-loop decreases-loop
+loop-less c = omega (arith, c.end_of-to.ensures.onward, c.if-to-given.false)
 
-loop-again : tie.Need-loop-preserved invariant-loop decreases-loop
+loop-again : tie.Need-loop-from-preserved invariant-loop decreases-loop
 loop-again c =
-    let c7 = c.before.before.before.before.before.before.before in
-    let a = c7.args in let l = c.before.before.before.before.loop in let e = c.before.before.before.end_of_lem in (
-      omega (arith, c.if1.false),
-      omega (arith, e.ensures.onward, c.before.once.ensures.1),
+    let c7 = c in
+    let a = c7.args in let l = c.loop-from in let e = c.end_of-to in (
+      omega (arith, c.if-to-given.false),
+      omega (arith, e.ensures.onward, c.once-n.ensures.1),
       omega (
         arith,
         l.invariant.2,
-        c.before.once.ensures.0,
+        c.once-n.ensures.0,
         times-on a.name.now a.given.now l.from e.result e.ensures
-            c.if1.false,
+            c.if-to-given.false,
       ),
     )
 
-pub times-spec : {M : Type 1} → statement M
-times-spec =
+pub times_spec : {M : Type 1} → statement M
+times_spec =
     tie.close
     (tie.spec invariant-loop decreases-loop loop-holds (λ c κs. search rules) (λ c. search rules) (λ c. search rules) (λ c. search rules) (λ c κs. search rules)
     (λ c. search rules) returns (λ c. search rules) loop-less loop-again)

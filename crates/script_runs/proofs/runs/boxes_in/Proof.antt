@@ -6,9 +6,9 @@ use Rattle.script_runs.proofs.runs.boxes_in.Statement.{statement}
 use Rattle.script_runs.proofs.runs.boxes_in.Tie as tie
 
 returns : tie.Need-returns
-returns c = c.whole.ensures ∙ ap whole_of (c.before.number.ensures ∙ ap number_in c.before.before.value.ensures)
+returns c = c.whole.ensures ∙ ap whole_of (c.number.ensures ∙ ap number_in c.value.ensures)
 
-pub boxes-in-spec : {M : Type 1} → statement M
-boxes-in-spec =
+pub boxes_in_spec : {M : Type 1} → statement M
+boxes_in_spec =
     tie.close
-    (tie.spec (λ c. search rules) (λ c κs. search rules) (λ c κs. search rules) (λ c κs. search rules) returns)
+    (tie.spec (λ c κs. search rules) (λ c κs. search rules) (λ c κs. search rules) returns)

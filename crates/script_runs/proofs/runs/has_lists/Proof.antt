@@ -8,69 +8,67 @@ use Rattle.script_runs.specs.Runs.{has_lists}
 use Rattle.script_runs.proofs.runs.has_lists.Statement.{statement}
 use Rattle.script_runs.proofs.runs.has_lists.Tie as tie
 
-returns : tie.Need-returns
+returns : tie.Need-returns-then-not-is_list
 unfolding has_lists
 returns c =
-    rw (sym (c.before.is-list.ensures ∙ ap (is_list Signed) c.before.before.value.ensures) ∙ not-true _ c.if1.true)
+    rw (sym (c.is_list.ensures ∙ ap (is_list Signed) c.value.ensures) ∙ not-true _ c.if-not-is_list.true-raw)
 
-returns-2 : tie.Need-returns-2
+returns-2 : tie.Need-returns-then-not-is_list-2
 unfolding has_lists
 returns-2 c =
-    let c6 = c.before.before.before.before.before.before in
+    let c6 = c in
     rw (
-      sym (c.before.before.before.before.before.is-list.ensures ∙ ap (is_list Signed) c6.value.ensures)
-          ∙ not-false _ c.before.before.before.before.if1.false,
+      sym (c.is_list.ensures ∙ ap (is_list Signed) c6.value.ensures)
+          ∙ not-false _ c.if-not-is_list.false-raw,
       sym
-          (c.before.is-list2.ensures ∙ ap (is_list Unsigned) c.before.before.value2.ensures) ∙ not-true _ c.if2.true,
+          (c.is_list-2.ensures ∙ ap (is_list Unsigned) c.value-2.ensures) ∙ not-true _ c.if-not-is_list-2.true-raw,
     )
 
-returns-3 : tie.Need-returns-3
+returns-3 : tie.Need-returns-then-not-is_list-3
 unfolding has_lists
 returns-3 c =
-    let c6 = c.before.before.before.before.before.before in
-    let c8 = c6.before.before in
-    let c9 = c8.before in
-    let c10 = c9.before in
+    let c6 = c in
+    let c8 = c6 in
+    let c9 = c8 in
+    let c10 = c9 in
     rw (
-      sym (c9.is-list.ensures ∙ ap (is_list Signed) c10.value.ensures)
-          ∙ not-false _ c8.if1.false,
-      sym (c.before.before.before.before.before.is-list2.ensures ∙ ap (is_list Unsigned) c6.value2.ensures)
-          ∙ not-false _ c.before.before.before.before.if2.false,
+      sym (c9.is_list.ensures ∙ ap (is_list Signed) c10.value.ensures)
+          ∙ not-false _ c8.if-not-is_list.false-raw,
+      sym (c.is_list-2.ensures ∙ ap (is_list Unsigned) c6.value-2.ensures)
+          ∙ not-false _ c.if-not-is_list-2.false-raw,
       sym
-          (c.before.is-list3.ensures ∙ ap (is_list Signed) c.before.before.value3.ensures) ∙ not-true _ c.if3.true,
+          (c.is_list-3.ensures ∙ ap (is_list Signed) c.value-3.ensures) ∙ not-true _ c.if-not-is_list-3.true-raw,
     )
 
-returns-4 : tie.Need-returns-4
+returns-4 : tie.Need-returns-then-not-is_list-4
 unfolding has_lists
 returns-4 c =
-    let c4 = c.before.before.before.before in
-    let c8 = c4.before.before.before.before in
-    let c12 = c8.before.before.before.before in
+    let c4 = c in
+    let c8 = c4 in
+    let c12 = c8 in
     rw (
-      sym (c12.before.is-list.ensures ∙ ap (is_list Signed) c12.before.before.value.ensures) ∙ not-false _ c12.if1.false,
-      sym (c8.before.is-list2.ensures ∙ ap (is_list Unsigned) c8.before.before.value2.ensures) ∙ not-false _ c8.if2.false,
-      sym (c4.before.is-list3.ensures ∙ ap (is_list Signed) c4.before.before.value3.ensures) ∙ not-false _ c4.if3.false,
-      sym (c.before.is-list4.ensures ∙ ap (is_list Any) c.before.before.value4.ensures) ∙ not-true _ c.if4.true,
+      sym (c12.is_list.ensures ∙ ap (is_list Signed) c12.value.ensures) ∙ not-false _ c12.if-not-is_list.false-raw,
+      sym (c8.is_list-2.ensures ∙ ap (is_list Unsigned) c8.value-2.ensures) ∙ not-false _ c8.if-not-is_list-2.false-raw,
+      sym (c4.is_list-3.ensures ∙ ap (is_list Signed) c4.value-3.ensures) ∙ not-false _ c4.if-not-is_list-3.false-raw,
+      sym (c.is_list-4.ensures ∙ ap (is_list Any) c.value-4.ensures) ∙ not-true _ c.if-not-is_list-4.true-raw,
     )
 
-returns-5 : tie.Need-returns-5
+returns-5 : tie.Need-returns
 unfolding has_lists
 returns-5 c =
-    let c3 = c.before.before.before in
-    let c7 = c3.before.before.before.before in
-    let c11 = c7.before.before.before.before in
-    let c15 = c11.before.before.before.before in
+    let c3 = c in
+    let c7 = c3 in
+    let c11 = c7 in
+    let c15 = c11 in
     rw (
-      sym (c15.before.is-list.ensures ∙ ap (is_list Signed) c15.before.before.value.ensures) ∙ not-false _ c15.if1.false,
-      sym (c11.before.is-list2.ensures ∙ ap (is_list Unsigned) c11.before.before.value2.ensures) ∙ not-false _ c11.if2.false,
-      sym (c7.before.is-list3.ensures ∙ ap (is_list Signed) c7.before.before.value3.ensures) ∙ not-false _ c7.if3.false,
-      sym (c3.before.is-list4.ensures ∙ ap (is_list Any) c3.before.before.value4.ensures) ∙ not-false _ c3.if4.false,
+      sym (c15.is_list.ensures ∙ ap (is_list Signed) c15.value.ensures) ∙ not-false _ c15.if-not-is_list.false-raw,
+      sym (c11.is_list-2.ensures ∙ ap (is_list Unsigned) c11.value-2.ensures) ∙ not-false _ c11.if-not-is_list-2.false-raw,
+      sym (c7.is_list-3.ensures ∙ ap (is_list Signed) c7.value-3.ensures) ∙ not-false _ c7.if-not-is_list-3.false-raw,
+      sym (c3.is_list-4.ensures ∙ ap (is_list Any) c3.value-4.ensures) ∙ not-false _ c3.if-not-is_list-4.false-raw,
     )
-    (c.is-list5.ensures ∙ ap (is_list Any) c.before.value5.ensures)
+    (c.is_list-5.ensures ∙ ap (is_list Any) c.value-5.ensures)
 
-pub has-lists-spec : {M : Type 1} → statement M
-has-lists-spec =
+pub has_lists_spec : {M : Type 1} → statement M
+has_lists_spec =
     tie.close
-    (tie.spec (λ c. search rules) (λ c κs. search rules) (λ c κs. search rules) returns (λ c. search rules) (λ c κs. search rules)
-    (λ c κs. search rules) returns-2 (λ c. search rules) (λ c κs. search rules) (λ c κs. search rules) returns-3 (λ c. search rules)
-    (λ c κs. search rules) (λ c κs. search rules) returns-4 (λ c. search rules) (λ c κs. search rules) (λ c κs. search rules) returns-5)
+    (tie.spec (λ c κs. search rules) (λ c κs. search rules) returns (λ c κs. search rules) (λ c κs. search rules) returns-2 (λ c κs. search rules) (λ c κs. search rules) returns-3 (λ c κs. search rules) (λ c κs. search rules) returns-4 (λ c κs. search rules) (λ c κs. search rules) returns-5)

@@ -8,7 +8,7 @@ use Rattle.script_runs.proofs.runs.is_once.Tie as tie
 returns : tie.Need-returns
 returns c = ap (λ n. eqb n 1) c.times.ensures
 
-pub is-once-spec : {M : Type 1} → statement M
-is-once-spec =
+pub is_once_spec : {M : Type 1} → statement M
+is_once_spec =
     tie.close
     (tie.spec (λ c κs. search rules) returns)

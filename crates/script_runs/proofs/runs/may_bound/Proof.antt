@@ -5,14 +5,14 @@ use Rattle.script_words.specs.Numbers.{number_in, is_signed}
 use Rattle.script_runs.proofs.runs.may_bound.Statement.{statement}
 use Rattle.script_runs.proofs.runs.may_bound.Tie as tie
 
-returns : tie.Need-returns
-returns c = rw (sym c.before.before.before.before.is-once.ensures ∙ c.before.before.before.if1.true)
-    (c.is_Signed.ensures ∙ ap is_signed (c.before.number.ensures ∙ ap number_in c.before.before.value.ensures))
+returns : tie.Need-returns-then-is_once
+returns c = rw (sym c.is_once.ensures ∙ c.if-is_once.true)
+    (c.is_signed.ensures ∙ ap is_signed (c.number.ensures ∙ ap number_in c.value.ensures))
 
-returns-2 : tie.Need-returns-2
-returns-2 c = rw (sym c.before.is-once.ensures ∙ c.if1.false)
+returns-2 : tie.Need-returns
+returns-2 c = rw (sym c.is_once.ensures ∙ c.if-is_once.false)
 
-pub may-bound-spec : {M : Type 1} → statement M
-may-bound-spec =
+pub may_bound_spec : {M : Type 1} → statement M
+may_bound_spec =
     tie.close
     (tie.spec (λ c κs. search rules) (λ c κs. search rules) (λ c κs. search rules) (λ c κs. search rules) returns returns-2)

@@ -5,15 +5,14 @@ use Rattle.script_words.specs.Numbers.{number_in, is_whole}
 use Rattle.script_runs.proofs.runs.may_room.Statement.{statement}
 use Rattle.script_runs.proofs.runs.may_room.Tie as tie
 
-returns : tie.Need-returns
-returns c = rw (sym c.before.before.before.before.before.is-once.ensures ∙ c.before.before.before.before.if1.true)
-    (c.is_whole.ensures ∙ ap is_whole (c.before.number.ensures ∙ ap number_in c.before.before.value.ensures))
+returns : tie.Need-returns-then-is_once
+returns c = rw (sym c.is_once.ensures ∙ c.if-is_once.true)
+    (c.is_whole.ensures ∙ ap is_whole (c.number.ensures ∙ ap number_in c.value.ensures))
 
-returns-2 : tie.Need-returns-2
-returns-2 c = rw (sym c.before.is-once.ensures ∙ c.if1.false)
+returns-2 : tie.Need-returns
+returns-2 c = rw (sym c.is_once.ensures ∙ c.if-is_once.false)
 
-pub may-room-spec : {M : Type 1} → statement M
-may-room-spec =
+pub may_room_spec : {M : Type 1} → statement M
+may_room_spec =
     tie.close
-    (tie.spec (λ c. search rules) (λ c κs. search rules) (λ c. search rules) (λ c κs. search rules) (λ c κs. search rules) (λ c κs. search rules)
-    returns returns-2)
+    (tie.spec (λ c κs. search rules) (λ c κs. search rules) (λ c κs. search rules) (λ c κs. search rules) returns returns-2)

@@ -9,24 +9,24 @@ use Rattle.script_texts.proofs.TextLaws.{byte-stands, plain_at, escape-at}
 use Rattle.script_texts.proofs.texts.unit_at.Statement.{statement}
 use Rattle.script_texts.proofs.texts.unit_at.Tie as tie
 
-returns : tie.Need-returns
+returns : tie.Need-returns-then-b-eq92
 returns c =
-    let a = c.before.before.before.before.args in
-    let e = c.escape-at.ensures in
+    let a = c.args in
+    let e = c.escape_at.ensures in
     record {
-      gives = escape-at a.s.now a.at c.before.before.before.before.requires c.before.if1.true
+      gives = escape-at a.s.now a.at c.requires c.if-b-eq92.true
           ∙ e.gives;
       onward = λ q. omega (arith, e.onward q);
       inside = e.inside;
     }
 
-returns-2 : tie.Need-returns-2
+returns-2 : tie.Need-returns
 returns-2 c =
-    let a = c.before.before.before.before.args in
+    let a = c.args in
     rw c.one.ensures (byte-stands unescaped a.s.now a.at (get_or a.s.now a.at 0) (a.at + 1)
-    (plain_at a.s.now a.at c.before.before.before.before.requires c.before.if1.false) (omega arith) (omega arith))
+    (plain_at a.s.now a.at c.requires c.if-b-eq92.false) (omega arith) (omega arith))
 
-pub unit-at-spec : {M : Type 1} → statement M
-unit-at-spec =
+pub unit_at_spec : {M : Type 1} → statement M
+unit_at_spec =
     tie.close
     (tie.spec (λ c. search rules) (λ c. search rules) (λ c κs. search rules) returns (λ c. search rules) (λ c κs. search rules) returns-2)

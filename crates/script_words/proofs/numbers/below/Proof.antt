@@ -18,13 +18,13 @@ fits : (n : ℕ) → 1 ≤ n → n ≤ 2 ^ 63 → SFits w64 (neg_ℤ (pos n))
 fits zero h k = absurd (omega arith)
 fits (suc n) h k = record { sfits = omega arith }
 
-sub-result : tie.Need-overflow-sub-result
+sub-result : tie.Need-overflow_sub-result
 sub-result c = let p = c.requires in rw (less c.args.n p.0 p.1) (fits c.args.n p.0 p.1)
 
 returns : tie.Need-returns
 returns c = let p = c.requires in rw (less c.args.n p.0 p.1) (back (fits c.args.n p.0 p.1))
 
-pub below-spec : {M : Type 1} → statement M
-below-spec =
+pub below_spec : {M : Type 1} → statement M
+below_spec =
     tie.close
     (tie.spec (λ c. search rules) (λ c. search rules) sub-result returns)

@@ -6,13 +6,13 @@ use Rattle.text.proofs.Numbers.{digit_low, digit-high}
 use Rattle.script_words.proofs.numbers.digit.Statement.{statement}
 use Rattle.script_words.proofs.numbers.digit.Tie as tie
 
-sub-result : tie.Need-overflow-sub-result
+sub-result : tie.Need-overflow_sub-result
 sub-result c = digit_low c.args.b c.requires
 
 returns : tie.Need-returns
 returns c = (refl, omega (arith, digit-high c.args.b c.requires))
 
-pub digit-spec : {M : Type 1} → statement M
-digit-spec =
+pub digit_spec : {M : Type 1} → statement M
+digit_spec =
     tie.close
     (tie.spec sub-result (λ c. search rules) returns)

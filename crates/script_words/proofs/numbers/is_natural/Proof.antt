@@ -6,21 +6,21 @@ use Rattle.script_words.proofs.NumberLaws.{natural-empty, natural-one, natural-z
 use Rattle.script_words.proofs.numbers.is_natural.Statement.{statement}
 use Rattle.script_words.proofs.numbers.is_natural.Tie as tie
 
-returns : tie.Need-returns
-returns c = sym (natural-empty c.before.before.args.word.now c.if1.true)
+returns : tie.Need-returns-then-word-eq0
+returns c = sym (natural-empty c.args.word.now c.if-word-eq0.true)
 
-returns-2 : tie.Need-returns-2
-returns-2 c = c.is_digit.ensures ∙ sym (natural-one c.before.before.before.before.before.args.word.now c.before.before.if2.true)
+returns-2 : tie.Need-returns-then-word-eq1
+returns-2 c = c.is_digit.ensures ∙ sym (natural-one c.args.word.now c.if-word-eq1.true)
 
-returns-3 : tie.Need-returns-3
-returns-3 c = sym (natural-zero c.before.before.before.before.before.args.word.now (omega arith) c.if3.true)
+returns-3 : tie.Need-returns-then-word-eq48
+returns-3 c = sym (natural-zero c.args.word.now (omega arith) c.if-word-eq48.true)
 
-returns-4 : tie.Need-returns-4
+returns-4 : tie.Need-returns
 returns-4 c =
-    let c6 = c.before.before.before.before.before.before in
-    c.all_digits.ensures ∙ sym (natural-digits c6.args.word.now (omega arith) c.before.if3.false)
+    let c6 = c in
+    c.all_digits.ensures ∙ sym (natural-digits c6.args.word.now (omega arith) c.if-word-eq48.false)
 
-pub is-natural-spec : {M : Type 1} → statement M
-is-natural-spec =
+pub is_natural_spec : {M : Type 1} → statement M
+is_natural_spec =
     tie.close
     (tie.spec returns (λ c. search rules) (λ c κs. search rules) returns-2 (λ c. search rules) returns-3 (λ c κs. search rules) returns-4)

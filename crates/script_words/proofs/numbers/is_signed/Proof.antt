@@ -5,10 +5,10 @@ use Rattle.script_words.specs.Numbers.{is_signed}
 use Rattle.script_words.proofs.numbers.is_signed.Statement.{statement}
 use Rattle.script_words.proofs.numbers.is_signed.Tie as tie
 
-returns : tie.Need-returns
-returns c = sym (ap is_signed c.before.n.given.1)
+returns : tie.Need-returns-in-Whole
+returns c = sym (ap is_signed c.in-Whole.is)
 
-pub is-signed-spec : {M : Type 1} → statement M
-is-signed-spec =
+pub is_signed_spec : {M : Type 1} → statement M
+is_signed_spec =
     tie.close
     (tie.spec (λ c. search rules) (λ c. search rules) (λ c. search rules) returns (λ c. search rules) (λ c. search rules))

@@ -6,17 +6,17 @@ use Rattle.script_words.proofs.NumberLaws.{natural-none, natural-some, natural-a
 use Rattle.script_words.proofs.numbers.natural.Statement.{statement}
 use Rattle.script_words.proofs.numbers.natural.Tie as tie
 
-returns : tie.Need-returns
-returns c = sym (natural-none c.before.before.before.args.word.now (sym c.before.is-natural.ensures ∙ not-true _ c.if1.true))
+returns : tie.Need-returns-then-not-is_natural
+returns c = sym (natural-none c.args.word.now (sym c.is_natural.ensures ∙ not-true _ c.if-not-is_natural.true-raw))
 
 value-requires : tie.Need-value-requires
-value-requires c κs = natural-all c.before.before.before.args.word.now (sym c.before.is-natural.ensures ∙ not-false _ c.if1.false)
+value-requires c κs = natural-all c.args.word.now (sym c.is_natural.ensures ∙ not-false _ c.if-not-is_natural.false-raw)
 
-returns-2 : tie.Need-returns-2
-returns-2 c = c.value.ensures ∙ sym (natural-some c.before.before.before.before.args.word.now
-    (sym c.before.before.is-natural.ensures ∙ not-false _ c.before.if1.false))
+returns-2 : tie.Need-returns
+returns-2 c = c.value.ensures ∙ sym (natural-some c.args.word.now
+    (sym c.is_natural.ensures ∙ not-false _ c.if-not-is_natural.false-raw))
 
-pub natural-spec : {M : Type 1} → statement M
-natural-spec =
+pub natural_spec : {M : Type 1} → statement M
+natural_spec =
     tie.close
     (tie.spec (λ c κs. search rules) returns value-requires returns-2)

@@ -7,20 +7,20 @@ use Rattle.script_words.proofs.NumberLaws.{negated-zero, negated-large, negated-
 use Rattle.script_words.proofs.numbers.negative.Statement.{statement}
 use Rattle.script_words.proofs.numbers.negative.Tie as tie
 
-returns : tie.Need-returns
-returns c = let n = c.before.before.n in sym (negated-zero _ n.given.0.0 n.given.1 c.if1.true)
+returns : tie.Need-returns-then-m-lt1
+returns c = let n = c.in-Whole in sym (negated-zero _ n.m n.is c.if-m-lt1.true)
 
-returns-2 : tie.Need-returns-2
-returns-2 c = let n = c.before.before.before.n in sym (negated-large _ n.given.0.0 n.given.1 c.if2.true)
+returns-2 : tie.Need-returns-then-m-gt9223372036854775808
+returns-2 c = let n = c.in-Whole in sym (negated-large _ n.m n.is c.if-m-gt9223372036854775808.true)
 
-returns-3 : tie.Need-returns-3
+returns-3 : tie.Need-returns-else-m-gt9223372036854775808
 returns-3 c =
-    let n = c.before.before.before.before.n in
-    ap Negative (back' c.below.result c.below.type-inv ∙ c.below.ensures)
-    ∙ sym (negated-is _ n.given.0.0 n.given.1 c.before.before.if1.false c.before.if2.false)
+    let n = c.in-Whole in
+    ap Negative (back' c.below.result c.below.type_inv ∙ c.below.ensures)
+    ∙ sym (negated-is _ n.m n.is c.if-m-lt1.false c.if-m-gt9223372036854775808.false)
 
-pub negative-spec : {M : Type 1} → statement M
-negative-spec =
+pub negative_spec : {M : Type 1} → statement M
+negative_spec =
     tie.close
     (tie.spec (λ c. search rules) returns returns-2 (λ c κs. search rules) (λ c. search rules) (λ c. search rules) returns-3 (λ c. search rules)
     (λ c. search rules))

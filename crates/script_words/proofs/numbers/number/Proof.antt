@@ -7,22 +7,22 @@ use Rattle.script_words.proofs.NumberLaws.{number-empty, number-minus, number-pl
 use Rattle.script_words.proofs.numbers.number.Statement.{statement}
 use Rattle.script_words.proofs.numbers.number.Tie as tie
 
-returns : tie.Need-returns
-returns c = sym (number-empty c.before.before.args.word.now c.if1.true)
+returns : tie.Need-returns-then-word-eq0
+returns c = sym (number-empty c.args.word.now c.if-word-eq0.true)
 
-returns-2 : tie.Need-returns-2
+returns-2 : tie.Need-returns-then-word-eq45
 returns-2 c =
-    let c7 = c.before.before.before.before.before.before.before in
+    let c7 = c in
     let w = c7.args.word.now in
-    c.negative.ensures ∙ ap negated (c.before.natural.ensures ∙ ap natural_in (rest 1 w))
-    ∙ sym (number-minus w c.before.before.before.before.before.if1.false c.before.before.before.if2.true)
+    c.negative.ensures ∙ ap negated (c.natural.ensures ∙ ap natural_in (rest 1 w))
+    ∙ sym (number-minus w c.if-word-eq0.false c.if-word-eq45.true)
 
-returns-3 : tie.Need-returns-3
-returns-3 c = c.natural2.ensures ∙ sym (number-plain c.before.before.before.before.before.args.word.now
-    c.before.before.before.if1.false c.before.if2.false)
+returns-3 : tie.Need-returns
+returns-3 c = c.natural-2.ensures ∙ sym (number-plain c.args.word.now
+    c.if-word-eq0.false c.if-word-eq45.false)
 
-pub number-spec : {M : Type 1} → statement M
-number-spec =
+pub number_spec : {M : Type 1} → statement M
+number_spec =
     tie.close
     (tie.spec returns (λ c. search rules) (λ c. search rules) (λ c. search rules) (λ c. search rules) (λ c κs. search rules) (λ c κs. search rules)
     returns-2 (λ c κs. search rules) returns-3)

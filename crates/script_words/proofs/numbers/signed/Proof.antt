@@ -7,21 +7,21 @@ use Rattle.script_words.proofs.NumberLaws.{signed-small, signed-large}
 use Rattle.script_words.proofs.numbers.signed.Statement.{statement}
 use Rattle.script_words.proofs.numbers.signed.Tie as tie
 
-returns : tie.Need-returns
+returns : tie.Need-returns-then-m-lt9223372036854775808
 returns c =
-    let n = c.before.before.n in
-    of-nat n.given.0.0 c.if1.true ∙ sym (signed-small _ n.given.0.0 n.given.1 c.if1.true)
+    let n = c.in-Whole in
+    of-nat n.m c.if-m-lt9223372036854775808.true ∙ sym (signed-small _ n.m n.is c.if-m-lt9223372036854775808.true)
 
-returns-2 : tie.Need-returns-2
-returns-2 c = let n = c.before.before.n in sym (signed-large _ n.given.0.0 n.given.1 c.if1.false)
+returns-2 : tie.Need-returns-else-m-lt9223372036854775808
+returns-2 c = let n = c.in-Whole in sym (signed-large _ n.m n.is c.if-m-lt9223372036854775808.false)
 
-returns-3 : tie.Need-returns-3
-returns-3 c = back' c.before.n2.given.0.0 c.known-told2.given.0.1 ∙ sym (ap signed_of c.before.n2.given.1)
+returns-3 : tie.Need-returns-in-Negative
+returns-3 c = back' c.in-Negative.z c.in-Negative.known_told-in-Negative-1-own.given.0.1 ∙ sym (ap signed_of c.in-Negative.is)
 
-returns-4 : tie.Need-returns-4
-returns-4 c = sym (ap signed_of c.enum_told.given.1)
+returns-4 : tie.Need-returns-in-Other
+returns-4 c = sym (ap signed_of c.in-Other.is)
 
-pub signed-spec : {M : Type 1} → statement M
-signed-spec =
+pub signed_spec : {M : Type 1} → statement M
+signed_spec =
     tie.close
     (tie.spec (λ c. search rules) (λ c. search rules) returns (λ c. search rules) (λ c. search rules) returns-2 returns-3 returns-4)

@@ -13,59 +13,59 @@ use Rattle.script_words.proofs.NumberLaws.{digits-on, digit_at, value_grows, val
 use Rattle.script_words.proofs.numbers.value.Statement.{statement}
 use Rattle.script_words.proofs.numbers.value.Tie as tie
 
-abbrev invariant-loop : tie.invariant-loop
+abbrev invariant-loop : tie.invariant-loop-i
 invariant-loop word n₀ i₀ n i =
     (i ≤ length word) × (n < 2 ^ 64) × (every is_digit (drop i word) ≡ true) × (value_from n (drop i word) ≡ value_from 0 word)
 
-abbrev decreases-loop : tie.decreases-loop
+abbrev decreases-loop : tie.decreases-loop-i
 decreases-loop word n₀ i₀ n i = length word - i
 
-loop-holds : tie.Need-loop-init invariant-loop decreases-loop
-loop-holds c = (omega arith, omega arith, c.before.requires, refl)
+loop-holds : tie.Need-loop-i-init invariant-loop decreases-loop
+loop-holds c = (omega arith, omega arith, c.requires, refl)
 
-digit-requires : tie.Need-digit-requires invariant-loop decreases-loop
-digit-requires c κs = let l = c.before.before.loop in digit_at c.before.before.before.before.args.word.now l.i
-    c.before.loop-test.true l.invariant.2
+digit-requires : tie.Need-digit-d-requires invariant-loop decreases-loop
+digit-requires c κs = let l = c.loop-i in digit_at c.args.word.now l.i
+    c.loop-i-test.true l.invariant.2
 
-returns : tie.Need-returns invariant-loop decreases-loop
+returns : tie.Need-returns-then-not-fits invariant-loop decreases-loop
 returns c =
-    let c7 = c.before.before.before.before.before.before.before in
+    let c7 = c in
     let w = c7.args.word.now in
-    let l = c.before.before.before.before.before.loop in
-    let d = c.before.before.digit in
+    let l = c.loop-i in
+    let d = c.digit-d in
     let v = l.n * 10 + (get_or w l.i 0 - 48) in
-    let q = ltb-false (l.n * 10 + d.result) (2 ^ 64) (sym c.before.fits2.ensures ∙ not-true _ c.if1.true) in
+    let q = ltb-false (l.n * 10 + d.result) (2 ^ 64) (sym c.fits.ensures ∙ not-true _ c.if-not-fits.true-raw) in
     let e : value_from 0 w ≡ value_from v (drop (l.i + 1) w) = sym l.invariant.3
-    ∙ value_on l.n w l.i c.before.before.before.before.loop-test.true in
+    ∙ value_on l.n w l.i c.loop-i-test.true in
     sym (whole-large (value_from 0 w) (omega (arith, d.ensures.0, e, value_grows v (drop (l.i + 1) w))))
 
 -- with the next digit it fits
-small : (c : tie.Else1 invariant-loop decreases-loop) → c.before.before.before.before.before.loop.n * 10 + c.before.before.digit.result < 2 ^ 64
-small c = ltb-true _ (2 ^ 64) (sym c.before.fits2.ensures ∙ not-false _ c.if1.false)
+small : (c : tie.Else-not-fits invariant-loop decreases-loop) → c.loop-i.n * 10 + c.digit-d.result < 2 ^ 64
+small c = ltb-true _ (2 ^ 64) (sym c.fits.ensures ∙ not-false _ c.if-not-fits.false-raw)
 
-mul-n : tie.Need-overflow-mul-n invariant-loop decreases-loop
+mul-n : tie.Need-overflow_mul-n invariant-loop decreases-loop
 mul-n c = omega (arith, small c)
 
-add-n : tie.Need-overflow-add-n invariant-loop decreases-loop
+add-n : tie.Need-overflow_add-n invariant-loop decreases-loop
 add-n c = omega (arith, small c)
 
-loop-again : tie.Need-loop-preserved invariant-loop decreases-loop
+loop-again : tie.Need-loop-i-preserved invariant-loop decreases-loop
 loop-again c =
-    let c7 = c.before.before.before.before.before.before.before in
+    let c7 = c in
     let w = c7.args.word.now in
-    let l = c.before.before.before.before.before.loop in
-    let k = c.before.before.before.before.loop-test.true in (
+    let l = c.loop-i in
+    let k = c.loop-i-test.true in (
       omega arith,
       small c,
       sym (digits-on w l.i k (digit_at w l.i k l.invariant.2)) ∙ l.invariant.2,
-      rw c.before.before.digit.ensures.0 (sym (value_on l.n w l.i k) ∙ l.invariant.3),
+      rw c.digit-d.ensures.0 (sym (value_on l.n w l.i k) ∙ l.invariant.3),
     )
 
-returns-2 : tie.Need-returns-2 invariant-loop decreases-loop
+returns-2 : tie.Need-returns invariant-loop decreases-loop
 returns-2 c =
-    let w = c.before.before.before.args.word.now in
-    let l = c.before.loop in
-    let e : l.n ≡ value_from 0 w = sym (value-end l.n w l.i c.loop-test.false) ∙ l.invariant.3 in
+    let w = c.args.word.now in
+    let l = c.loop-i in
+    let e : l.n ≡ value_from 0 w = sym (value-end l.n w l.i c.loop-i-test.false) ∙ l.invariant.3 in
     sym (ap whole_if (sym e) ∙ whole-small l.n l.invariant.1)
 
 pub value_spec : {M : Type 1} → statement M

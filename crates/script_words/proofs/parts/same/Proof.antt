@@ -9,36 +9,36 @@ use Rattle.script_words.proofs.PartLaws.{same-on, same_stop, same_end, same_leng
 use Rattle.script_words.proofs.parts.same.Statement.{statement}
 use Rattle.script_words.proofs.parts.same.Tie as tie
 
-abbrev invariant-loop : tie.invariant-loop
+abbrev invariant-loop : tie.invariant-loop-i
 invariant-loop a b i₀ i = (i ≤ length a) × (spec.same (drop i a) (drop i b) ≡ spec.same a b)
 
-abbrev decreases-loop : tie.decreases-loop
+abbrev decreases-loop : tie.decreases-loop-i
 decreases-loop a b i₀ i = length a - i
 
-returns : tie.Need-returns invariant-loop decreases-loop
-returns c = let a = c.before.args in sym (same_length a.a.now a.b.now c.if1.true)
+returns : tie.Need-returns-then-a-b invariant-loop decreases-loop
+returns c = let a = c.args in sym (same_length a.a.now a.b.now c.if-a-b.true)
 
-loop-holds : tie.Need-loop-init invariant-loop decreases-loop
+loop-holds : tie.Need-loop-i-init invariant-loop decreases-loop
 loop-holds c = (omega arith, refl)
 
-returns-2 : tie.Need-returns-2 invariant-loop decreases-loop
+returns-2 : tie.Need-returns-then-a-i invariant-loop decreases-loop
 returns-2 c =
-    let c6 = c.before.before.before.before.before.before in
+    let c6 = c in
     let a = c6.args in
-    let l = c.before.before.before.before.loop in
-    sym (same_stop a.a.now a.b.now l.i (omega arith) (omega arith) c.if2.true) ∙ l.invariant.1
+    let l = c.loop-i in
+    sym (same_stop a.a.now a.b.now l.i (omega arith) (omega arith) c.if-a-i.true) ∙ l.invariant.1
 
-loop-again : tie.Need-loop-preserved invariant-loop decreases-loop
+loop-again : tie.Need-loop-i-preserved invariant-loop decreases-loop
 loop-again c =
-    let c6 = c.before.before.before.before.before.before in
+    let c6 = c in
     let a = c6.args in
-    let l = c.before.before.before.before.loop in
-    (omega arith, sym (same-on a.a.now a.b.now l.i (omega arith) (omega arith) c.if2.false) ∙ l.invariant.1)
+    let l = c.loop-i in
+    (omega arith, sym (same-on a.a.now a.b.now l.i (omega arith) (omega arith) c.if-a-i.false) ∙ l.invariant.1)
 
-returns-3 : tie.Need-returns-3 invariant-loop decreases-loop
+returns-3 : tie.Need-returns invariant-loop decreases-loop
 returns-3 c =
-    let a = c.before.before.before.args in
-    let l = c.before.loop in
+    let a = c.args in
+    let l = c.loop-i in
     sym (same_end a.a.now a.b.now l.i (omega arith) (omega arith)) ∙ l.invariant.1
 
 pub same_spec : {M : Type 1} → statement M

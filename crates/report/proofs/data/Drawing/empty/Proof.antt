@@ -9,6 +9,6 @@ returns : tie.Need-returns
 unfolding arrays_of boxes_listed
 returns c = refl
 
-pub empty-spec : {M : Type 1} → statement M
-empty-spec = tie.close
+pub empty_spec : {M : Type 1} → statement M
+empty_spec = tie.close
     (tie.spec returns)
