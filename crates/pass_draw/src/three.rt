@@ -42,10 +42,10 @@ fn run_pass(
     apart: &mut [u64],
     marks: &mut [bool],
 )
-    ghost h: { Graph }
-    requires ratings_value { graph starts.now vias.now uppers.now lowers.now ratings.now ≡ h }
-    requires lent { Lent first.old ends.old sums.old × Some (TurnNext q h at.old apart.old marks.old) }
-    ensures { Leaves (TurnNext q h at.old apart.old marks.old)
+    requires { let h = graph starts.now vias.now uppers.now lowers.now ratings.now in
+        Lent first.old ends.old sums.old × Some (TurnNext q h at.old apart.old marks.old) }
+    ensures { let h = graph starts.now vias.now uppers.now lowers.now ratings.now in
+        Leaves (TurnNext q h at.old apart.old marks.old)
         (PassDone q at.new apart.new marks.new) }
 {
     let n = vias.len() + 1;
@@ -87,10 +87,10 @@ fn list_wanted(
     vertices: &mut [u16],
     positions: &mut [i64],
 ) -> Listed
-    ghost k: { Ending }
-    requires positions_value { ending vias.now had.now marks.now at.now (columns passes.old levels.old sizes.old vertices.old positions.old) ≡ k }
-    requires some { Wanted k.list → Some (PassEnding q list.placings list.boxes starts.now k) }
-    ensures { Wanted k.list → Leaves (PassEnding q list.placings list.boxes starts.now k) (PassListed q result.placings result.boxes k
+    requires { let k = ending vias.now had.now marks.now at.now (columns passes.old levels.old sizes.old vertices.old positions.old) in
+        Wanted k.list → Some (PassEnding q list.placings list.boxes starts.now k) }
+    ensures { let k = ending vias.now had.now marks.now at.now (columns passes.old levels.old sizes.old vertices.old positions.old) in
+        Wanted k.list → Leaves (PassEnding q list.placings list.boxes starts.now k) (PassListed q result.placings result.boxes k
         (columns passes.new levels.new sizes.new vertices.new positions.new)) }
 {
     if passes.len() == 0 {
@@ -117,11 +117,12 @@ fn run_passes(
     vertices: &mut [u16],
     positions: &mut [i64],
 ) -> Listed
-    ghost k: { Begun }
-    requires positions_value { begun (graph starts.now vias.now uppers.now lowers.now ratings.now) at.old apart.old marks.old
-        (columns passes.old levels.old sizes.old vertices.old positions.old) ≡ k }
-    requires some { Some (AtFirst k) }
-    ensures { Leaves (AtFirst k) (Drawn result.placings result.boxes at.new
+    requires { let k = begun (graph starts.now vias.now uppers.now lowers.now ratings.now) at.old apart.old marks.old
+        (columns passes.old levels.old sizes.old vertices.old positions.old) in
+        Some (AtFirst k) }
+    ensures { let k = begun (graph starts.now vias.now uppers.now lowers.now ratings.now) at.old apart.old marks.old
+        (columns passes.old levels.old sizes.old vertices.old positions.old) in
+        Leaves (AtFirst k) (Drawn result.placings result.boxes at.new
         (columns passes.new levels.new sizes.new vertices.new positions.new)) }
 {
     let mut first = [0u16; Plan::MAX_VERTICES + 1];
@@ -163,11 +164,12 @@ fn run_with_starts(
     vertices: &mut [u16],
     positions: &mut [i64],
 ) -> Listed
-    ghost k: { Begun }
-    requires positions_value { begun (graph lengths.now vias.now uppers.now lowers.now ratings.now) at.old apart.old marks.old
-        (columns passes.old levels.old sizes.old vertices.old positions.old) ≡ k }
-    requires some { Some (AtStart k) }
-    ensures { Leaves (AtStart k) (Drawn result.placings result.boxes at.new
+    requires { let k = begun (graph lengths.now vias.now uppers.now lowers.now ratings.now) at.old apart.old marks.old
+        (columns passes.old levels.old sizes.old vertices.old positions.old) in
+        Some (AtStart k) }
+    ensures { let k = begun (graph lengths.now vias.now uppers.now lowers.now ratings.now) at.old apart.old marks.old
+        (columns passes.old levels.old sizes.old vertices.old positions.old) in
+        Leaves (AtStart k) (Drawn result.placings result.boxes at.new
         (columns passes.new levels.new sizes.new vertices.new positions.new)) }
 {
     let k = lengths.len() + 1;
@@ -206,11 +208,11 @@ pub fn three_passes(
     vertices: &mut [u16],
     positions: &mut [i64],
 ) -> Listed
-    ghost l: { PlanLists }
-    requires ratings_value { plan_lists gap lengths.now vias.now halves.now uppers.now lowers.now ratings.now ≡ l }
-    requires some { Some (Outset l at.old) × (Wanted (columns passes.old levels.old sizes.old vertices.old positions.old)
+    requires { let l = plan_lists gap lengths.now vias.now halves.now uppers.now lowers.now ratings.now in
+        Some (Outset l at.old) × (Wanted (columns passes.old levels.old sizes.old vertices.old positions.old)
         → Unlisted (columns passes.old levels.old sizes.old vertices.old positions.old)) }
-    ensures { Leaves (Outset l at.old) (Drawn result.placings result.boxes at.new
+    ensures { let l = plan_lists gap lengths.now vias.now halves.now uppers.now lowers.now ratings.now in
+        Leaves (Outset l at.old) (Drawn result.placings result.boxes at.new
         (columns passes.new levels.new sizes.new vertices.new positions.new)) }
 {
     let n = vias.len();

@@ -51,11 +51,11 @@ fn list_run(
     vertices: &mut [u16],
     positions: &mut [i64],
 ) -> Listed
-    ghost g: { Columns }
-    requires positions_value { columns passes.old levels.old sizes.old vertices.old positions.old ≡ g }
-    requires arrays { Arrays g × (from ≤ end) × (end ≤ length at.now) × (end ≤ 1024)
+    requires { let g = columns passes.old levels.old sizes.old vertices.old positions.old in
+        Arrays g × (from ≤ end) × (end ≤ length at.now) × (end ≤ 1024)
         × Fits list.placings list.boxes (placing_if placed q l from end at.now) }
-    ensures { Leaves (Stored list.placings list.boxes g) (λ before. Stored result.placings result.boxes
+    ensures { let g = columns passes.old levels.old sizes.old vertices.old positions.old in
+        Leaves (Stored list.placings list.boxes g) (λ before. Stored result.placings result.boxes
         (columns passes.new levels.new sizes.new vertices.new positions.new)
         (before ++ placing_if placed q l from end at.now)) }
 {
@@ -102,10 +102,10 @@ pub fn list_level(
     vertices: &mut [u16],
     positions: &mut [i64],
 ) -> Listed
-    ghost k: { Ending }
-    requires positions_value { ending vias.now had.now marks.now at.now (columns passes.old levels.old sizes.old vertices.old positions.old) ≡ k }
-    requires some { Some (LevelEnding q l start to list.placings list.boxes k) }
-    ensures { Leaves (LevelEnding q l start to list.placings list.boxes k) (LevelListed q l result.placings result.boxes k
+    requires { let k = ending vias.now had.now marks.now at.now (columns passes.old levels.old sizes.old vertices.old positions.old) in
+        Some (LevelEnding q l start to list.placings list.boxes k) }
+    ensures { let k = ending vias.now had.now marks.now at.now (columns passes.old levels.old sizes.old vertices.old positions.old) in
+        Leaves (LevelEnding q l start to list.placings list.boxes k) (LevelListed q l result.placings result.boxes k
         (columns passes.new levels.new sizes.new vertices.new positions.new)) }
 {
     let mut listed = list;
@@ -136,10 +136,10 @@ pub fn list_pass(
     vertices: &mut [u16],
     positions: &mut [i64],
 ) -> Listed
-    ghost k: { Ending }
-    requires positions_value { ending vias.now had.now marks.now at.now (columns passes.old levels.old sizes.old vertices.old positions.old) ≡ k }
-    requires some { Some (PassEnding q list.placings list.boxes starts.now k) }
-    ensures { Leaves (PassEnding q list.placings list.boxes starts.now k) (PassListed q result.placings result.boxes k
+    requires { let k = ending vias.now had.now marks.now at.now (columns passes.old levels.old sizes.old vertices.old positions.old) in
+        Some (PassEnding q list.placings list.boxes starts.now k) }
+    ensures { let k = ending vias.now had.now marks.now at.now (columns passes.old levels.old sizes.old vertices.old positions.old) in
+        Leaves (PassEnding q list.placings list.boxes starts.now k) (PassListed q result.placings result.boxes k
         (columns passes.new levels.new sizes.new vertices.new positions.new)) }
 {
     let n = starts.len() - 1;

@@ -21,10 +21,10 @@ pub fn list_placing(
     vertices: &mut [u16],
     positions: &mut [i64],
 )
-    ghost g: { Columns }
-    requires positions_value { columns passes.old levels.old counts.old vertices.old positions.old ≡ g }
-    requires arrays { Arrays g × ListRoom from end (length at.now) n b }
-    ensures { Leaves (Stored n b g) (λ list. Lies (list ++ placing_of q l from end at.now ∷ [])
+    requires { let g = columns passes.old levels.old counts.old vertices.old positions.old in
+        Arrays g × ListRoom from end (length at.now) n b }
+    ensures { let g = columns passes.old levels.old counts.old vertices.old positions.old in
+        Leaves (Stored n b g) (λ list. Lies (list ++ placing_of q l from end at.now ∷ [])
         (columns passes.new levels.new counts.new vertices.new positions.new)) }
 {
     let count = end - from;

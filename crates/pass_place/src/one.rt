@@ -76,12 +76,12 @@ fn place_near(
     near: &mut [i64],
     answer: &mut [i64],
 )
-    ghost q: { Request }
-    requires at_value { asked left right distances.now from end first.now ends.now sums.now at.now ≡ q }
     requires rowed { Rowed from end first.now ends.now sums.now at.now }
-    requires answer_value { is_taken q answer.old ≡ true }
+    requires answer_value { let q = asked left right distances.now from end first.now ends.now sums.now at.now in
+        is_taken q answer.old ≡ true }
     requires first_in_bounds { rows_long from end first.now ≤ length near.old }
-    ensures { answer.new ≡ placed_of q }
+    ensures { let q = asked left right distances.now from end first.now ends.now sums.now at.now in
+        answer.new ≡ placed_of q }
 {
     let n = end - from;
     let row = wide(first[from]);
@@ -114,11 +114,11 @@ fn place_many(
     at: &[i64],
     answer: &mut [i64],
 )
-    ghost q: { Request }
-    requires at_value { asked left right distances.now from end first.now ends.now sums.now at.now ≡ q }
     requires rowed { Rowed from end first.now ends.now sums.now at.now }
-    requires answer_value { is_taken q answer.old ≡ true }
-    ensures { answer.new ≡ placed_of q }
+    requires answer_value { let q = asked left right distances.now from end first.now ends.now sums.now at.now in
+        is_taken q answer.old ≡ true }
+    ensures { let q = asked left right distances.now from end first.now ends.now sums.now at.now in
+        answer.new ≡ placed_of q }
 {
     if wide(first[end]) - wide(first[from]) <= SOME {
         let mut near = [0i64; SOME];
@@ -146,11 +146,11 @@ fn place_boxes(
     at: &[i64],
     answer: &mut [i64],
 )
-    ghost q: { Request }
-    requires at_value { asked left right distances.now from end first.now ends.now sums.now at.now ≡ q }
     requires rowed { Rowed from end first.now ends.now sums.now at.now }
-    requires answer_value { is_taken q answer.old ≡ true }
-    ensures { answer.new ≡ placed_of q }
+    requires answer_value { let q = asked left right distances.now from end first.now ends.now sums.now at.now in
+        is_taken q answer.old ≡ true }
+    ensures { let q = asked left right distances.now from end first.now ends.now sums.now at.now in
+        answer.new ≡ placed_of q }
 {
     if from == end {
         return;

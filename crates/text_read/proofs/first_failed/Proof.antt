@@ -13,37 +13,37 @@ use Rattle.text_read.specs.inner.Failed.{Fronts}
 use Rattle.text_read.proofs.first_failed.Statement.{statement}
 use Rattle.text_read.proofs.first_failed.Tie as tie
 
-abbrev start : tie.After-first-of → tie.Start
+abbrev start : tie.After-first_of-failed → tie.Start
 start c = c.before.before.before.before.before
 
-both : (c : tie.Else1) → ((start c.before).args.s.form ≡ true) × ((start c.before).args.s.limits ≡ true)
-both c = two-pass 1 2 (start c.before).args.s.form (start c.before).args.s.limits refl (sym c.before.first_of.ensures ∙ c.if1.false)
+both : (c : tie.Else-failed-ne0) → ((start c.before).args.s.form ≡ true) × ((start c.before).args.s.limits ≡ true)
+both c = two-pass 1 2 (start c.before).args.s.form (start c.before).args.s.limits refl (sym c.first_of-failed.ensures ∙ c.if-failed-ne0.false)
 
 -- checks 1 and 2
 abbrev first : Scanned → List Test
 first s = check 1 s.form ∷ check 2 s.limits ∷ []
 
-fronts : (c : tie.Else1) → let a = (start c.before).args in Fronts a.s a.sizes.now a.vias.now a.uppers.now a.lowers.now
+fronts : (c : tie.Else-failed-ne0) → let a = (start c.before).args in Fronts a.s a.sizes.now a.vias.now a.uppers.now a.lowers.now
 fronts c = (start c.before).requires (both c).0 (both c).1
 
-returns : tie.Need-returns
-returns c = refusal-early c.before.first_of.result (first (start c.before).args.s) _ c.before.first_of.ensures c.if1.true
+returns : tie.Need-returns-then-failed-ne0
+returns c = refusal-early c.first_of-failed.result (first (start c.before).args.s) _ c.first_of-failed.ensures c.if-failed-ne0.true
 
-slice-aggregate-check-plan : tie.Need-slice-aggregate-check-plan
-slice-aggregate-check-plan c = sym (length-take-le _ _ (rw c.before.wide.ensures (fronts c.before.before).levels))
+slice-aggregate-check-plan : tie.Need-slice_bounds-check_plan-end
+slice-aggregate-check-plan c = sym (length-take-le _ _ (rw c.wide-k.ensures (fronts c.before).levels))
 
-slice-aggregate-check-plan-2 : tie.Need-slice-aggregate-check-plan-2
-slice-aggregate-check-plan-2 c = sym (length-take-le _ _ (fronts c.before.before.before).vertices)
+slice-aggregate-check-plan-2 : tie.Need-slice_bounds-check_plan-end-2
+slice-aggregate-check-plan-2 c = sym (length-take-le _ _ (fronts c.before).vertices)
 
-slice-aggregate-check-plan-3 : tie.Need-slice-aggregate-check-plan-3
-slice-aggregate-check-plan-3 c = sym (length-take-le _ _ (fronts c.before.before.before.before).uppers_reach)
+slice-aggregate-check-plan-3 : tie.Need-slice_bounds-check_plan-end-3
+slice-aggregate-check-plan-3 c = sym (length-take-le _ _ (fronts c.before).uppers_reach)
 
-slice-aggregate-check-plan-4 : tie.Need-slice-aggregate-check-plan-4
-slice-aggregate-check-plan-4 c = sym (length-take-le _ _ (fronts c.before.before.before.before.before).lowers_reach)
+slice-aggregate-check-plan-4 : tie.Need-slice_bounds-check_plan-end-4
+slice-aggregate-check-plan-4 c = sym (length-take-le _ _ (fronts c.before).lowers_reach)
 
-check-plan-requires : tie.Need-check-plan-requires
+check-plan-requires : tie.Need-check_plan-requires
 check-plan-requires c κs =
-    let p = fronts c.before.before.before.before.before in
+    let p = fronts c.before in
     record {
       levels = simp length-take (omega (arith, p.few_levels));
       vertices = simp length-take (omega (arith, p.few_vertices));
@@ -51,15 +51,15 @@ check-plan-requires c κs =
       ends = simp length-take (omega (arith, p.uppers_reach, p.lowers_reach));
     }
 
-returns-2 : tie.Need-returns-2
+returns-2 : tie.Need-returns
 returns-2 c =
-    let e = c.before.before.before.before.before.before in
+    let e = c.before.before in
     let a = (start e.before).args in
     let none = two_none 1 2 a.s.form a.s.limits (both e).0 (both e).1 in
-    rw (← c.before.before.before.before.before.wide.ensures) (refusal-late c.check-plan.result (first a.s) _ none c.check-plan.ensures)
+    rw (← c.wide-k.ensures) (refusal-late c.check_plan.result (first a.s) _ none c.check_plan.ensures)
 
-pub first-failed-spec : {M : Type 1} → statement M
-first-failed-spec =
+pub first_failed_spec : {M : Type 1} → statement M
+first_failed_spec =
     tie.close
     (tie.spec (λ c κs. search rules) returns (λ c κs. search rules) slice-aggregate-check-plan slice-aggregate-check-plan-2
     slice-aggregate-check-plan-3 slice-aggregate-check-plan-4 check-plan-requires returns-2)

@@ -6,12 +6,12 @@ use Rattle.text_read.proofs.Verdict.{kept-answer}
 use Rattle.text_read.proofs.read.Statement.{statement}
 use Rattle.text_read.proofs.read.Tie as tie
 
-returns : tie.Need-returns
-returns c = c.refuse.ensures ∙ ap answer_of (sym (c.before.before.before.before.before.before.before.before.before.read-into.ensures.refuses c.before.if1.true))
+returns : tie.Need-returns-then-r-ne0
+returns c = c.refuse.ensures ∙ ap answer_of (sym (c.read_into-r.ensures.refuses c.if-r-ne0.true))
 
-returns-2 : tie.Need-returns-2
+returns-2 : tie.Need-returns
 returns-2 c =
-    let a = c.before.before.before.before.before.before.before.before.before.before.read-into.ensures.accepts c.before.before.if1.false in
+    let a = c.read_into-r.ensures.accepts c.if-r-ne0.false in
     rw c.new.ensures (kept-answer _ _ _ _ _ _ _ _ a.kept ∙ ap answer_of (sym a.reads))
 
 pub read_spec : {M : Type 1} → statement M

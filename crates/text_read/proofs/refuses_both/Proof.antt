@@ -3,12 +3,12 @@ use borrow.Author.Tests.{eq-eqb, ne_eqb}
 use Rattle.text_read.proofs.refuses_both.Statement.{statement}
 use Rattle.text_read.proofs.refuses_both.Tie as tie
 
-returns : tie.Need-returns
-returns c = rw (eq-eqb _ _ c.if1.true)
+returns : tie.Need-returns-then-failed-eq0
+returns c = rw (eq-eqb _ _ c.if-failed-eq0.true)
 
-returns-2 : tie.Need-returns-2
-returns-2 c = rw (ne_eqb _ _ c.if1.false)
+returns-2 : tie.Need-returns
+returns-2 c = rw (ne_eqb _ _ c.if-failed-eq0.false)
 
-pub refuses-both-spec : {M : Type 1} → statement M
-refuses-both-spec = tie.close
+pub refuses_both_spec : {M : Type 1} → statement M
+refuses_both_spec = tie.close
     (tie.spec returns returns-2)

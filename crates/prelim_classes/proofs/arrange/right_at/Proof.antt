@@ -6,13 +6,13 @@ use Rattle.prelim_classes.proofs.arrange.right_at.Tie as tie
 use Rattle.prelim_classes.proofs.arrange.right_at.Reads as reads
 use Rattle.prelim_classes.proofs.arrange.right_at.Lts as lts
 
-returns : tie.Need-returns
-returns c = rw (lt-ltb _ _ c.before.if1.true)
+returns : tie.Need-returns-then-i-to
+returns c = rw (lt-ltb _ _ c.if-i-to.true)
 
-returns-2 : tie.Need-returns-2
-returns-2 c = rw (le-ltb _ _ c.if1.false)
+returns-2 : tie.Need-returns-else-i-to
+returns-2 c = rw (le-ltb _ _ c.if-i-to.false)
 
-pub right-at-spec : {M : Type 1} → statement M
-right-at-spec =
+pub right_at_spec : {M : Type 1} → statement M
+right_at_spec =
     tie.close
     (tie.spec (λ c. search rules) (λ c. search rules) (λ c. search rules) (λ c. search rules) returns returns-2)

@@ -13,30 +13,30 @@ use Rattle.prelim_classes.proofs.arrange.write_order.Reads as reads
 use Rattle.prelim_classes.proofs.arrange.write_order.Lts as lts
 use Rattle.prelim_classes.proofs.arrange.vertex_at.Reads as vertex-at-reads
 
-abbrev invariant-loop : tie.invariant-loop
+abbrev invariant-loop : tie.invariant-loop-j
 invariant-loop reversed v n order₀ j₀ order j = (j ≤ n) × (length order ≡ length order₀) × (sets order (v + j) (drop j (level_by reversed v n)) ≡ sets order₀ v (level_by reversed v n))
 
-abbrev decreases-loop : tie.decreases-loop
+abbrev decreases-loop : tie.decreases-loop-j
 decreases-loop reversed v n order₀ j₀ order j = n - j
 
-loop-holds : tie.Need-loop-init invariant-loop decreases-loop
-loop-holds c = let z : c.before.args.v + 0 ≡ c.before.args.v = omega arith in (omega arith, refl, rw z refl)
+loop-holds : tie.Need-loop-j-init invariant-loop decreases-loop
+loop-holds c = let z : c.args.v + 0 ≡ c.args.v = omega arith in (omega arith, refl, rw z refl)
 
-cast-order : tie.Need-overflow-cast-order invariant-loop decreases-loop
-cast-order c = let a = c.before.before.before.before.args in let l = c.before.before.loop in omega (arith, level-below a.reversed a.v a.n 1024 (omega (arith, c.before.before.before.before.requires.0, c.before.before.before.before.requires.1)) l.j (omega arith), c.vertex-at.ensures ∙ sym (level-at a.reversed a.v a.n l.j (omega arith)))
+cast-order : tie.Need-overflow_cast-order invariant-loop decreases-loop
+cast-order c = let a = c.args in let l = c.loop-j in omega (arith, level-below a.reversed a.v a.n 1024 (omega (arith, c.requires.0, c.requires.1)) l.j (omega arith), c.vertex_at.ensures ∙ sym (level-at a.reversed a.v a.n l.j (omega arith)))
 
-loop-again : tie.Need-loop-preserved invariant-loop decreases-loop
+loop-again : tie.Need-loop-j-preserved invariant-loop decreases-loop
 loop-again c =
-    let a = c.before.before.before.before.args in
-    let l = c.before.before.loop in
-    let is = c.vertex-at.ensures ∙ sym (level-at a.reversed a.v a.n l.j (omega arith)) in
-    (omega arith, simp length-set l.invariant.1, sym (sets-on l.order (a.v + l.j) (a.v + (l.j + 1)) l.j (level_by a.reversed a.v a.n) c.vertex-at.result (omega (arith, level-long a.reversed a.v a.n)) (omega arith) is) ∙ l.invariant.2)
+    let a = c.args in
+    let l = c.loop-j in
+    let is = c.vertex_at.ensures ∙ sym (level-at a.reversed a.v a.n l.j (omega arith)) in
+    (omega arith, simp length-set l.invariant.1, sym (sets-on l.order (a.v + l.j) (a.v + (l.j + 1)) l.j (level_by a.reversed a.v a.n) c.vertex_at.result (omega (arith, level-long a.reversed a.v a.n)) (omega arith) is) ∙ l.invariant.2)
 
 returns : tie.Need-returns invariant-loop decreases-loop
-returns c = let a = c.before.before.before.args in let l = c.before.loop in sym (sets_end l.order (a.v + l.j) l.j (level_by a.reversed a.v a.n) (omega (arith, level-long a.reversed a.v a.n))) ∙ l.invariant.2
+returns c = let a = c.args in let l = c.loop-j in sym (sets_end l.order (a.v + l.j) l.j (level_by a.reversed a.v a.n) (omega (arith, level-long a.reversed a.v a.n))) ∙ l.invariant.2
 
-pub write-order-spec : {M : Type 1} → statement M
-write-order-spec =
+pub write_order_spec : {M : Type 1} → statement M
+write_order_spec =
     tie.close
     (tie.spec invariant-loop decreases-loop loop-holds (λ c κs. search rules) cast-order (λ c. search rules) (λ c. search rules)
     (λ c. search rules) (λ c. search rules) (λ c. search rules) loop-again (λ c. search rules) returns)

@@ -9,14 +9,14 @@ use Rattle.prelim_classes.proofs.classes.class_vertex.Lts as lts
 use Rattle.ints.proofs.wide.Reads as wide-reads
 use Rattle.prelim_classes.proofs.walk.give.Reads as give-reads
 
-returns : tie.Need-returns
-returns c = rw (eq-eqb _ _ c.before.before.before.before.before.before.if1.true, ← c.before.before.before.before.wide.ensures) (refl, c.before.before.give.ensures)
+returns : tie.Need-returns-then-classes-v-eq0
+returns c = rw (eq-eqb _ _ c.if-classes-v-eq0.true, ← c.wide.ensures) (refl, c.give.ensures)
 
-returns-2 : tie.Need-returns-2
-returns-2 c = rw (ne_eqb _ _ c.before.if1.false) (refl, refl)
+returns-2 : tie.Need-returns
+returns-2 c = rw (ne_eqb _ _ c.if-classes-v-eq0.false) (refl, refl)
 
-pub class-vertex-spec : {M : Type 1} → statement M
-class-vertex-spec =
+pub class_vertex_spec : {M : Type 1} → statement M
+class_vertex_spec =
     tie.close
     (tie.spec (λ c. search rules) (λ c. search rules) (λ c. search rules) (λ c. search rules) (λ c κs. search rules)
     (λ c κs. search rules) (λ c. search rules) returns (λ c. search rules) (λ c. search rules) returns-2)

@@ -10,11 +10,11 @@ use Rattle.prelim_classes.proofs.inner.top_of.Reads as reads
 use Rattle.prelim_classes.proofs.inner.top_of.Lts as lts
 use Rattle.ints.proofs.wide.Reads as wide-reads
 
-returns : tie.Need-returns
-returns c = (λ h. ap (λ (x : ℕ). get_or c.before.before.before.before.before.args.top.now x 0) c.before.before.wide.ensures, λ h. absurd (omega (arith, c.before.before.wide.ensures, c.before.if1.true)))
+returns : tie.Need-returns-then-u-v
+returns c = (λ h. ap (λ (x : ℕ). get_or c.args.top.now x 0) c.wide-u.ensures, λ h. absurd (omega (arith, c.wide-u.ensures, c.if-u-v.true)))
 
-pub top-of-spec : {M : Type 1} → statement M
-top-of-spec =
+pub top_of_spec : {M : Type 1} → statement M
+top_of_spec =
     tie.close
     (tie.spec (λ c. search rules) (λ c. search rules) (λ c κs. search rules) (λ c. search rules) (λ c. search rules)
     (λ c. search rules) returns (λ c. search rules))

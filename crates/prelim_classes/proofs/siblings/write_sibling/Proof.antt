@@ -11,12 +11,12 @@ use Rattle.prelim_classes.proofs.siblings.write_sibling.Reads as reads
 use Rattle.prelim_classes.proofs.siblings.write_sibling.Lts as lts
 use Rattle.prelim_classes.proofs.siblings.same_class.Reads as same-class-reads
 
-returns : tie.Need-returns
-returns c = ap (λ (x : ℕ). set c.before.before.before.before.args.sibling.now c.before.before.before.before.args.v x) c.same_Class.ensures
+returns : tie.Need-returns-then-v-sibling
+returns c = ap (λ (x : ℕ). set c.args.sibling.now c.args.v x) c.same_class.ensures
 
-returns-2 : tie.Need-returns-2
-returns-2 c = let a = c.before.before.before.args in sym (set_out a.sibling.now a.v (same_class a.u a.v a.classes.now) c.if1.false)
+returns-2 : tie.Need-returns-else-v-sibling
+returns-2 c = let a = c.args in sym (set_out a.sibling.now a.v (same_class a.u a.v a.classes.now) c.if-v-sibling.false)
 
-pub write-sibling-spec : {M : Type 1} → statement M
-write-sibling-spec = tie.close
+pub write_sibling_spec : {M : Type 1} → statement M
+write_sibling_spec = tie.close
     (tie.spec (λ c κs. search rules) (λ c. search rules) (λ c. search rules) (λ c. search rules) returns returns-2)

@@ -10,6 +10,6 @@ use Rattle.prelim_classes.proofs.stand.place_of.Lts as lts
 returns : tie.Need-returns
 returns c = of-nat c.args.x (omega arith)
 
-pub place-of-spec : {M : Type 1} → statement M
-place-of-spec = tie.close
+pub place_of_spec : {M : Type 1} → statement M
+place_of_spec = tie.close
     (tie.spec (λ c. search rules) returns)

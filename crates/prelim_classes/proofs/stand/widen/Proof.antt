@@ -18,29 +18,29 @@ use Rattle.prelim_classes.proofs.stand.widen.Reads as reads
 use Rattle.prelim_classes.proofs.stand.widen.Lts as lts
 use Rattle.prelim_classes.proofs.stand.place_of.Reads as place-of-reads
 
-abbrev invariant-loop : tie.invariant-loop
+abbrev invariant-loop : tie.invariant-loop-v
 invariant-loop at xs₀ v₀ xs v = (v ≤ length at) × (length xs ≡ length xs₀) × (xs ≡ over (map pos (take v at)) xs₀)
 
-abbrev decreases-loop : tie.decreases-loop
+abbrev decreases-loop : tie.decreases-loop-v
 decreases-loop at xs₀ v₀ xs v = length at - v
 
-loop-holds : tie.Need-loop-init invariant-loop decreases-loop
+loop-holds : tie.Need-loop-v-init invariant-loop decreases-loop
 loop-holds c = (omega arith, refl, refl)
 
-loop-again : tie.Need-loop-preserved invariant-loop decreases-loop
+loop-again : tie.Need-loop-v-preserved invariant-loop decreases-loop
 loop-again c =
-    let a = c.before.before.before.before.before.args in
-    let l = c.before.before.before.loop in
-    let x = to_z w64 (of_z w64 c.place_of.result) in
-    let e : x ≡ pos (get_or a.at.now l.v 0) = back' c.place_of.result c.place_of.type-inv ∙ c.place_of.ensures in
-    (omega arith, length-set l.xs l.v x ∙ l.invariant.1, ap (λ (y : ℤ). set l.xs l.v y) e ∙ ap (λ (z : List ℤ). set z l.v (pos (get_or a.at.now l.v 0))) l.invariant.2 ∙ over-map pos a.at.now a.xs.now l.v 0 (omega arith) (omega (arith, c.before.before.before.before.before.requires)))
+    let a = c.args in
+    let l = c.loop-v in
+    let x = to_z w64 (of_z w64 c.place_of-x.result) in
+    let e : x ≡ pos (get_or a.at.now l.v 0) = back' c.place_of-x.result c.place_of-x.type_inv ∙ c.place_of-x.ensures in
+    (omega arith, length-set l.xs l.v x ∙ l.invariant.1, ap (λ (y : ℤ). set l.xs l.v y) e ∙ ap (λ (z : List ℤ). set z l.v (pos (get_or a.at.now l.v 0))) l.invariant.2 ∙ over-map pos a.at.now a.xs.now l.v 0 (omega arith) (omega (arith, c.requires)))
 
 returns : tie.Need-returns invariant-loop decreases-loop
 returns c =
-    let a = c.before.before.before.args in
-    let l = c.before.loop in
+    let a = c.args in
+    let l = c.loop-v in
     let all = take_all l.v a.at.now (omega arith) in
-    l.invariant.2 ∙ ap (λ (z : List ℕ). over (map pos z) a.xs.now) all ∙ over-all (map pos a.at.now) a.xs.now (omega (arith, length-map a.at.now pos, c.before.before.before.requires))
+    l.invariant.2 ∙ ap (λ (z : List ℕ). over (map pos z) a.xs.now) all ∙ over-all (map pos a.at.now) a.xs.now (omega (arith, length-map a.at.now pos, c.requires))
 
 pub widen_spec : {M : Type 1} → statement M
 widen_spec =

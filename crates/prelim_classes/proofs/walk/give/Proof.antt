@@ -13,27 +13,27 @@ use Rattle.prelim_classes.proofs.walk.give.Reads as reads
 use Rattle.prelim_classes.proofs.walk.give.Lts as lts
 use Rattle.ints.proofs.wide.Reads as wide-reads
 
-abbrev invariant-loop : tie.invariant-loop
+abbrev invariant-loop : tie.invariant-loop-v
 invariant-loop c top next out₀ v₀ out v = (length out ≡ length out₀) × (give c (chain next v) out ≡ give c (chain next top) out₀)
 
-abbrev decreases-loop : tie.decreases-loop
+abbrev decreases-loop : tie.decreases-loop-v
 decreases-loop c top next out₀ v₀ out v = length next - v
 
-loop-holds : tie.Need-loop-init invariant-loop decreases-loop
+loop-holds : tie.Need-loop-v-init invariant-loop decreases-loop
 loop-holds c = (refl, refl)
 
-loop-less : tie.Need-loop-smaller invariant-loop decreases-loop
-loop-less c = let r = c.before.before.before.before.before.before.requires.0.rises c.before.before.before.loop.v (omega arith) (omega arith) in omega (arith, c.wide.ensures)
+loop-less : tie.Need-loop-v-smaller invariant-loop decreases-loop
+loop-less c = let r = c.requires.0.rises c.loop-v.v (omega arith) (omega arith) in omega (arith, c.wide-v.ensures)
 
-loop-again : tie.Need-loop-preserved invariant-loop decreases-loop
+loop-again : tie.Need-loop-v-preserved invariant-loop decreases-loop
 loop-again c =
-    let l = c.before.before.before.loop in
-    let a = c.before.before.before.before.before.before.args in
-    let on = give-on a.next.now c.before.before.before.before.before.before.requires.0 l.v a.c l.out (omega arith) in
-    (simp length-set l.invariant.0, rw c.wide.ensures (sym on ∙ l.invariant.1))
+    let l = c.loop-v in
+    let a = c.args in
+    let on = give-on a.next.now c.requires.0 l.v a.c l.out (omega arith) in
+    (simp length-set l.invariant.0, rw c.wide-v.ensures (sym on ∙ l.invariant.1))
 
 returns : tie.Need-returns invariant-loop decreases-loop
-returns c = sym (give-end c.before.before.before.before.args.next.now c.before.before.before.before.requires.0 c.before.loop.v c.before.before.before.before.args.c c.before.loop.out (omega arith)) ∙ c.before.loop.invariant.1
+returns c = sym (give-end c.args.next.now c.requires.0 c.loop-v.v c.args.c c.loop-v.out (omega arith)) ∙ c.loop-v.invariant.1
 
 pub give_spec : {M : Type 1} → statement M
 give_spec =

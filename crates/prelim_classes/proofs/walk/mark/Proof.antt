@@ -13,27 +13,27 @@ use Rattle.prelim_classes.proofs.walk.mark.Reads as reads
 use Rattle.prelim_classes.proofs.walk.mark.Lts as lts
 use Rattle.ints.proofs.wide.Reads as wide-reads
 
-abbrev invariant-loop : tie.invariant-loop
+abbrev invariant-loop : tie.invariant-loop-v
 invariant-loop top next begun₀ v₀ begun v = (length begun ≡ length begun₀) × (mark_all (chain next v) begun ≡ mark_all (chain next top) begun₀)
 
-abbrev decreases-loop : tie.decreases-loop
+abbrev decreases-loop : tie.decreases-loop-v
 decreases-loop top next begun₀ v₀ begun v = length next - v
 
-loop-holds : tie.Need-loop-init invariant-loop decreases-loop
+loop-holds : tie.Need-loop-v-init invariant-loop decreases-loop
 loop-holds c = (refl, refl)
 
-loop-less : tie.Need-loop-smaller invariant-loop decreases-loop
-loop-less c = let r = c.before.before.before.before.before.before.requires.0.rises c.before.before.before.loop.v (omega arith) (omega arith) in omega (arith, c.wide.ensures)
+loop-less : tie.Need-loop-v-smaller invariant-loop decreases-loop
+loop-less c = let r = c.requires.0.rises c.loop-v.v (omega arith) (omega arith) in omega (arith, c.wide-v.ensures)
 
-loop-again : tie.Need-loop-preserved invariant-loop decreases-loop
+loop-again : tie.Need-loop-v-preserved invariant-loop decreases-loop
 loop-again c =
-    let l = c.before.before.before.loop in
-    let a = c.before.before.before.before.before.before.args in
-    let on = mark_on a.next.now c.before.before.before.before.before.before.requires.0 l.v l.begun (omega arith) in
-    (simp length-set l.invariant.0, rw c.wide.ensures (sym on ∙ l.invariant.1))
+    let l = c.loop-v in
+    let a = c.args in
+    let on = mark_on a.next.now c.requires.0 l.v l.begun (omega arith) in
+    (simp length-set l.invariant.0, rw c.wide-v.ensures (sym on ∙ l.invariant.1))
 
 returns : tie.Need-returns invariant-loop decreases-loop
-returns c = sym (mark-end c.before.before.before.before.args.next.now c.before.before.before.before.requires.0 c.before.loop.v c.before.loop.begun (omega arith)) ∙ c.before.loop.invariant.1
+returns c = sym (mark-end c.args.next.now c.requires.0 c.loop-v.v c.loop-v.begun (omega arith)) ∙ c.loop-v.invariant.1
 
 pub mark_spec : {M : Type 1} → statement M
 mark_spec =

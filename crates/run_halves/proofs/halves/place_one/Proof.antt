@@ -23,18 +23,18 @@ b-old : (c : tie.Start) → to_z w64 (of_z w64 c.args.old) ≡ c.args.old
 b-old c = back c.ranges.old
 
 b-start : (c : tie.After-start) → to_z w64 (of_z w64 c.start.result) ≡ c.start.result
-b-start c = back' c.start.result c.start.type-inv
+b-start c = back' c.start.result c.start.type_inv
 
 b-minus : (c : tie.After-minus) → to_z w64 (of_z w64 c.minus.result) ≡ c.minus.result
-b-minus c = back' c.minus.result c.minus.type-inv
+b-minus c = back' c.minus.result c.minus.type_inv
 
 b-raised : (c : tie.After-raised) → to_z w64 (of_z w64 c.raised.result) ≡ c.raised.result
-b-raised c = back' c.raised.result c.raised.type-inv
+b-raised c = back' c.raised.result c.raised.type_inv
 
 ruleset backs = (b-old, b-start, b-minus, b-raised)
 
 minus-requires : tie.Need-minus-requires
-minus-requires c κs = let s = c.before.before in let ns = s.args.near.now in let ws = ratings_between s.args.sums.now in
+minus-requires c κs = let s = c in let ns = s.args.near.now in let ws = ratings_between s.args.sums.now in
     simp backs (rw (simp backs at c.start.ensures) (omega (
       arith,
       s.requires.1,
@@ -43,11 +43,11 @@ minus-requires c κs = let s = c.before.before in let ns = s.args.near.now in le
     )))
 
 returns : tie.Need-returns
-returns c = let a = c.before.before.before.before.before.args in let ws = ratings_between a.sums.now in
-    let e = simp backs at c.before.before.minus.ensures ∙ ap (less a.offset) (simp backs at c.before.before.before.start.ensures) ∙ sym (start-less a.old (leads_of a.near.now ws) a.offset) ∙ ap (start_of (less a.offset a.old)) (leads-less a.offset a.near.now ws) in
-    back' c.lowered.result c.lowered.type-inv ∙ rw (simp backs at c.before.raised.ensures) at (simp backs at c.lowered.ensures) ∙ ap (λ (x : ℤ). clamp (limit_of a.left) (limit_of a.right) x) e
+returns c = let a = c.args in let ws = ratings_between a.sums.now in
+    let e = simp backs at c.minus.ensures ∙ ap (less a.offset) (simp backs at c.start.ensures) ∙ sym (start-less a.old (leads_of a.near.now ws) a.offset) ∙ ap (start_of (less a.offset a.old)) (leads-less a.offset a.near.now ws) in
+    back' c.lowered.result c.lowered.type_inv ∙ rw (simp backs at c.raised.ensures) at (simp backs at c.lowered.ensures) ∙ ap (λ (x : ℤ). clamp (limit_of a.left) (limit_of a.right) x) e
 
-pub place-one-spec : {M : Type 1} → statement M
-place-one-spec =
+pub place_one_spec : {M : Type 1} → statement M
+place_one_spec =
     tie.close
     (tie.spec (λ c κs. search rules) minus-requires (λ c κs. search rules) (λ c κs. search rules) returns)

@@ -9,23 +9,23 @@ use Rattle.ints.proofs.Lists.{sum-on, sum-end}
 use Rattle.run_halves.proofs.halves.total.Statement.{statement}
 use Rattle.run_halves.proofs.halves.total.Tie as tie
 
-abbrev invariant-loop : tie.invariant-loop
+abbrev invariant-loop : tie.invariant-loop-i
 invariant-loop counts s₀ i₀ s i = (i ≤ length counts) × (s + sum (drop i counts) ≡ sum counts)
 
-abbrev decreases-loop : tie.decreases-loop
+abbrev decreases-loop : tie.decreases-loop-i
 decreases-loop counts s₀ i₀ s i = length counts - i
 
-add-s : tie.Need-overflow-add-s invariant-loop decreases-loop
-add-s c = let l = c.before.before.loop in omega (arith, sum-on c.before.before.before.args.counts.now l.i c.before.loop-test.true)
+add-s : tie.Need-overflow_add-s invariant-loop decreases-loop
+add-s c = let l = c.loop-i in omega (arith, sum-on c.args.counts.now l.i c.loop-i-test.true)
 
-loop-again : tie.Need-loop-preserved invariant-loop decreases-loop
-loop-again c = let l = c.before.before.loop in omega (arith, sum-on c.before.before.before.args.counts.now l.i c.before.loop-test.true)
+loop-again : tie.Need-loop-i-preserved invariant-loop decreases-loop
+loop-again c = let l = c.loop-i in omega (arith, sum-on c.args.counts.now l.i c.loop-i-test.true)
 
 returns : tie.Need-returns invariant-loop decreases-loop
-returns c = let l = c.before.loop in omega (arith, sum-end c.before.before.args.counts.now l.i c.loop-test.false)
+returns c = let l = c.loop-i in omega (arith, sum-end c.args.counts.now l.i c.loop-i-test.false)
 
-pub total-spec : {M : Type 1} → statement M
-total-spec =
+pub total_spec : {M : Type 1} → statement M
+total_spec =
     tie.close
     (tie.spec invariant-loop decreases-loop (λ c. search rules) (λ c. search rules) (λ c. search rules) add-s (λ c. search rules)
     (λ c. search rules) loop-again returns)

@@ -15,35 +15,35 @@ use Rattle.run_halves.proofs.Cut.{length_cut}
 use Rattle.run_halves.proofs.meet.join.Statement.{statement}
 use Rattle.run_halves.proofs.meet.join.Tie as tie
 
-b-b : (c : tie.After-if12) → let a = c.before.before.before.before.args in to_z w64 (of_z w64 (get_or a.z.now a.k (pos 0))) ≡ get_or a.z.now a.k (pos 0)
-b-b c = let a = c.before.before.before.before.args in back' (get_or a.z.now a.k (pos 0)) c.if12.given
+b-b : (c : tie.After-t11-1) → let a = c.args in to_z w64 (of_z w64 (get_or a.z.now a.k (pos 0))) ≡ get_or a.z.now a.k (pos 0)
+b-b c = let a = c.args in back' (get_or a.z.now a.k (pos 0)) c.t11-1.given
 
-b-a : (c : tie.After-if13) → let a = c.before.before.before.before.before.args in to_z w64 (of_z w64 (get_or a.z.now (a.k - 1) (pos 0))) ≡ get_or a.z.now (a.k - 1) (pos 0)
-b-a c = let a = c.before.before.before.before.before.args in back' (get_or a.z.now (a.k - 1) (pos 0)) c.if13.given
+b-a : (c : tie.After-t15-1) → let a = c.args in to_z w64 (of_z w64 (get_or a.z.now (a.k - 1) (pos 0))) ≡ get_or a.z.now (a.k - 1) (pos 0)
+b-a c = let a = c.args in back' (get_or a.z.now (a.k - 1) (pos 0)) c.t15-1.given
 
 ruleset backs = (b-a, b-b)
 
-meeting-place-requires : tie.Need-meeting-place-requires
-meeting-place-requires c κs = let s = c.before.before.before.before.before.before.before in (s.requires.0, (s.requires.1, lt-true (first_after s.args.k s.args.z.now) (last_before s.args.k s.args.z.now) (simp backs at c.before.if1.true)))
+meeting-place-requires : tie.Need-meeting_place-m-requires
+meeting-place-requires c κs = let s = c in (s.requires.0, (s.requires.1, lt-true (first_after s.args.k s.args.z.now) (last_before s.args.k s.args.z.now) (simp backs at c.if-z-k.true)))
 
-slice-aggregate-cut : tie.Need-slice-aggregate-cut
-slice-aggregate-cut c = let s = c.before.before.before.before.before.before.before.before.before in omega (arith, length-take s.args.k s.args.z.now, s.requires.0.0.others)
+slice-aggregate-cut : tie.Need-slice_bounds-cut-end-then-z-k
+slice-aggregate-cut c = let s = c in omega (arith, length-take s.args.k s.args.z.now, s.requires.0.0.others)
 
-returns : tie.Need-returns
-returns c = let s = c.before.before.before.before.before.before.before.before.before.before.before.before.before.before in let k = s.args.k in let z = s.args.z.now in let m = c.before.before.before.before.before.before.meeting-place.result in
-    let bm = back' m c.before.before.before.before.before.before.meeting-place.type-inv in
-    let t = simp backs at c.before.before.before.before.before.before.before.before.if1.true in
-    let l = simp bm at c.before.before.before.before.cut.ensures in
+returns : tie.Need-returns-then-z-k
+returns c = let s = c in let k = s.args.k in let z = s.args.z.now in let m = c.meeting_place-m.result in
+    let bm = back' m c.meeting_place-m.type_inv in
+    let t = simp backs at c.if-z-k.true in
+    let l = simp bm at c.cut.ensures in
     let el : length (cut_at m (take k z)) ≡ k = omega (arith, length_cut m (take k z), length-take k z, s.requires.0.0.others) in
-    let r = simp (l, bm, second-part k z (cut_at m (take k z)) z el) at c.before.raise.ensures in
-    record { place = m; meets = λ h. c.before.before.before.before.before.before.meeting-place.ensures; outcome = rw (t, l, r) (both-parts k z (cut_at m (take k z)) (raise_to m (drop k z)) el) }
+    let r = simp (l, bm, second-part k z (cut_at m (take k z)) z el) at c.raise.ensures in
+    record { place = m; meets = λ h. c.meeting_place-m.ensures; outcome = rw (t, l, r) (both-parts k z (cut_at m (take k z)) (raise_to m (drop k z)) el) }
 
-returns-2 : tie.Need-returns-2
-returns-2 c = let a = c.before.before.before.before.before.before.args in let t = simp backs at c.if1.false in
+returns-2 : tie.Need-returns-else-z-k
+returns-2 c = let a = c.args in let t = simp backs at c.if-z-k.false in
     record { place = pos 0; meets = λ h. absurd (omega (arith, lt-false (first_after a.k a.z.now) (last_before a.k a.z.now) t)); outcome = rw t }
 
-pub join-spec : {M : Type 1} → statement M
-join-spec =
+pub join_spec : {M : Type 1} → statement M
+join_spec =
     tie.close
     (tie.spec (λ c. search rules) (λ c. search rules) (λ c. search rules) (λ c. search rules) (λ c. search rules)
     meeting-place-requires (λ c. search rules) slice-aggregate-cut (λ c κs. search rules) (λ c. search rules)

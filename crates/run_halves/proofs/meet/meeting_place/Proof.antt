@@ -20,10 +20,10 @@ use Rattle.run_halves.proofs.Bisect.{Searching, searching-start, searching-left,
 use Rattle.run_halves.proofs.meet.meeting_place.Statement.{statement}
 use Rattle.run_halves.proofs.meet.meeting_place.Tie as tie
 
-abbrev invariant-loop : tie.invariant-loop
+abbrev invariant-loop : tie.invariant-loop-w
 invariant-loop k n z offsets counts near sums b lo₀ w₀ lo w = Searching k n z counts (less_near offsets counts near) (ratings_between sums) lo w
 
-abbrev decreases-loop : tie.decreases-loop
+abbrev decreases-loop : tie.decreases-loop-w
 decreases-loop k n z offsets counts near sums b lo₀ w₀ lo w = w
 
 -- all neighbours less their offsets
@@ -45,86 +45,86 @@ small-ends c = let k = c.args.k in let z = c.args.z.now in let q = c.requires.0.
     let a = c.requires.1.0.0 (k - 1) (omega (arith, q.some, q.others)) in let b = c.requires.1.0.0 k q.others in
     record { last = a; first = b; wide = omega (arith, dif (last_before k z) (first_after k z)) }
 
-b-b : (c : tie.After-b invariant-loop decreases-loop) → let a = c.before.before.before.before.args in to_z w64 (of_z w64 (get_or a.z.now a.k (pos 0))) ≡ get_or a.z.now a.k (pos 0)
-b-b c = let a = c.before.before.before.before.args in back' (get_or a.z.now a.k (pos 0)) c.b.given
+b-b : (c : tie.After-b-1 invariant-loop decreases-loop) → let a = c.args in to_z w64 (of_z w64 (get_or a.z.now a.k (pos 0))) ≡ get_or a.z.now a.k (pos 0)
+b-b c = let a = c.args in back' (get_or a.z.now a.k (pos 0)) c.b-1.given
 
-b-a : (c : tie.After-apart-arg invariant-loop decreases-loop) → let a = c.before.before.before.before.before.args in to_z w64 (of_z w64 (get_or a.z.now (a.k - 1) (pos 0))) ≡ get_or a.z.now (a.k - 1) (pos 0)
-b-a c = let a = c.before.before.before.before.before.args in back' (get_or a.z.now (a.k - 1) (pos 0)) c.apart-arg.given
+b-a : (c : tie.After-apart-arg-1 invariant-loop decreases-loop) → let a = c.args in to_z w64 (of_z w64 (get_or a.z.now (a.k - 1) (pos 0))) ≡ get_or a.z.now (a.k - 1) (pos 0)
+b-a c = let a = c.args in back' (get_or a.z.now (a.k - 1) (pos 0)) c.apart-arg-1.given
 
 ruleset backs = (b-a, b-b)
 
-apart-requires : tie.Need-apart-requires invariant-loop decreases-loop
+apart-requires : tie.Need-apart-w-requires invariant-loop decreases-loop
 apart-requires c κs = let e = small-ends c.before.before.before.before.before in simp backs (omega arith)
 
-loop-holds : tie.Need-loop-init invariant-loop decreases-loop
-loop-holds c = let s = c.before.before.before.before.before.before in let k = s.args.k in let z = s.args.z.now in let e = simp backs at c.apart.ensures in
-    let w : c.apart.result ≡ overlap k z = omega (arith, e, s.requires.1.1, gap-r (last_before k z) (first_after k z) (omega (arith, s.requires.1.1)), dif (last_before k z) (first_after k z), one-zero (last_before k z -ℤ first_after k z)) in
+loop-holds : tie.Need-loop-w-init invariant-loop decreases-loop
+loop-holds c = let s = c.before.before.before.before.before.before in let k = s.args.k in let z = s.args.z.now in let e = simp backs at c.apart-w.ensures in
+    let w : c.apart-w.result ≡ overlap k z = omega (arith, e, s.requires.1.1, gap-r (last_before k z) (first_after k z) (omega (arith, s.requires.1.1)), dif (last_before k z) (first_after k z), one-zero (last_before k z -ℤ first_after k z)) in
     rw w (searching-start k s.args.n z s.args.counts.now (nears s) (ratings s))
 
-add-plus : tie.Need-overflow-add-plus invariant-loop decreases-loop
-add-plus c = let i = c.before.loop.invariant.within in omega (arith, (small-ends c.before.before.before.before.before.before.before.before).wide)
+add-plus : tie.Need-overflow_add-lo invariant-loop decreases-loop
+add-plus c = let i = c.loop-w.invariant.within in omega (arith, (small-ends c.before.before.before.before.before.before.before.before).wide)
 
 plus-requires : tie.Need-plus-requires invariant-loop decreases-loop
-plus-requires c κs = let e = small-ends c.before.before.before.before.before.before.before.before in let i = c.before.loop.invariant.within in simp backs (omega arith)
+plus-requires c κs = let e = small-ends c.before.before.before.before.before.before.before.before in let i = c.loop-w.invariant.within in simp backs (omega arith)
 
 -- where the test is made
-place : (c : tie.After-plus invariant-loop decreases-loop) → let s = c.before.before.before.before.before.before.before.before.before.args in let l = c.before.before.loop in c.plus.result ≡ first_after s.k s.z.now +ℤ pos (l.lo + l.w / 2)
+place : (c : tie.After-plus invariant-loop decreases-loop) → let s = c.args in let l = c.loop-w in c.plus.result ≡ first_after s.k s.z.now +ℤ pos (l.lo + l.w / 2)
 place c = simp backs at c.plus.ensures
 
 place-small : (c : tie.After-plus invariant-loop decreases-loop) → size c.plus.result ≤ max_size
-place-small c = let s = c.before.before.before.before.before.before.before.before.before in let e = small-ends s in let l = c.before.before.loop in let k = s.args.k in let z = s.args.z.now in
+place-small c = let s = c.before.before.before.before.before.before.before.before.before in let e = small-ends s in let l = c.loop-w in let k = s.args.k in let z = s.args.z.now in
     rw (place c) (small-place (last_before k z) (first_after k z) (l.lo + l.w / 2) e.last e.first s.requires.1.1 (omega (arith, l.invariant.within)))
 
-more-up-to-requires : tie.Need-more-up-to-requires invariant-loop decreases-loop
-more-up-to-requires c κs = let s = c.before.before.before.before.before.before.before.before.before in
-    (s.requires.0.0, s.requires.0.1, s.requires.1.0.0, s.requires.1.0.1, simp (back' c.plus.result c.plus.type-inv) (place-small c), omega (arith, c.before.loop-test.true), s.requires.1.0.2)
+more-up-to-requires : tie.Need-more_up_to-t-requires invariant-loop decreases-loop
+more-up-to-requires c κs = let s = c in
+    (s.requires.0.0, s.requires.0.1, s.requires.1.0.0, s.requires.1.0.1, simp (back' c.plus.result c.plus.type_inv) (place-small c), omega (arith, c.loop-w-test.true), s.requires.1.0.2)
 
-tested : (c : tie.After-more-up-to invariant-loop decreases-loop) → let s = c.before.before.before.before.before.before.before.before.before.before in let a = s.args in let l = c.before.before.before.loop in let r = c.more-up-to.result in
+tested : (c : tie.After-more_up_to-t invariant-loop decreases-loop) → let s = c.before.before.before.before.before.before.before.before.before.before in let a = s.args in let l = c.loop-w in let r = c.more_up_to-t.result in
     Tests a.k a.n a.z.now a.counts.now (nears s) (ratings s) (first_after a.k a.z.now +ℤ pos (l.lo + l.w / 2)) (l.w / 2) (l.w - l.w / 2) r.more r.back r.far
-tested c = rw (place c.before) at (simp (back' c.before.plus.result c.before.plus.type-inv) at c.more-up-to.ensures)
+tested c = rw (place c.before) at (simp (back' c.plus.result c.plus.type_inv) at c.more_up_to-t.ensures)
 
-sub-w : tie.Need-overflow-sub-w invariant-loop decreases-loop
+sub-w : tie.Need-overflow_sub-w-then-t invariant-loop decreases-loop
 sub-w c = (tested c.before.before).around.left
 
-loop-less : tie.Need-loop-smaller invariant-loop decreases-loop
-loop-less c = omega (arith, c.before.before.before.before.loop-test.true)
+loop-less : tie.Need-loop-w-smaller-then-t invariant-loop decreases-loop
+loop-less c = omega (arith, c.loop-w-test.true)
 
-loop-again : tie.Need-loop-preserved invariant-loop decreases-loop
-loop-again c = let s = c.before.before.before.before.before.before.before.before.before.before.before.before in let a = s.args in let l = c.before.before.before.before.before.loop in
-    searching-left a.k a.n a.z.now a.counts.now (nears s) (ratings s) l.lo l.w (l.w / 2) _ _ (omega (arith, c.before.before.before.before.loop-test.true)) l.invariant (rw c.before.if1.true at (tested c.before.before))
+loop-again : tie.Need-loop-w-preserved-then-t invariant-loop decreases-loop
+loop-again c = let s = c.before.before.before.before.before.before.before.before.before.before.before.before in let a = s.args in let l = c.loop-w in
+    searching-left a.k a.n a.z.now a.counts.now (nears s) (ratings s) l.lo l.w (l.w / 2) _ _ (omega (arith, c.loop-w-test.true)) l.invariant (rw c.if-t.true at (tested c.before.before))
 
 -- what a test that fails takes away
-far : (c : tie.After-more-up-to invariant-loop decreases-loop) → let l = c.before.before.before.loop in l.w / 2 + c.more-up-to.result.far ≤ l.w
+far : (c : tie.After-more_up_to-t invariant-loop decreases-loop) → let l = c.loop-w in l.w / 2 + c.more_up_to-t.result.far ≤ l.w
 far c = omega (arith, (tested c).around.right)
 
-add-lo : tie.Need-overflow-add-lo invariant-loop decreases-loop
-add-lo c = omega (arith, far c.before.before, c.before.before.before.before.before.loop.invariant.within, (small-ends c.before.before.before.before.before.before.before.before.before.before.before.before).wide)
+add-lo : tie.Need-overflow_add-lo-else-t invariant-loop decreases-loop
+add-lo c = omega (arith, far c.before.before, c.loop-w.invariant.within, (small-ends c.before.before.before.before.before.before.before.before.before.before.before.before).wide)
 
-add-lo-2 : tie.Need-overflow-add-lo-2 invariant-loop decreases-loop
-add-lo-2 c = omega (arith, far c.before.before, c.before.before.before.before.before.loop.invariant.within, (small-ends c.before.before.before.before.before.before.before.before.before.before.before.before).wide)
+add-lo-2 : tie.Need-overflow_add-lo-else-t-2 invariant-loop decreases-loop
+add-lo-2 c = omega (arith, far c.before.before, c.loop-w.invariant.within, (small-ends c.before.before.before.before.before.before.before.before.before.before.before.before).wide)
 
-add-w : tie.Need-overflow-add-w invariant-loop decreases-loop
-add-w c = omega (arith, far c.before.before.before, c.before.before.before.before.before.before.loop.invariant.within, (small-ends c.before.before.before.before.before.before.before.before.before.before.before.before.before).wide)
+add-w : tie.Need-overflow_add-w invariant-loop decreases-loop
+add-w c = omega (arith, far c.before.before.before, c.loop-w.invariant.within, (small-ends c.before.before.before.before.before.before.before.before.before.before.before.before.before).wide)
 
-sub-w-2 : tie.Need-overflow-sub-w-2 invariant-loop decreases-loop
+sub-w-2 : tie.Need-overflow_sub-w-else-t invariant-loop decreases-loop
 sub-w-2 c = far c.before.before.before
 
-loop-less-2 : tie.Need-loop-smaller-2 invariant-loop decreases-loop
+loop-less-2 : tie.Need-loop-w-smaller invariant-loop decreases-loop
 loop-less-2 c = omega (arith, far c.before.before.before, (tested c.before.before.before).around.some)
 
-loop-again-2 : tie.Need-loop-preserved-2 invariant-loop decreases-loop
-loop-again-2 c = let s = c.before.before.before.before.before.before.before.before.before.before.before.before.before in let a = s.args in let l = c.before.before.before.before.before.before.loop in
-    searching-right a.k a.n a.z.now a.counts.now (nears s) (ratings s) l.lo l.w (l.w / 2) _ _ (omega (arith, c.before.before.before.before.before.loop-test.true)) l.invariant (rw c.before.before.if1.false at (tested c.before.before.before))
+loop-again-2 : tie.Need-loop-w-preserved invariant-loop decreases-loop
+loop-again-2 c = let s = c.before.before.before.before.before.before.before.before.before.before.before.before.before in let a = s.args in let l = c.loop-w in
+    searching-right a.k a.n a.z.now a.counts.now (nears s) (ratings s) l.lo l.w (l.w / 2) _ _ (omega (arith, c.loop-w-test.true)) l.invariant (rw c.if-t.false at (tested c.before.before.before))
 
 plus-requires-2 : tie.Need-plus-requires-2 invariant-loop decreases-loop
-plus-requires-2 c κs = let e = small-ends c.before.before.before.before.before.before.before.before in let i = c.before.loop.invariant.within in simp backs (omega arith)
+plus-requires-2 c κs = let e = small-ends c.before.before.before.before.before.before.before.before in let i = c.loop-w.invariant.within in simp backs (omega arith)
 
 returns : tie.Need-returns invariant-loop decreases-loop
-returns c = let s = c.before.before.before.before.before.before.before.before.before in let a = s.args in let l = c.before.before.loop in let w : l.w ≡ 0 = omega (arith, c.before.loop-test.false) in
-    rw (back' c.plus2.result c.plus2.type-inv ∙ simp backs at c.plus2.ensures) (searching-end a.k a.n a.z.now a.counts.now (nears s) (ratings s) l.lo (rw w at l.invariant))
+returns c = let s = c.before.before.before.before.before.before.before.before.before in let a = s.args in let l = c.loop-w in let w : l.w ≡ 0 = omega (arith, c.loop-w-test.false) in
+    rw (back' c.plus-2.result c.plus-2.type_inv ∙ simp backs at c.plus-2.ensures) (searching-end a.k a.n a.z.now a.counts.now (nears s) (ratings s) l.lo (rw w at l.invariant))
 
-pub meeting-place-spec : {M : Type 1} → statement M
-meeting-place-spec =
+pub meeting_place_spec : {M : Type 1} → statement M
+meeting_place_spec =
     tie.close
     (tie.spec invariant-loop decreases-loop (λ c. search rules) (λ c. search rules) (λ c. search rules) (λ c. search rules)
     (λ c. search rules) apart-requires loop-holds add-plus plus-requires (λ c. omega arith) more-up-to-requires sub-w loop-less

@@ -10,25 +10,25 @@ use Rattle.script_commands.proofs.TableLaws.{load-text, load-bad}
 use Rattle.script_commands.proofs.read.load.Statement.{statement}
 use Rattle.script_commands.proofs.read.load.Tie as tie
 
-returns : tie.Need-returns
+returns : tie.Need-returns-in-Bytes
 returns c = λ b.
-    let c9 = c.before.before.before.before.before.before.before.before.before in
+    let c9 = c in
     let a = c9.args in
-    let u = c.before.before.before.before.before.unescape in
-    let r = c.before.r.given in
+    let u = c.unescape-r in
+    let r = c.in-Bytes in
     record {
-      says = load-text (lent a.text.now b) load (λ t. refl) (unescaped a.escaped.now) u.result u.new.1.0 u.ensures.holds r.0.0 r.1;
-      inside = omega (arith, u.ensures.inside, ap size_in r.1);
+      says = load-text (lent a.text.now b) load (λ t. refl) (unescaped a.escaped.now) u.result u.new.out u.ensures.holds r.n r.is;
+      inside = omega (arith, u.ensures.inside, ap size_in r.is);
     }
 
-returns-2 : tie.Need-returns-2
+returns-2 : tie.Need-returns-in-Bad
 returns-2 c = λ b.
-    let c8 = c.before.before.before.before.before.before.before.before in
+    let c8 = c in
     let a = c8.args in
-    let u = c.before.before.before.before.unescape in
+    let u = c.unescape-r in
     record {
-      says = load-bad (lent a.text.now b) load (λ t. refl) (unescaped a.escaped.now) u.result u.new.1.0 u.ensures.holds
-          c.enum_told.given.1;
+      says = load-bad (lent a.text.now b) load (λ t. refl) (unescaped a.escaped.now) u.result u.new.out u.ensures.holds
+          c.in-Bad.is;
       inside = tt;
     }
 

@@ -6,15 +6,15 @@ use Rattle.text_read.proofs.form.in_limits.Tie as tie
 returns : tie.Need-returns
 returns c =
     simp (
-      c.both4.ensures,
-      c.before.both3.ensures,
-      c.before.before.before.both2.ensures,
-      c.before.before.before.before.before.both.ensures,
-      c.before.before.before.before.before.before.header-fits.ensures,
+      c.both.ensures,
+      c.both-e.ensures,
+      c.both-v.ensures,
+      c.both-f.ensures,
+      c.header_fits.ensures,
     )
 
-pub in-limits-spec : {M : Type 1} → statement M
-in-limits-spec =
+pub in_limits_spec : {M : Type 1} → statement M
+in_limits_spec =
     tie.close
     (tie.spec (λ c κs. search rules) (λ c κs. search rules) (λ c κs. search rules) (λ c κs. search rules) (λ c κs. search rules)
     returns)

@@ -12,84 +12,82 @@ use Rattle.text_scan.proofs.Lines.{has, has-not}
 use Rattle.text_read.proofs.form.level_lines.Statement.{statement}
 use Rattle.text_read.proofs.form.level_lines.Tie as tie
 
-abbrev invariant-loop : tie.invariant-loop
-invariant-loop text from sizes₀ vias₀ halves₀ at₀ levels₀ vertices₀ fit₀ t11 sizes vias halves at levels vertices fit =
+abbrev invariant-loop : tie.invariant-loop-from
+invariant-loop text from sizes₀ vias₀ halves₀ at₀ levels₀ vertices₀ fit₀ sizes vias halves at levels vertices fit =
     RowsSoFar text from sizes₀ vias₀ halves₀ sizes vias halves at levels vertices fit
 
-abbrev decreases-loop : tie.decreases-loop
-decreases-loop text from sizes₀ vias₀ halves₀ at₀ levels₀ vertices₀ fit₀ t11 sizes vias halves at levels vertices fit =
+abbrev decreases-loop : tie.decreases-loop-from
+decreases-loop text from sizes₀ vias₀ halves₀ at₀ levels₀ vertices₀ fit₀ sizes vias halves at levels vertices fit =
     length text - at
 
-loop-holds : tie.Need-loop-init invariant-loop decreases-loop
+loop-holds : tie.Need-loop-from-init invariant-loop decreases-loop
 loop-holds c =
-    let a = c.before.before.before.before.args in rows_none a.text.now a.from a.sizes.now a.vias.now a.halves.now c.before.before.before.before.requires.0
+    let a = c.args in rows_none a.text.now a.from a.sizes.now a.vias.now a.halves.now c.requires.0
 
-word-at-requires : tie.Need-word-at-requires invariant-loop decreases-loop
-word-at-requires c κs = c.before.loop.invariant.reached.inside
+word-at-requires : tie.Need-word_at-requires invariant-loop decreases-loop
+word-at-requires c κs = c.loop-from.invariant.reached.inside
 
-same_length : tie.Need-same-length invariant-loop decreases-loop
-same_length c = c.before.before.before.loop.invariant.sizes_long
+same_length : tie.Need-shape_of-sizes-then-not-word_at invariant-loop decreases-loop
+same_length c = c.loop-from.invariant.sizes_long
 
-same-length-2 : tie.Need-same-length-2 invariant-loop decreases-loop
-same-length-2 c = c.before.before.before.loop.invariant.vias_long
+same-length-2 : tie.Need-shape_of-vias-then-not-word_at invariant-loop decreases-loop
+same-length-2 c = c.loop-from.invariant.vias_long
 
-same-length-3 : tie.Need-same-length-3 invariant-loop decreases-loop
-same-length-3 c = c.before.before.before.loop.invariant.halves_long
+same-length-3 : tie.Need-shape_of-halves-then-not-word_at invariant-loop decreases-loop
+same-length-3 c = c.loop-from.invariant.halves_long
 
-returns : tie.Need-returns invariant-loop decreases-loop
+returns : tie.Need-returns-then-not-word_at invariant-loop decreases-loop
 returns c =
-    let a = c.before.before.before.before.before.before.before.before.args in rows_end a.text.now a.from a.sizes.now a.vias.now a.halves.now c.before.before.before.loop.invariant (has-not c.before.word_at.ensures (not-true _ c.if1.true))
+    let a = c.args in rows_end a.text.now a.from a.sizes.now a.vias.now a.halves.now c.loop-from.invariant (has-not c.word_at.ensures (not-true _ c.if-not-word_at.true-raw))
 
-add-level-rest : tie.Need-overflow-add-level-rest invariant-loop decreases-loop
+add-level-rest : tie.Need-overflow_add-at invariant-loop decreases-loop
 add-level-rest c =
-    omega (arith, c.before.before.before.loop.invariant.reached, c.before.before.before.before.before.before.before.before)
+    omega (arith, c.loop-from.invariant.reached, c.before.before.before.before.before.before.before.before)
 
-level-rest-requires : tie.Need-level-rest-requires invariant-loop decreases-loop
+level-rest-requires : tie.Need-level_rest-row-requires invariant-loop decreases-loop
 level-rest-requires c κs =
-    omega (arith, c.before.before.before.word_at.ensures.inside (not-false _ c.before.before.if1.false), c.before.before.before.before.before.loop.invariant.fewer, c.before.before.before.before.before.loop.invariant.reached)
+    omega (arith, c.word_at.ensures.inside (not-false _ c.if-not-word_at.false-raw), c.loop-from.invariant.fewer, c.loop-from.invariant.reached)
 
-same-length-4 : tie.Need-same-length-4 invariant-loop decreases-loop
+same-length-4 : tie.Need-shape_of-sizes-then-not-row invariant-loop decreases-loop
 same-length-4 c =
-    c.before.before.before.before.before.before.before.before.before.before.before.before.loop.invariant.sizes_long
+    c.loop-from.invariant.sizes_long
 
-same-length-5 : tie.Need-same-length-5 invariant-loop decreases-loop
+same-length-5 : tie.Need-shape_of-vias-then-not-row invariant-loop decreases-loop
 same-length-5 c =
-    c.before.before.before.before.before.before.level-rest.auto.1.1.1.0 ∙ c.before.before.before.before.before.before.before.before.before.before.before.before.loop.invariant.vias_long
+    c.level_rest-row.auto.vias ∙ c.loop-from.invariant.vias_long
 
-same-length-6 : tie.Need-same-length-6 invariant-loop decreases-loop
+same-length-6 : tie.Need-shape_of-halves-then-not-row invariant-loop decreases-loop
 same-length-6 c =
-    c.before.before.before.before.before.before.level-rest.auto.1.1.1.1.0 ∙ c.before.before.before.before.before.before.before.before.before.before.before.before.loop.invariant.halves_long
+    c.level_rest-row.auto.halves ∙ c.loop-from.invariant.halves_long
 
-returns-2 : tie.Need-returns-2 invariant-loop decreases-loop
+returns-2 : tie.Need-returns-then-not-row invariant-loop decreases-loop
 returns-2 c =
-    let a = c.before.before.before.before.before.before.before.before.before.before.before.before.before.before.before.before.before.args in let l = c.before.before.before.before.before.before.level-rest in
-    let f : l.result.form ≡ false = not-true _ c.if2.true in
-    rows-broken a.text.now a.from a.sizes.now a.vias.now a.halves.now c.before.before.before.before.before.before.before.before.before.before.before.before.loop.invariant (has c.before.before.before.before.before.before.before.before.before.before.word_at.ensures (not-false _ c.before.before.before.before.before.before.before.before.before.if1.false)) (l.ensures.gives ∙ rw f)
+    let a = c.args in let l = c.level_rest-row in
+    let f : l.result.form ≡ false = not-true _ c.if-not-row.true in
+    rows-broken a.text.now a.from a.sizes.now a.vias.now a.halves.now c.loop-from.invariant (has c.word_at.ensures (not-false _ c.if-not-word_at.false-raw)) (l.ensures.gives ∙ rw f)
 
-cast-put-short : tie.Need-overflow-cast-put-short invariant-loop decreases-loop
+cast-put-short : tie.Need-overflow_cast-row invariant-loop decreases-loop
 cast-put-short c =
-    omega (arith, c.before.before.before.before.before.before.before.before.level-rest.ensures.inside, c.before.before.before.before.before.before.before.before.level-rest.ensures.onward, c.before.before.before.before.before.before.before.before.before.before.before.before.before.before.before.before.before.before.before.requires)
+    omega (arith, c.level_rest-row.ensures.inside, c.level_rest-row.ensures.onward, c.requires)
 
-add-levels : tie.Need-overflow-add-levels invariant-loop decreases-loop
+add-levels : tie.Need-overflow_add-levels invariant-loop decreases-loop
 add-levels c =
-    omega (arith, c.before.before.before.before.before.before.before.before.before.before.before.before.before.before.before.before.before.loop.invariant.reached, c.before.before.before.before.before.before.before.before.before.before.before.before.before.before.before.before.before.before.before.before.before.before)
+    omega (arith, c.loop-from.invariant.reached, c.before.before.before.before.before.before.before.before.before.before.before.before.before.before.before.before.before.before.before.before.before.before)
 
-add-vertices : tie.Need-overflow-add-vertices invariant-loop decreases-loop
+add-vertices : tie.Need-overflow_add-vertices invariant-loop decreases-loop
 add-vertices c =
-    omega (arith, c.before.before.before.before.before.before.before.before.before.before.before.before.before.before.before.before.before.before.loop.invariant.fewer, c.before.before.before.before.before.before.before.before.before.before.before.before.level-rest.ensures.inside, c.before.before.before.before.before.before.before.before.before.before.before.before.level-rest.ensures.onward, c.before.before.before.before.before.before.before.before.before.before.before.before.before.before.before.before.before.before.before.before.before.before.before.requires)
+    omega (arith, c.loop-from.invariant.fewer, c.level_rest-row.ensures.inside, c.level_rest-row.ensures.onward, c.requires)
 
-loop-less : tie.Need-loop-smaller invariant-loop decreases-loop
+loop-less : tie.Need-loop-from-smaller invariant-loop decreases-loop
 loop-less c =
-    omega (arith, c.before.before.before.before.before.before.before.before.before.before.before.before.before.level-rest.ensures.inside, c.before.before.before.before.before.before.before.before.before.before.before.before.before.level-rest.ensures.onward)
+    omega (arith, c.level_rest-row.ensures.inside, c.level_rest-row.ensures.onward)
 
-loop-again : tie.Need-loop-preserved invariant-loop decreases-loop
+loop-again : tie.Need-loop-from-preserved invariant-loop decreases-loop
 loop-again c =
-    let a = c.before.before.before.before.before.before.before.before.before.before.before.before.before.before.before.before.before.before.before.before.before.before.before.before.args in let l = c.before.before.before.before.before.before.before.before.before.before.before.before.before.level-rest in
-    rows_more a.text.now a.from a.sizes.now a.vias.now a.halves.now c.before.before.before.before.before.before.before.before.before.before.before.before.before.before.before.before.before.before.before.loop.invariant l.result l.ensures (not-false _ c.before.before.before.before.before.before.before.if2.false) (has c.before.before.before.before.before.before.before.before.before.before.before.before.before.before.before.before.before.word_at.ensures (not-false _ c.before.before.before.before.before.before.before.before.before.before.before.before.before.before.before.before.if1.false)) c.before.before.before.before.put-short.ensures c.both.ensures l.auto.1.1.1.0 l.auto.1.1.1.1.0
+    let a = c.args in let l = c.level_rest-row in
+    rows_more a.text.now a.from a.sizes.now a.vias.now a.halves.now c.loop-from.invariant l.result l.ensures (not-false _ c.if-not-row.false) (has c.word_at.ensures (not-false _ c.if-not-word_at.false-raw)) c.put_short.ensures c.both-fit.ensures l.auto.vias l.auto.halves
 
-pub level-lines-spec : {M : Type 1} → statement M
-level-lines-spec =
+pub level_lines_spec : {M : Type 1} → statement M
+level_lines_spec =
     tie.close
-    (tie.spec invariant-loop decreases-loop loop-holds (λ c. search rules) word-at-requires same_length same-length-2 same-length-3 returns
-    add-level-rest level-rest-requires same-length-4 same-length-5 same-length-6 returns-2 cast-put-short (λ c κs. search rules)
-    add-levels add-vertices (λ c κs. search rules) loop-less loop-again)
+    (tie.spec invariant-loop decreases-loop loop-holds word-at-requires same_length same-length-2 same-length-3 returns add-level-rest level-rest-requires same-length-4 same-length-5 same-length-6 returns-2 cast-put-short (λ c κs. search rules) add-levels add-vertices (λ c κs. search rules) loop-less loop-again)

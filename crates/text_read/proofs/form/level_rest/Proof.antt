@@ -11,29 +11,27 @@ use Rattle.text_scan.proofs.Lines.{has, has-not}
 use Rattle.text_read.proofs.form.level_rest.Statement.{statement}
 use Rattle.text_read.proofs.form.level_rest.Tie as tie
 
-returns : tie.Need-returns
+returns : tie.Need-returns-then-row-eq0
 returns c =
-    let a = c.before.before.before.before.before.before.before.before.before.before.before.before.before.args in let v = c.before.before.before.before.before.before.before.vertices in
-    let z : length v.ensures.vertices ≡ 0 = sym v.ensures.counted ∙ c.if1.true in
-    level-row a.text.now a.from a.first v.result a.vias.now a.halves.now _ _ v.ensures false _ v.result.next c.before.before.row_fits.ensures
+    let a = c.args in let v = c.vertices-row in
+    let z : length v.ensures.vertices ≡ 0 = sym v.ensures.counted ∙ c.if-row-eq0.true in
+    level-row a.text.now a.from a.first v.result a.vias.now a.halves.now _ _ v.ensures false _ v.result.next c.row_fits-fit.ensures
     (rest-none (length a.text.now) (drop a.from a.text.now) _ v.ensures.vertices v.ensures.gives z) v.ensures.inside (omega arith)
 
-returns-2 : tie.Need-returns-2
+returns-2 : tie.Need-returns-then-not-word_at
 returns-2 c =
-    let a = c.before.before.before.before.before.before.before.before.before.before.before.before.before.before.before.before.args in let v = c.before.before.before.before.before.before.before.before.before.before.vertices in
-    level-row a.text.now a.from a.first v.result a.vias.now a.halves.now _ _ v.ensures false _ v.result.next c.before.before.before.before.before.row_fits.ensures
-    (rest-open (length a.text.now) (drop a.from a.text.now) _ v.ensures.vertices v.ensures.gives (has-not c.before.word_at.ensures (not-true _ c.if2.true))) v.ensures.inside (omega arith)
+    let a = c.args in let v = c.vertices-row in
+    level-row a.text.now a.from a.first v.result a.vias.now a.halves.now _ _ v.ensures false _ v.result.next c.row_fits-fit.ensures
+    (rest-open (length a.text.now) (drop a.from a.text.now) _ v.ensures.vertices v.ensures.gives (has-not c.word_at.ensures (not-true _ c.if-not-word_at.true-raw))) v.ensures.inside (omega arith)
 
-returns-3 : tie.Need-returns-3
+returns-3 : tie.Need-returns
 returns-3 c =
-    let a = c.before.before.before.before.before.before.before.before.before.before.before.before.before.before.before.before.before.args in let v = c.before.before.before.before.before.before.before.before.before.before.before.vertices in
-    let t = not-false _ c.before.if2.false in
-    level-row a.text.now a.from a.first v.result a.vias.now a.halves.now _ _ v.ensures true _ (v.result.next + 2) c.before.before.before.before.before.before.row_fits.ensures
-    (rest-found (length a.text.now) (drop a.from a.text.now) _ v.ensures.vertices _ v.ensures.gives (λ z. c.before.before.before.before.if1.false (v.ensures.counted ∙ z)) (has c.before.before.word_at.ensures t)) (c.before.before.word_at.ensures.inside t) (omega arith)
+    let a = c.args in let v = c.vertices-row in
+    let t = not-false _ c.if-not-word_at.false-raw in
+    level-row a.text.now a.from a.first v.result a.vias.now a.halves.now _ _ v.ensures true _ (v.result.next + 2) c.row_fits-fit.ensures
+    (rest-found (length a.text.now) (drop a.from a.text.now) _ v.ensures.vertices _ v.ensures.gives (λ z. c.if-row-eq0.false (v.ensures.counted ∙ z)) (has c.word_at.ensures t)) (c.word_at.ensures.inside t) (omega arith)
 
-pub level-rest-spec : {M : Type 1} → statement M
-level-rest-spec =
+pub level_rest_spec : {M : Type 1} → statement M
+level_rest_spec =
     tie.close
-    (tie.spec (λ c κs. search rules) (λ c κs. search rules) (λ c. search rules) (λ c. search rules) returns (λ c. search rules)
-    (λ c κs. search rules) (λ c. search rules) (λ c. search rules) returns-2 (λ c. search rules) (λ c. search rules)
-    (λ c. search rules) returns-3)
+    (tie.spec (λ c κs. search rules) (λ c κs. search rules) (λ c. search rules) (λ c. search rules) returns (λ c κs. search rules) (λ c. search rules) (λ c. search rules) returns-2 (λ c. search rules) (λ c. search rules) (λ c. search rules) returns-3)

@@ -5,8 +5,8 @@ use lib.Seq.{set_out}
 use Rattle.text_read.proofs.form.put.Statement.{statement}
 use Rattle.text_read.proofs.form.put.Tie as tie
 
-returns-2 : tie.Need-returns-2
-returns-2 c = sym (set_out _ _ _ c.if1.false)
+returns-2 : tie.Need-returns-else-i-xs
+returns-2 c = sym (set_out _ _ _ c.if-i-xs.false)
 
 pub put_spec : {M : Type 1} → statement M
 put_spec = tie.close

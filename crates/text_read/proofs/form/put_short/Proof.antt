@@ -5,9 +5,9 @@ use lib.Seq.{set_out}
 use Rattle.text_read.proofs.form.put_short.Statement.{statement}
 use Rattle.text_read.proofs.form.put_short.Tie as tie
 
-returns-2 : tie.Need-returns-2
-returns-2 c = sym (set_out _ _ _ c.if1.false)
+returns-2 : tie.Need-returns-else-i-xs
+returns-2 c = sym (set_out _ _ _ c.if-i-xs.false)
 
-pub put-short-spec : {M : Type 1} → statement M
-put-short-spec = tie.close
+pub put_short_spec : {M : Type 1} → statement M
+put_short_spec = tie.close
     (tie.spec (λ c. search rules) (λ c. search rules) (λ c. search rules) (λ c. search rules) returns-2)

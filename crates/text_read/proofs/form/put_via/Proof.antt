@@ -5,9 +5,9 @@ use lib.Seq.{set_out}
 use Rattle.text_read.proofs.form.put_via.Statement.{statement}
 use Rattle.text_read.proofs.form.put_via.Tie as tie
 
-returns-2 : tie.Need-returns-2
-returns-2 c = sym (set_out _ _ _ c.if1.false)
+returns-2 : tie.Need-returns-else-i-vias
+returns-2 c = sym (set_out _ _ _ c.if-i-vias.false)
 
-pub put-via-spec : {M : Type 1} → statement M
-put-via-spec = tie.close
+pub put_via_spec : {M : Type 1} → statement M
+put_via_spec = tie.close
     (tie.spec (λ c. search rules) (λ c. search rules) (λ c. search rules) returns-2)

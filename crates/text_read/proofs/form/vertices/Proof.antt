@@ -11,54 +11,54 @@ use Rattle.text_scan.proofs.Lines.{found, found-not}
 use Rattle.text_read.proofs.form.vertices.Statement.{statement}
 use Rattle.text_read.proofs.form.vertices.Tie as tie
 
-abbrev invariant-loop : tie.invariant-loop
+abbrev invariant-loop : tie.invariant-loop-v
 invariant-loop text from first vias₀ halves₀ at₀ count₀ fit₀ vias halves at count fit = RowSoFar text from first vias₀ halves₀ vias halves at count fit
 
-abbrev decreases-loop : tie.decreases-loop
+abbrev decreases-loop : tie.decreases-loop-v
 decreases-loop text from first vias₀ halves₀ at₀ count₀ fit₀ vias halves at count fit = length text - at
 
-loop-holds : tie.Need-loop-init invariant-loop decreases-loop
+loop-holds : tie.Need-loop-v-init invariant-loop decreases-loop
 loop-holds c =
-    let a = c.before.before.before.args in row-none a.text.now a.from a.first a.vias.now a.halves.now c.before.before.before.requires.0
+    let a = c.args in row-none a.text.now a.from a.first a.vias.now a.halves.now c.requires.0
 
-vertex-at-requires : tie.Need-vertex-at-requires invariant-loop decreases-loop
-vertex-at-requires c κs = c.loop.invariant.reached.inside
+vertex-at-requires : tie.Need-vertex_at-v-requires invariant-loop decreases-loop
+vertex-at-requires c κs = c.loop-v.invariant.reached.inside
 
-same_length : tie.Need-same-length invariant-loop decreases-loop
-same_length c = c.before.before.before.loop.invariant.vias_long
+same_length : tie.Need-shape_of-vias-then-not-v invariant-loop decreases-loop
+same_length c = c.loop-v.invariant.vias_long
 
-same-length-2 : tie.Need-same-length-2 invariant-loop decreases-loop
-same-length-2 c = c.before.before.before.loop.invariant.halves_long
+same-length-2 : tie.Need-shape_of-halves-then-not-v invariant-loop decreases-loop
+same-length-2 c = c.loop-v.invariant.halves_long
 
-returns : tie.Need-returns invariant-loop decreases-loop
+returns : tie.Need-returns-then-not-v invariant-loop decreases-loop
 returns c =
-    let a = c.before.before.before.before.before.before.before.args in row-end a.text.now a.from a.first a.vias.now a.halves.now c.before.before.before.loop.invariant _ (found-not c.before.before.vertex-at.ensures (not-true _ c.if1.true))
+    let a = c.args in row-end a.text.now a.from a.first a.vias.now a.halves.now c.loop-v.invariant _ (found-not c.vertex_at-v.ensures (not-true _ c.if-not-v.true))
 
-add-put-via : tie.Need-overflow-add-put-via invariant-loop decreases-loop
+add-put-via : tie.Need-overflow_add-first invariant-loop decreases-loop
 add-put-via c =
-    omega (arith, c.before.before.before.before.loop.invariant.reached, c.before.before.before.before.before.before.before.before)
+    omega (arith, c.loop-v.invariant.reached, c.before.before.before.before.before.before.before.before)
 
-add-put-short : tie.Need-overflow-add-put-short invariant-loop decreases-loop
+add-put-short : tie.Need-overflow_add-first-in-loop-v invariant-loop decreases-loop
 add-put-short c =
-    omega (arith, c.before.before.before.before.before.before.before.before.loop.invariant.reached, c.before.before.before.before.before.before.before.before.before.before.before.before)
+    omega (arith, c.loop-v.invariant.reached, c.before.before.before.before.before.before.before.before.before.before.before.before)
 
-add-count : tie.Need-overflow-add-count invariant-loop decreases-loop
+add-count : tie.Need-overflow_add-count invariant-loop decreases-loop
 add-count c =
-    omega (arith, c.before.before.before.before.before.before.before.before.before.before.before.before.before.before.loop.invariant.reached, c.before.before.before.before.before.before.before.before.before.before.before.before.before.before.before.before.before.before)
+    omega (arith, c.loop-v.invariant.reached, c.before.before.before.before.before.before.before.before.before.before.before.before.before.before.before.before.before.before)
 
-loop-less : tie.Need-loop-smaller invariant-loop decreases-loop
+loop-less : tie.Need-loop-v-smaller invariant-loop decreases-loop
 loop-less c =
-    omega (arith, c.before.before.before.before.before.before.before.before.before.before.before.before.before.before.loop.invariant.reached, c.before.before.before.before.before.before.before.before.before.before.before.before.before.before.before.before.before.before, c.before.before.before.before.before.before.before.before.before.before.before.before.before.vertex-at.ensures.inside, c.before.before.before.before.before.before.before.before.before.before.before.before.before.vertex-at.ensures.onward (not-false _ c.before.before.before.before.before.before.before.before.before.before.before.if1.false))
+    omega (arith, c.loop-v.invariant.reached, c.before.before.before.before.before.before.before.before.before.before.before.before.before.before.before.before.before.before, c.vertex_at-v.ensures.inside, c.vertex_at-v.ensures.onward (not-false _ c.if-not-v.false))
 
-loop-again : tie.Need-loop-preserved invariant-loop decreases-loop
+loop-again : tie.Need-loop-v-preserved invariant-loop decreases-loop
 loop-again c =
-    let a = c.before.before.before.before.before.before.before.before.before.before.before.before.before.before.before.before.before.before.args in let v = c.before.before.before.before.before.before.before.before.before.before.before.before.before.vertex-at in
-    let e = not-false _ c.before.before.before.before.before.before.before.before.before.before.before.if1.false in
-    row_more a.text.now a.from a.first a.vias.now a.halves.now c.before.before.before.before.before.before.before.before.before.before.before.before.before.before.loop.invariant (vertex_of v.result) v.result.next c.before.before.before.before.before.half_of.result
-    (found v.ensures e) (v.ensures.onward e) v.ensures.inside c.before.before.before.before.before.half_of.ensures c.before.before.before.before.before.before.before.before.before.put-via.ensures c.before.before.before.before.put-short.ensures (c.both.ensures ∙ rw c.before.half-fits.ensures)
+    let a = c.args in let v = c.vertex_at-v in
+    let e = not-false _ c.if-not-v.false in
+    row_more a.text.now a.from a.first a.vias.now a.halves.now c.loop-v.invariant (vertex_of v.result) v.result.next c.half_of.result
+    (found v.ensures e) (v.ensures.onward e) v.ensures.inside c.half_of.ensures c.put_via.ensures c.put_short.ensures (c.both-fit.ensures ∙ rw c.half_fits.ensures)
 
-pub vertices-spec : {M : Type 1} → statement M
-vertices-spec =
+pub vertices_spec : {M : Type 1} → statement M
+vertices_spec =
     tie.close
     (tie.spec invariant-loop decreases-loop loop-holds vertex-at-requires same_length same-length-2 returns add-put-via (λ c κs. search rules)
     add-put-short (λ c κs. search rules) (λ c κs. search rules) (λ c κs. search rules) (λ c κs. search rules) add-count

@@ -12,18 +12,18 @@ use borrow.Author.Rules.{rules}
 use Rattle.text_write.proofs.again.refuse.Statement.{statement}
 use Rattle.text_write.proofs.again.refuse.Tie as tie
 
-put-then-requires : tie.Need-put-then-requires
+put-then-requires : tie.Need-put_then-requires
 unfolding refused_line
-put-then-requires c κs = room_after (decimal c.before.before.before.before.before.before.before.before.args.n ++ bytes ")\n") (refused_line c.before.before.before.before.before.before.before.before.args.n) c.before.before.before.before.put_word.ensures (omega (arith, refused-short c.before.before.before.before.before.before.before.before.args.n (omega (arith, c.before.before.before.before.before.before.before.before.ranges.n)), c.before.before.before.before.before.before.before.before.requires)) (simp length-append (omega arith))
+put-then-requires c κs = room_after (decimal c.args.n ++ bytes ")\n") (refused_line c.args.n) c.put_word-at.ensures (omega (arith, refused-short c.args.n (omega (arith, c.ranges.n)), c.requires)) (simp length-append (omega arith))
 
-same_length : tie.Need-same-length
-same_length c = wrote-long (and_then c.before.before.before.before.before.before.before.put_word.ensures c.before.before.put_then.ensures)
+same_length : tie.Need-shape_of-out
+same_length c = wrote-long (and_then c.put_word-at.ensures c.put_then.ensures)
 
 returns : tie.Need-returns
 unfolding refused_line
-returns c = front_of (and_both (decimal c.before.before.before.before.before.before.before.before.before.before.before.args.n) (bytes ")\n") c.before.before.before.before.before.before.before.put_word.ensures c.before.before.put_then.ensures) (omega (arith, refused-short c.before.before.before.before.before.before.before.before.before.before.before.args.n (omega (arith, c.before.before.before.before.before.before.before.before.before.before.before.ranges.n)), c.before.before.before.before.before.before.before.before.before.before.before.requires))
+returns c = front_of (and_both (decimal c.args.n) (bytes ")\n") c.put_word-at.ensures c.put_then.ensures) (omega (arith, refused-short c.args.n (omega (arith, c.ranges.n)), c.requires))
 
-pub refuse-spec : {M : Type 1} → statement M
-refuse-spec =
+pub refuse_spec : {M : Type 1} → statement M
+refuse_spec =
     tie.close
-    (tie.spec (λ c. refl) (λ c κs. search rules) (λ c. refl) put-then-requires same_length returns)
+    (tie.spec (λ c κs. search rules) put-then-requires same_length returns)

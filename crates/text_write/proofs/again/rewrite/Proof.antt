@@ -6,30 +6,30 @@ use Rattle.text_write.proofs.AgainLaws.{read-accepted, read-refused, rewritten-a
 use Rattle.text_write.proofs.again.rewrite.Statement.{statement}
 use Rattle.text_write.proofs.again.rewrite.Tie as tie
 
-text-if-short-requires : tie.Need-text-if-short-requires
+text-if-short-requires : tie.Need-text_if_short-requires
 text-if-short-requires c κs =
-    let s = c.before.before.before.before.before.before.before.args.text.now in
-    let a = read-accepted s c.before.before.before.before.read.result _ _ c.before.before.before.before.read.ensures c.before.before.answer.given.1 in
+    let s = c.args.text.now in
+    let a = read-accepted s c.read-r.result _ _ c.read-r.ensures c.in-Accepted.is in
     (a.stored, sym (ap length a.same))
 
-same_length : tie.Need-same-length
-same_length c = c.before.before.text-if-short.auto.1.1.1.1.0
+same_length : tie.Need-shape_of-out
+same_length c = c.text_if_short.auto.out
 
-returns : tie.Need-returns
+returns : tie.Need-returns-in-Accepted
 returns c =
-    let s = c.before.before.before.before.before.before.before.before.before.before in
-    let read = c.before.before.before.before.before.before.before.read in
-    let a = read-accepted s.args.text.now read.result _ _ read.ensures c.before.before.before.before.before.answer.given.1 in
-    rw (a.read, rewritten-accepted) c.before.before.text-if-short.ensures
+    let s = c in
+    let read = c.read-r in
+    let a = read-accepted s.args.text.now read.result _ _ read.ensures c.in-Accepted.is in
+    rw (a.read, rewritten-accepted) c.text_if_short.ensures
 
-returns-2 : tie.Need-returns-2
+returns-2 : tie.Need-returns-in-Refused
 returns-2 c =
-    let s = c.before.before.before.before.before.before in
-    let read = c.before.before.before.read in
-    rw (read-refused s.args.text.now read.result _ read.ensures c.before.answer2.given.1) (leaves-refused _ s.args.out.now)
+    let s = c in
+    let read = c.read-r in
+    rw (read-refused s.args.text.now read.result _ read.ensures c.in-Refused.is) (leaves-refused _ s.args.out.now)
 
-pub rewrite-spec : {M : Type 1} → statement M
-rewrite-spec =
+pub rewrite_spec : {M : Type 1} → statement M
+rewrite_spec =
     tie.close
     (tie.spec (λ c κs. search rules) (λ c. search rules) text-if-short-requires (λ c. search rules) same_length returns
     returns-2)

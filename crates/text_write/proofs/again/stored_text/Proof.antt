@@ -30,56 +30,56 @@ long-lowers c = search rules
 long-ratings : (c : tie.Start) → length c.args.plan.ratings ≡ max_segments
 long-ratings c = search rules
 
-array-share-prefix-sizes : tie.Need-array-share-prefix-sizes
-array-share-prefix-sizes c = let s = c.before.before.before.before.before.before.before.before in omega (arith, long-sizes s, (stored s).levels, c.before.before.before.before.before.before.wide.ensures)
+array-share-prefix-sizes : tie.Need-slice_bounds-sizes-end
+array-share-prefix-sizes c = let s = c.before.before.before.before.before.before.before.before in omega (arith, long-sizes s, (stored s).levels, c.wide-k.ensures)
 
-slice-aggregate-text : tie.Need-slice-aggregate-text
-slice-aggregate-text c = let s = c.before.before.before.before.before.before.before.before.before in sym (length-take-le _ _ (omega (arith, long-sizes s, (stored s).levels, c.before.before.before.before.before.before.before.wide.ensures)))
+slice-aggregate-text : tie.Need-slice_bounds-text-end
+slice-aggregate-text c = let s = c.before.before.before.before.before.before.before.before.before in sym (length-take-le _ _ (omega (arith, long-sizes s, (stored s).levels, c.wide-k.ensures)))
 
-array-share-prefix-vias : tie.Need-array-share-prefix-vias
+array-share-prefix-vias : tie.Need-slice_bounds-vias-end
 array-share-prefix-vias c = let s = c.before.before.before.before.before.before.before.before.before in omega (arith, long-vias s, (stored s).vertices)
 
-slice-aggregate-text-2 : tie.Need-slice-aggregate-text-2
+slice-aggregate-text-2 : tie.Need-slice_bounds-text-end-2
 slice-aggregate-text-2 c = let s = c.before.before.before.before.before.before.before.before.before.before in sym (length-take-le _ _ (omega (arith, long-vias s, (stored s).vertices)))
 
-array-share-prefix-halves : tie.Need-array-share-prefix-halves
+array-share-prefix-halves : tie.Need-slice_bounds-halves-end
 array-share-prefix-halves c = let s = c.before.before.before.before.before.before.before.before.before.before in omega (arith, long-halves s, (stored s).vertices)
 
-slice-aggregate-text-3 : tie.Need-slice-aggregate-text-3
+slice-aggregate-text-3 : tie.Need-slice_bounds-text-end-3
 slice-aggregate-text-3 c = let s = c.before.before.before.before.before.before.before.before.before.before.before in sym (length-take-le _ _ (omega (arith, long-halves s, (stored s).vertices)))
 
-array-share-prefix-uppers : tie.Need-array-share-prefix-uppers
+array-share-prefix-uppers : tie.Need-slice_bounds-uppers-end
 array-share-prefix-uppers c = let s = c.before.before.before.before.before.before.before.before.before.before.before in omega (arith, long-uppers s, (stored s).segments)
 
-slice-aggregate-text-4 : tie.Need-slice-aggregate-text-4
+slice-aggregate-text-4 : tie.Need-slice_bounds-text-end-4
 slice-aggregate-text-4 c = let s = c.before.before.before.before.before.before.before.before.before.before.before.before in sym (length-take-le _ _ (omega (arith, long-uppers s, (stored s).segments)))
 
-array-share-prefix-lowers : tie.Need-array-share-prefix-lowers
+array-share-prefix-lowers : tie.Need-slice_bounds-lowers-end
 array-share-prefix-lowers c = let s = c.before.before.before.before.before.before.before.before.before.before.before.before in omega (arith, long-lowers s, (stored s).segments)
 
-slice-aggregate-text-5 : tie.Need-slice-aggregate-text-5
+slice-aggregate-text-5 : tie.Need-slice_bounds-text-end-5
 slice-aggregate-text-5 c = let s = c.before.before.before.before.before.before.before.before.before.before.before.before.before in sym (length-take-le _ _ (omega (arith, long-lowers s, (stored s).segments)))
 
-array-share-prefix-ratings : tie.Need-array-share-prefix-ratings
+array-share-prefix-ratings : tie.Need-slice_bounds-ratings-end
 array-share-prefix-ratings c = let s = c.before.before.before.before.before.before.before.before.before.before.before.before.before in omega (arith, long-ratings s, (stored s).segments)
 
-slice-aggregate-text-6 : tie.Need-slice-aggregate-text-6
+slice-aggregate-text-6 : tie.Need-slice_bounds-text-end-6
 slice-aggregate-text-6 c = let s = c.before.before.before.before.before.before.before.before.before.before.before.before.before.before in sym (length-take-le _ _ (omega (arith, long-ratings s, (stored s).segments)))
 
 text-requires : tie.Need-text-requires
 text-requires c κs =
-    let k = c.before.before.before.before.before.before.before.before.before.before.before.before.before.wide.ensures in
+    let k = c.wide-k.ensures in
     let s = c.before.before.before.before.before.before.before.before.before.before.before.before.before.before.before in
     (rw k (stored s).plan, rw k s.requires.1)
 
-same_length : tie.Need-same-length
-same_length c = c.before.before.text.auto.1.1.1.1.1.1.1.1.1.0
+same_length : tie.Need-shape_of-out
+same_length c = c.text.auto.out
 
 returns : tie.Need-returns
-returns c = rw c.before.before.before.before.before.before.before.before.before.before.before.before.before.before.before.before.wide.ensures at c.before.before.text.ensures
+returns c = rw c.wide-k.ensures at c.text.ensures
 
-pub stored-text-spec : {M : Type 1} → statement M
-stored-text-spec =
+pub stored_text_spec : {M : Type 1} → statement M
+stored_text_spec =
     tie.close
     (tie.spec (λ c κs. tt) array-share-prefix-sizes slice-aggregate-text array-share-prefix-vias slice-aggregate-text-2
     array-share-prefix-halves slice-aggregate-text-3 array-share-prefix-uppers slice-aggregate-text-4

@@ -3,15 +3,15 @@ use native.Mathlib.Omega.{arith}
 use Rattle.text_write.proofs.lines.line.Statement.{statement}
 use Rattle.text_write.proofs.lines.line.Tie as tie
 
-put-line-requires : tie.Need-put-line-requires
-put-line-requires c κs = c.before.before.before.before.before.before.before.before.requires
+put-line-requires : tie.Need-put_line-requires
+put-line-requires c κs = c.requires
 
-same_length : tie.Need-same-length
-same_length c = wrote-long c.before.before.put-line.ensures
+same_length : tie.Need-shape_of-out
+same_length c = wrote-long c.put_line.ensures
 
 returns : tie.Need-returns
-returns c = front_of c.before.before.put-line.ensures (omega (arith, c.before.before.before.before.before.before.before.before.before.before.before.requires.room))
+returns c = front_of c.put_line.ensures (omega (arith, c.requires.room))
 
-pub line-spec : {M : Type 1} → statement M
-line-spec = tie.close
+pub line_spec : {M : Type 1} → statement M
+line_spec = tie.close
     (tie.spec put-line-requires same_length returns)

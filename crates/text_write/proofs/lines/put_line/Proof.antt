@@ -19,60 +19,57 @@ limits c = laws.limits (plan c) c.requires.plan
 even : (c : tie.Start) → Even (plan c)
 even c = ((limits c).ends_long, (limits c).ratings_long)
 
-put-plan-requires : tie.Need-put-plan-requires
-put-plan-requires c κs = let s = c.before.before.before.before.before.before.before.before.before in rw (line-0 (plan s) s.args.n c.before.if1.true) at s.requires.room
+put-plan-requires : tie.Need-put_plan-requires
+put-plan-requires c κs = let s = c.before.before.before.before.before.before.before.before.before in rw (line-0 (plan s) s.args.n c.if-n-eq0.true) at s.requires.room
 
-same_length : tie.Need-same-length
-same_length c = wrote-long c.before.before.put-plan.ensures
+same_length : tie.Need-shape_of-out-then-n-eq0
+same_length c = wrote-long c.put_plan.ensures
 
-returns : tie.Need-returns
-returns c = let s = c.before.before.before.before.before.before.before.before.before.before.before.before in rw (line-0 (plan s) s.args.n c.before.before.before.before.if1.true) c.before.before.put-plan.ensures
+returns : tie.Need-returns-then-n-eq0
+returns c = let s = c.before.before.before.before.before.before.before.before.before.before.before.before in rw (line-0 (plan s) s.args.n c.if-n-eq0.true) c.put_plan.ensures
 
-put-level-requires : tie.Need-put-level-requires
+put-level-requires : tie.Need-put_level-requires
 put-level-requires c κs =
     let s = c.before.before.before.before.before.before.before.before.before.before in
     record {
       levels = (limits s).lists.levels;
-      level = omega (arith, c.before.before.if1.false, c.before.if2.true);
+      level = omega (arith, c.if-n-eq0.false, c.if-n-sizes.true);
       vertices = (limits s).sizes_sum;
       half = (limits s).halves_long;
-      room = rw (line-l (plan s) s.args.n c.before.before.if1.false c.before.if2.true) at s.requires.room;
+      room = rw (line-l (plan s) s.args.n c.if-n-eq0.false c.if-n-sizes.true) at s.requires.room;
     }
 
-same-length-2 : tie.Need-same-length-2
-same-length-2 c = wrote-long c.before.before.put-level.ensures
+same-length-2 : tie.Need-shape_of-out-then-n-sizes
+same-length-2 c = wrote-long c.put_level.ensures
 
-returns-2 : tie.Need-returns-2
-returns-2 c = let s = c.before.before.before.before.before.before.before.before.before.before.before.before.before in rw (line-l (plan s) s.args.n c.before.before.before.before.before.if1.false c.before.before.before.before.if2.true) c.before.before.put-level.ensures
+returns-2 : tie.Need-returns-then-n-sizes
+returns-2 c = let s = c.before.before.before.before.before.before.before.before.before.before.before.before.before in rw (line-l (plan s) s.args.n c.if-n-eq0.false c.if-n-sizes.true) c.put_level.ensures
 
-shared-slice-read-put-segment-2 : tie.Need-shared-slice-read-put-segment-2
-shared-slice-read-put-segment-2 c = omega (arith, even c.before.before.before.before.before.before.before.before.before.before.before.before.before, c.before.before.before.if3.true)
+shared-slice-read-put-segment-2 : tie.Need-bounds-lowers-i
+shared-slice-read-put-segment-2 c = omega (arith, even c.before.before.before.before.before.before.before.before.before.before.before.before.before, c.if-i-uppers.true)
 
-shared-slice-read-put-segment-3 : tie.Need-shared-slice-read-put-segment-3
-shared-slice-read-put-segment-3 c = omega (arith, even c.before.before.before.before.before.before.before.before.before.before.before.before.before.before, c.before.before.before.before.if3.true)
+shared-slice-read-put-segment-3 : tie.Need-bounds-ratings-i
+shared-slice-read-put-segment-3 c = omega (arith, even c.before.before.before.before.before.before.before.before.before.before.before.before.before.before, c.if-i-uppers.true)
 
-put-segment-requires : tie.Need-put-segment-requires
-put-segment-requires c κs = let s = c.before.before.before.before.before.before.before.before.before.before.before.before.before.before in rw (line-segment (plan s) s.args.n c.before.before.before.before.before.if2.false (even s) c.before.before.before.before.if3.true) at s.requires.room
+put-segment-requires : tie.Need-put_segment-requires
+put-segment-requires c κs = let s = c.before.before.before.before.before.before.before.before.before.before.before.before.before.before in rw (line-segment (plan s) s.args.n c.if-n-sizes.false (even s) c.if-i-uppers.true) at s.requires.room
 
-same-length-3 : tie.Need-same-length-3
-same-length-3 c = wrote-long c.before.before.put-segment.ensures
+same-length-3 : tie.Need-shape_of-out-then-i-uppers
+same-length-3 c = wrote-long c.put_segment.ensures
 
-returns-3 : tie.Need-returns-3
-returns-3 c = let s = c.before.before.before.before.before.before.before.before.before.before.before.before.before.before.before.before.before in rw (line-segment (plan s) s.args.n c.before.before.before.before.before.before.before.before.if2.false (even s) c.before.before.before.before.before.before.before.if3.true) c.before.before.put-segment.ensures
+returns-3 : tie.Need-returns-then-i-uppers
+returns-3 c = let s = c.before.before.before.before.before.before.before.before.before.before.before.before.before.before.before.before.before in rw (line-segment (plan s) s.args.n c.if-n-sizes.false (even s) c.if-i-uppers.true) c.put_segment.ensures
 
-put-word-requires : tie.Need-put-word-requires
-put-word-requires c κs = let s = c.before.before.before.before.before.before.before.before.before.before.before.before in rw (line-last (plan s) s.args.n c.before.before.before.if2.false (even s) c.before.before.if3.false s.requires.line) at s.requires.room
+put-word-requires : tie.Need-put_word-requires
+put-word-requires c κs = let s = c.before.before.before.before.before.before.before.before.before.before.before.before.before in rw (line-last (plan s) s.args.n c.if-n-sizes.false (even s) c.if-i-uppers.false s.requires.line) at s.requires.room
 
-same-length-4 : tie.Need-same-length-4
-same-length-4 c = wrote-long c.before.before.put_word.ensures
+same-length-4 : tie.Need-shape_of-out
+same-length-4 c = wrote-long c.put_word.ensures
 
-returns-4 : tie.Need-returns-4
-returns-4 c = let s = c.before.before.before.before.before.before.before.before.before.before.before.before.before.before.before in rw (line-last (plan s) s.args.n c.before.before.before.before.before.before.if2.false (even s) c.before.before.before.before.before.if3.false s.requires.line) c.before.before.put_word.ensures
+returns-4 : tie.Need-returns
+returns-4 c = let s = c.before.before.before.before.before.before.before.before.before.before.before.before.before.before.before.before in rw (line-last (plan s) s.args.n c.if-n-sizes.false (even s) c.if-i-uppers.false s.requires.line) c.put_word.ensures
 
-pub put-line-spec : {M : Type 1} → statement M
-put-line-spec =
+pub put_line_spec : {M : Type 1} → statement M
+put_line_spec =
     tie.close
-    (tie.spec put-plan-requires same_length returns (λ c. search rules) put-level-requires same-length-2 returns-2
-    (λ c. search rules) (λ c. search rules) (λ c. search rules) (λ c. search rules) (λ c. search rules)
-    shared-slice-read-put-segment-2 (λ c. search rules) shared-slice-read-put-segment-3 put-segment-requires same-length-3
-    returns-3 (λ c. refl) put-word-requires same-length-4 returns-4)
+    (tie.spec put-plan-requires same_length returns (λ c. search rules) put-level-requires same-length-2 returns-2 (λ c. search rules) (λ c. search rules) (λ c. search rules) (λ c. search rules) (λ c. search rules) shared-slice-read-put-segment-2 (λ c. search rules) shared-slice-read-put-segment-3 put-segment-requires same-length-3 returns-3 put-word-requires same-length-4 returns-4)

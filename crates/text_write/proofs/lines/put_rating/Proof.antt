@@ -11,31 +11,31 @@ use Rattle.text_write.proofs.Written.{wrote_none, wrote-long, and_then, room_aft
 use Rattle.text_write.proofs.lines.put_rating.Statement.{statement}
 use Rattle.text_write.proofs.lines.put_rating.Tie as tie
 
-returns : tie.Need-returns
+returns : tie.Need-returns-then-rating-eq1
 unfolding rating_words
-returns c = rw (eq-eqb _ _ c.if1.true) (wrote_none c.before.before.args.out.now c.before.before.args.at)
+returns c = rw (eq-eqb _ _ c.if-rating-eq1.true) (wrote_none c.args.out.now c.args.at)
 
-put-word-requires : tie.Need-put-word-requires
+put-word-requires : tie.Need-put_word-w-requires
 unfolding rating_words
 put-word-requires c κs =
-    let s = c.before.before.before.before in
-    room_after (bytes " ") (bytes " " ++ decimal s.args.rating) (wrote_none s.args.out.now s.args.at) (rw (ne_eqb _ _ c.before.before.if1.false) at s.requires)
+    let s = c in
+    room_after (bytes " ") (bytes " " ++ decimal s.args.rating) (wrote_none s.args.out.now s.args.at) (rw (ne_eqb _ _ c.if-rating-eq1.false) at s.requires)
     (simp length-append (omega arith))
 
-put-decimal-requires : tie.Need-put-decimal-requires
+put-decimal-requires : tie.Need-put_decimal-requires
 unfolding rating_words
 put-decimal-requires c κs =
-    let s = c.before.before.before.before.before.before.before.before in
-    room_after (decimal s.args.rating) (bytes " " ++ decimal s.args.rating) c.before.before.before.put_word.ensures (rw (ne_eqb _ _ c.before.before.before.before.before.before.if1.false) at s.requires)
+    let s = c in
+    room_after (decimal s.args.rating) (bytes " " ++ decimal s.args.rating) c.put_word-w.ensures (rw (ne_eqb _ _ c.if-rating-eq1.false) at s.requires)
     (simp length-append (omega arith))
 
-same_length : tie.Need-same-length
-same_length c = wrote-long (and_then c.before.before.before.before.before.before.put_word.ensures c.before.before.put-decimal.ensures)
+same_length : tie.Need-shape_of-out
+same_length c = wrote-long (and_then c.put_word-w.ensures c.put_decimal.ensures)
 
-returns-2 : tie.Need-returns-2
+returns-2 : tie.Need-returns
 unfolding rating_words
-returns-2 c = rw (ne_eqb _ _ c.before.before.before.before.before.before.before.before.before.if1.false) (and_then c.before.before.before.before.before.before.put_word.ensures c.before.before.put-decimal.ensures)
+returns-2 c = rw (ne_eqb _ _ c.if-rating-eq1.false) (and_then c.put_word-w.ensures c.put_decimal.ensures)
 
-pub put-rating-spec : {M : Type 1} → statement M
-put-rating-spec = tie.close
-    (tie.spec returns (λ c. refl) put-word-requires put-decimal-requires same_length returns-2)
+pub put_rating_spec : {M : Type 1} → statement M
+put_rating_spec = tie.close
+    (tie.spec returns put-word-requires put-decimal-requires same_length returns-2)

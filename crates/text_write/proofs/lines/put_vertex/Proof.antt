@@ -11,34 +11,33 @@ use Rattle.text_write.proofs.Written.{wrote_none, wrote-long, and_then, and_both
 use Rattle.text_write.proofs.lines.put_vertex.Statement.{statement}
 use Rattle.text_write.proofs.lines.put_vertex.Tie as tie
 
-put-word-requires : tie.Need-put-word-requires
+put-word-requires : tie.Need-put_word-requires
 unfolding vertex_words
-put-word-requires c κs = rw c.before.before.if1.true at c.before.before.before.before.requires
+put-word-requires c κs = rw c.if-via.true at c.requires
 
-same_length : tie.Need-same-length
-same_length c = wrote-long c.before.before.put_word.ensures
+same_length : tie.Need-shape_of-out-then-via
+same_length c = wrote-long c.put_word.ensures
 
-returns : tie.Need-returns
+returns : tie.Need-returns-then-via
 unfolding vertex_words
-returns c = rw c.before.before.before.before.before.if1.true c.before.before.put_word.ensures
+returns c = rw c.if-via.true c.put_word.ensures
 
-put-word-requires-2 : tie.Need-put-word-requires-2
+put-word-requires-2 : tie.Need-put_word-h-requires
 unfolding vertex_words
-put-word-requires-2 c κs = room_after (bytes " (box ") (words_of false c.before.before.before.before.args.half) (wrote_none c.before.before.before.before.args.out.now c.before.before.before.before.args.at) (rw c.before.before.if1.false at c.before.before.before.before.requires) (simp length-append (omega arith))
+put-word-requires-2 c κs = room_after (bytes " (box ") (words_of false c.args.half) (wrote_none c.args.out.now c.args.at) (rw c.if-via.false at c.requires) (simp length-append (omega arith))
 
-put-then-requires : tie.Need-put-then-requires
+put-then-requires : tie.Need-put_then-requires
 unfolding vertex_words
-put-then-requires c κs = room_after (decimal c.before.before.before.before.before.before.before.before.before.args.half ++ bytes ")") (words_of false c.before.before.before.before.before.before.before.before.before.args.half) c.before.before.before.before.put-word2.ensures (rw c.before.before.before.before.before.before.before.if1.false at c.before.before.before.before.before.before.before.before.before.requires) (simp length-append (omega arith))
+put-then-requires c κs = room_after (decimal c.args.half ++ bytes ")") (words_of false c.args.half) c.put_word-h.ensures (rw c.if-via.false at c.requires) (simp length-append (omega arith))
 
-same-length-2 : tie.Need-same-length-2
-same-length-2 c = wrote-long (and_then c.before.before.before.before.before.before.before.put-word2.ensures c.before.before.put_then.ensures)
+same-length-2 : tie.Need-shape_of-out
+same-length-2 c = wrote-long (and_then c.put_word-h.ensures c.put_then.ensures)
 
-returns-2 : tie.Need-returns-2
+returns-2 : tie.Need-returns
 unfolding vertex_words
-returns-2 c = rw c.before.before.before.before.before.before.before.before.before.before.if1.false (and_both (decimal c.before.before.before.before.before.before.before.before.before.before.before.before.args.half) (bytes ")") c.before.before.before.before.before.before.before.put-word2.ensures c.before.before.put_then.ensures)
+returns-2 c = rw c.if-via.false (and_both (decimal c.args.half) (bytes ")") c.put_word-h.ensures c.put_then.ensures)
 
-pub put-vertex-spec : {M : Type 1} → statement M
-put-vertex-spec =
+pub put_vertex_spec : {M : Type 1} → statement M
+put_vertex_spec =
     tie.close
-    (tie.spec (λ c. refl) put-word-requires same_length returns (λ c. refl) put-word-requires-2 (λ c. refl) put-then-requires
-    same-length-2 returns-2)
+    (tie.spec put-word-requires same_length returns put-word-requires-2 put-then-requires same-length-2 returns-2)

@@ -14,29 +14,29 @@ use Rattle.text_write.proofs.lines.put_vertices.Reads as reads
 use Rattle.text_write.proofs.lines.put_vertices.Lts as lts
 use Rattle.text_write.proofs.lines.put_vertex.Reads as put-vertex-reads
 
-abbrev invariant-loop : tie.invariant-loop
+abbrev invariant-loop : tie.invariant-loop-i
 invariant-loop out₀ from vias halves first count at₀ i₀ out at i = (i ≤ count) × (length out ≡ length out₀) × Wrote (row_words (vertices_of vias halves) (numbers first i)) out₀ from at out
 
-abbrev decreases-loop : tie.decreases-loop
+abbrev decreases-loop : tie.decreases-loop-i
 decreases-loop out₀ from vias halves first count at₀ i₀ out at i = count - i
 
-loop-holds : tie.Need-loop-init invariant-loop decreases-loop
-loop-holds c = (omega arith, refl, rw (row-none (vertices_of c.before.before.before.args.vias.now c.before.before.before.args.halves.now) c.before.before.before.args.first) (wrote_none c.before.before.before.args.out.now c.before.before.before.args.from))
+loop-holds : tie.Need-loop-i-init invariant-loop decreases-loop
+loop-holds c = (omega arith, refl, rw (row-none (vertices_of c.args.vias.now c.args.halves.now) c.args.first) (wrote_none c.args.out.now c.args.from))
 
-put-vertex-requires : tie.Need-put-vertex-requires invariant-loop decreases-loop
-put-vertex-requires c κs = vertex-room c.before.before.before.before.before.before.before.before.args.vias.now c.before.before.before.before.before.before.before.before.args.halves.now c.before.before.before.before.before.before.before.before.args.first c.before.before.before.before.loop.i c.before.before.before.before.before.before.before.before.args.count c.before.before.before.loop-test.true c.before.before.before.before.before.before.before.before.requires.2 c.before.before.before.before.loop.invariant.2
+put-vertex-requires : tie.Need-put_vertex-at-requires invariant-loop decreases-loop
+put-vertex-requires c κs = vertex-room c.args.vias.now c.args.halves.now c.args.first c.loop-i.i c.args.count c.loop-i-test.true c.requires.2 c.loop-i.invariant.2
 
-loop-again : tie.Need-loop-preserved invariant-loop decreases-loop
-loop-again c = (omega arith, c.before.before.put-vertex.auto.0 ∙ c.before.before.before.before.before.before.before.loop.invariant.1, vertex-more c.before.before.before.before.before.before.before.before.before.before.before.args.vias.now c.before.before.before.before.before.before.before.before.before.before.before.args.halves.now c.before.before.before.before.before.before.before.before.before.before.before.args.first c.before.before.before.before.before.before.before.loop.i c.before.before.before.before.before.before.before.loop.invariant.2 c.before.before.put-vertex.ensures)
+loop-again : tie.Need-loop-i-preserved invariant-loop decreases-loop
+loop-again c = (omega arith, c.put_vertex-at.auto.out ∙ c.loop-i.invariant.1, vertex-more c.args.vias.now c.args.halves.now c.args.first c.loop-i.i c.loop-i.invariant.2 c.put_vertex-at.ensures)
 
-same_length : tie.Need-same-length invariant-loop decreases-loop
-same_length c = c.before.loop.invariant.1
+same_length : tie.Need-shape_of-out invariant-loop decreases-loop
+same_length c = c.loop-i.invariant.1
 
 returns : tie.Need-returns invariant-loop decreases-loop
-returns c = let e : c.before.loop.i ≡ c.before.before.before.before.before.args.count = omega arith in rw e at c.before.loop.invariant.2
+returns c = let e : c.loop-i.i ≡ c.args.count = omega arith in rw e at c.loop-i.invariant.2
 
-pub put-vertices-spec : {M : Type 1} → statement M
-put-vertices-spec =
+pub put_vertices_spec : {M : Type 1} → statement M
+put_vertices_spec =
     tie.close
     (tie.spec invariant-loop decreases-loop loop-holds (λ c. search rules) (λ c. omega arith) (λ c. search rules) (λ c. search rules)
     (λ c. omega arith) put-vertex-requires (λ c. search rules) (λ c. omega arith) loop-again same_length returns)

@@ -23,29 +23,29 @@ b-neg c = back (neg-fits c)
 
 ruleset backs = (b-z, b-neg)
 
-sub-put-marked : tie.Need-overflow-sub-put-marked
+sub-put-marked : tie.Need-overflow_sub-z
 sub-put-marked c = simp backs (neg-fits c.before.before.before)
 
-cast-put-marked : tie.Need-overflow-cast-put-marked
-cast-put-marked c = let z = c.before.before.before.args.z in let h = simp backs at c.before.if1.true in simp backs (cast-make (pos 0 -ℤ z) (omega (arith, ints, dif (pos 0) z, apart (pos 0 -ℤ z), apart z)))
+cast-put-marked : tie.Need-overflow_cast-z
+cast-put-marked c = let z = c.args.z in let h = simp backs at c.if-z-lt0.true in simp backs (cast-make (pos 0 -ℤ z) (omega (arith, ints, dif (pos 0) z, apart (pos 0 -ℤ z), apart z)))
 
-put-marked-requires : tie.Need-put-marked-requires
-put-marked-requires c κs = let z = c.before.before.before.args.z in simp (b-z, b-neg, same_size) (rw (signed-neg z (simp backs at c.before.if1.true)) at c.before.before.before.requires.1)
+put-marked-requires : tie.Need-put_marked-requires
+put-marked-requires c κs = let z = c.args.z in simp (b-z, b-neg, same_size) (rw (signed-neg z (simp backs at c.if-z-lt0.true)) at c.requires.1)
 
-cast-put-marked-2 : tie.Need-overflow-cast-put-marked-2
-cast-put-marked-2 c = let z = c.before.before.before.args.z in let h = simp backs at c.before.if1.false in simp backs (cast-make z (omega (arith, ints, apart z)))
+cast-put-marked-2 : tie.Need-overflow_cast-z-else-z-lt0
+cast-put-marked-2 c = let z = c.args.z in let h = simp backs at c.if-z-lt0.false in simp backs (cast-make z (omega (arith, ints, apart z)))
 
-put-marked-requires-2 : tie.Need-put-marked-requires-2
-put-marked-requires-2 c κs = let z = c.before.before.before.args.z in simp backs (rw (signed-pos z (simp backs at c.before.if1.false)) at c.before.before.before.requires.1)
+put-marked-requires-2 : tie.Need-put_marked-requires-else-z-lt0
+put-marked-requires-2 c κs = let z = c.args.z in simp backs (rw (signed-pos z (simp backs at c.if-z-lt0.false)) at c.requires.1)
 
-returns : tie.Need-returns
-returns c = let z = c.before.before.before.before.before.before.args.z in rw (signed-neg z (simp backs at c.before.before.before.before.if1.true)) (simp (b-z, b-neg, same_size) at c.before.before.put-marked.ensures)
+returns : tie.Need-returns-then-z-lt0
+returns c = let z = c.args.z in rw (signed-neg z (simp backs at c.if-z-lt0.true)) (simp (b-z, b-neg, same_size) at c.put_marked.ensures)
 
-returns-2 : tie.Need-returns-2
-returns-2 c = let z = c.before.before.before.before.before.before.args.z in rw (signed-pos z (simp backs at c.before.before.before.before.if1.false)) (simp backs at c.before.before.put-marked2.ensures)
+returns-2 : tie.Need-returns-else-z-lt0
+returns-2 c = let z = c.args.z in rw (signed-pos z (simp backs at c.if-z-lt0.false)) (simp backs at c.put_marked-else-z-lt0.ensures)
 
-pub put-signed-spec : {M : Type 1} → statement M
-put-signed-spec =
+pub put_signed_spec : {M : Type 1} → statement M
+put_signed_spec =
     tie.close
     (tie.spec sub-put-marked cast-put-marked put-marked-requires cast-put-marked-2 put-marked-requires-2 (λ c. search rules)
     returns (λ c. search rules) returns-2)

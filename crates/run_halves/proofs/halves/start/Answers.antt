@@ -1,0 +1,39 @@
+-- The two neighbours that `start` reads are the middle ones.
+use Rattle.std.proofs.Common.{◌≡◌, ◌∙◌, sym, arith, ℕ, ◌≤◌, length, List, [], ◌∷◌, ℤ, pos, w64, to_z, of_z}
+use lib.ListN.{get_or}
+use Rattle.ints.specs.Ints.{size}
+use Rattle.ints.specs.Reach.{reach}
+use Rattle.ints.proofs.Laws.{back, back', fit-make, fit-sum}
+use Rattle.run.specs.Run.{leads_of, start_of}
+use Rattle.run.proofs.Unrated.{start_none}
+use Rattle.run_columns.specs.inner.Sums.{ratings_between, SumsOf}
+use Rattle.run_halves.proofs.Middles.{start_between}
+use Rattle.run_halves.proofs.halves.start.Goals as goal
+
+none : (old : ℤ) (ns : List ℤ) (ws : List ℕ) → length ns ≡ 0 → old ≡ start_of old (leads_of ns ws)
+unfolding leads_of
+none old [] ws h = sym (start_none old)
+none old (n ∷ ns) ws h = absurd (omega arith)
+
+-- what is read of a position within reach
+read : (z : ℤ) → size z ≤ reach → to_z w64 (of_z w64 z) ≡ z
+read z h = back (fit-make z (omega arith))
+
+-- src/halves.rt:39:9
+pub returns-then-near-eq0 : goal.returns-then-near-eq0
+returns-then-near-eq0 c = back c.ranges.old ∙ none c.args.old c.args.near.now (ratings_between c.args.sums.now) c.if-near-eq0.true
+
+-- src/halves.rt:34:1
+pub returns : goal.returns
+returns c =
+    let a = c.args in
+    let near = c.requires.0 in
+    let i = c.find_middles-middles.result.lower in
+    let j = c.find_middles-middles.result.upper in
+    let s : SumsOf a.sums.now a.near.now = c.requires.1 in
+    let m = c.find_middles-middles.ensures in
+    let l : size (get_or a.near.now i (pos 0)) ≤ reach = near i (omega (arith, m.lower.within, s.long)) in
+    let h : size (get_or a.near.now j (pos 0)) ≤ reach = near j (omega (arith, m.upper.within, s.long)) in
+    back' c.half_down.result c.half_down.type_inv
+    ∙ simp (read (get_or a.near.now i (pos 0)) l, read (get_or a.near.now j (pos 0)) h, back (fit-sum (get_or a.near.now i (pos 0)) (get_or a.near.now j (pos 0)) (omega (arith, l, h)))) at c.half_down.ensures
+    ∙ start_between s a.old i j m
