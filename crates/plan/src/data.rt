@@ -6,7 +6,7 @@ ghost use Rattle.plan.specs.Stored.{stored_plan, empty_plan};
 // `vias` has whether it is a via and `halves` its half-width; of each segment `uppers` and `lowers` have its ends A and B,
 // `ratings` its rating.
 // How many vertices and segments there are is the stage's to say; what lies beyond is no part of the plan.
-#[derive(Drop)]
+#[derive(Clone, Copy)]
 pub struct Plan {
     pub levels: u32,
     pub gap: u32,

@@ -7,7 +7,7 @@ use plan::data::Plan;
 // Preliminary and final position of each vertex, in half steps; of each placing its pass, its level and how many boxes it has; the
 // boxes of all placings one after another, each with its vertex and its position after. How many vertices and placings there are
 // is the stage's to say; what lies beyond is no part of the drawing.
-#[derive(Drop)]
+#[derive(Clone, Copy)]
 pub struct Drawing {
     pub preliminary: [i64; Plan::MAX_VERTICES],
     pub finals: [i64; Plan::MAX_VERTICES],

@@ -1,5 +1,5 @@
 -- The lines of a report by number, and that they ask for no more of a plan than `plan_part` has.
-use mathlib.Core.Path.{◌≡◌, sym, ◌∙◌, ap}
+use mathlib.Core.Path.{fun_ext, ◌≡◌, sym, ◌∙◌, ap}
 use mathlib.Core.Bool.{false}
 use mathlib.Core.List.{List, [], ◌∷◌, ◌++◌, map, append_assoc}
 use Prim.Native.Nat.{ℕ, suc, ◌+◌, ◌-◌, ◌≤◌, ◌<◌}
@@ -27,9 +27,14 @@ pub record HasPart (p : PlanData) (spacing : ℕ) (sizes : List ℕ) (v : ℕ) :
   pub of_sizes : p.sizes ≡ sizes
   pub of_vertices : vertex_count p ≡ v
 
+at-same : {p : PlanData} {spacing : ℕ} {sizes : List ℕ} {v : ℕ} → HasPart p spacing sizes v → (d : Drawing) (w : ℕ) → at_line_of p d w ≡ at_line_of (plan_part spacing sizes v) d w
+unfolding at_line_of level_of height_of
+at-same h d w = rw (h.of_spacing, h.of_sizes)
+
 pub same_lines : {p : PlanData} {spacing : ℕ} {sizes : List ℕ} {v : ℕ} → HasPart p spacing sizes v → (d : Drawing) → report_lines p d ≡ report_lines (plan_part spacing sizes v) d
-unfolding report_lines at_line_of level_of height_of
-same_lines {v} h d = rw (h.of_spacing, h.of_sizes, h.of_vertices, length-replicate v false)
+unfolding report_lines
+same_lines {v} h d = rw (h.of_vertices, length-replicate v false)
+    (ap (λ (f : ℕ → List ℕ). drawing_line v (length d.placings) ∷ map f (numbers 0 v) ++ map place_line d.placings ++ (end_line ∷ [])) (fun_ext (at-same h d)))
 
 module _ (p : PlanData) (d : Drawing) where
   abbrev pub at_lines : List (List ℕ)

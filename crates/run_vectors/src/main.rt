@@ -6,9 +6,11 @@
 
 ghost use Rattle.std.specs.Prelude.{◌≤◌};
 
-use libc::{STDIN_FILENO, STDOUT_FILENO};
 use place_run::call::place_run;
 use run::types::{Answer, Bound};
+use std::io;
+use std::io::Write;
+use streams::read_full;
 
 const MAX_SIZE: u64 = 18446744073709551615;
 
@@ -136,34 +138,29 @@ fn magnitude(x: i64) -> u64 {
     if x < 0 { (-1 - x) as u64 + 1 } else { x as u64 }
 }
 
-fn print(x: i64) {
+fn print<W: Write>(output: &mut W, x: i64) -> io::Result<()> {
     if x < 0 {
-        io::write_all(STDOUT_FILENO, b" -");
+        output.write_all(b" -")?;
     } else {
-        io::write_all(STDOUT_FILENO, b" ");
+        output.write_all(b" ")?;
     }
-    io::print_decimal(STDOUT_FILENO, magnitude(x));
+    write!(output, "{}", magnitude(x))
 }
 
-fn print_outcome(answer: Answer, buffer: &[i64]) {
+fn print_outcome<W: Write>(output: &mut W, answer: Answer, buffer: &[i64]) -> io::Result<()> {
     match answer {
-        Answer::Accepted => {
-            io::write_all(STDOUT_FILENO, b"0");
-        }
-        Answer::Refused => {
-            io::write_all(STDOUT_FILENO, b"8");
-        }
+        Answer::Accepted => output.write_all(b"0")?,
+        Answer::Refused => output.write_all(b"8")?,
     }
-    let mut i: usize = 0;
-    while i < buffer.len() {
-        print(buffer[i]);
-        i += 1;
+    for x in buffer {
+        print(output, *x)?;
     }
-    io::write_all(STDOUT_FILENO, b"\n");
+    output.write_all(b"\n")
 }
 
 // Answers the request at `from` and answers where the next one starts. The slices are as long as the request's lists.
-fn answered(
+fn answered<W: Write>(
+    output: &mut W,
     text: &[u8],
     from: usize,
     old: &mut [i64],
@@ -172,7 +169,7 @@ fn answered(
     neighbours: &mut [i64],
     ratings: &mut [u64],
     answer: &mut [i64],
-) -> usize {
+) -> io::Result<usize> {
     let r = size(text, from);
     let left = bound(text, after(text, from, 1));
     let right = bound(text, after(text, from, 3));
@@ -185,12 +182,13 @@ fn answered(
     let outcome = place_run(
         r, left, right, old, distances, counts, neighbours, ratings, answer,
     );
-    print_outcome(outcome, answer);
-    end
+    print_outcome(output, outcome, answer)?;
+    Ok(end)
 }
 
 // The same on slices that are long enough.
-fn cut_and_answered(
+fn cut_and_answered<W: Write>(
+    output: &mut W,
     text: &[u8],
     from: usize,
     old: &mut [i64],
@@ -199,7 +197,7 @@ fn cut_and_answered(
     neighbours: &mut [i64],
     ratings: &mut [u64],
     answer: &mut [i64],
-) -> usize {
+) -> io::Result<usize> {
     let at_old = after(text, from, 5);
     let o = length_at(text, at_old, old.len());
     let at_distances = after(text, next(text, at_old), o);
@@ -213,6 +211,7 @@ fn cut_and_answered(
     let at_answer = after(text, next(text, at_ratings), w);
     let a = length_at(text, at_answer, answer.len());
     answered(
+        output,
         text,
         from,
         &mut old[..o],
@@ -224,7 +223,7 @@ fn cut_and_answered(
     )
 }
 
-fn request(text: &[u8], from: usize) -> usize {
+fn request<W: Write>(output: &mut W, text: &[u8], from: usize) -> io::Result<usize> {
     let mut old = [0i64; 128];
     let mut distances = [0u64; 128];
     let mut counts = [0u64; 128];
@@ -232,6 +231,7 @@ fn request(text: &[u8], from: usize) -> usize {
     let mut ratings = [0u64; 4096];
     let mut answer = [0i64; 128];
     cut_and_answered(
+        output,
         text,
         from,
         &mut old,
@@ -243,19 +243,20 @@ fn request(text: &[u8], from: usize) -> usize {
     )
 }
 
-fn main() {
+fn main(rt: HostRuntime) -> io::Result<()> {
     let mut space = [0u8; 131072];
-    let n = io::read_full(STDIN_FILENO, &mut space);
-    requests(&space[..n]);
+    let n = read_full(&mut rt.stdin(), &mut space)?;
+    requests(&mut rt.stdout(), &space[..n])
 }
 
-fn requests(text: &[u8]) {
+fn requests<W: Write>(output: &mut W, text: &[u8]) -> io::Result<()> {
     let mut at: usize = 0;
     while at < text.len() {
-        let end = request(text, at);
+        let end = request(output, text, at)?;
         if end <= at {
-            return;
+            return Ok(());
         }
         at = end;
     }
+    Ok(())
 }

@@ -6,16 +6,16 @@ use Rattle.text_untangle.proofs.ArrayLaws.{tangled-answer}
 use Rattle.text_untangle.proofs.read_tangled.Statement.{statement}
 use Rattle.text_untangle.proofs.read_tangled.Tie as tie
 
-returns : tie.Need-returns
-returns c = c.refuse.ensures ∙ ap untangled_answer (sym (c.before.before.before.before.before.before.before.before.before.before.read-tangled-into.ensures.refuses c.before.if1.true))
+returns : tie.Need-returns-then-r-ne0
+returns c = c.refuse.ensures ∙ ap untangled_answer (sym (c.read_tangled_into-r.ensures.refuses c.if-r-ne0.true))
 
-returns-2 : tie.Need-returns-2
+returns-2 : tie.Need-returns
 returns-2 c =
-    let a = c.before.before.before.before.before.before.before.before.before.before.before.read-tangled-into.ensures.accepts c.before.before.if1.false in
+    let a = c.read_tangled_into-r.ensures.accepts c.if-r-ne0.false in
     rw c.new.ensures (tangled-answer _ _ _ _ _ _ _ _ a.kept _ a.numbered ∙ ap untangled_answer (sym a.reads))
 
-pub read-tangled-spec : {M : Type 1} → statement M
-read-tangled-spec =
+pub read_tangled_spec : {M : Type 1} → statement M
+read_tangled_spec =
     tie.close
     (tie.spec (λ c. search rules) (λ c. search rules) (λ c. search rules) (λ c. search rules) (λ c. search rules) (λ c. search rules)
     (λ c. search rules) (λ c κs. search rules) (λ c κs. search rules) returns (λ c κs. search rules) returns-2)

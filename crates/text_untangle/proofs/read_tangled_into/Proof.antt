@@ -7,33 +7,33 @@ use Rattle.text_untangle.proofs.ArrayLaws.{tangled-in, accepts-tangled}
 use Rattle.text_untangle.proofs.read_tangled_into.Statement.{statement}
 use Rattle.text_untangle.proofs.read_tangled_into.Tie as tie
 
-returns : tie.Need-returns
+returns : tie.Need-returns-then-refuses_both
 returns c =
-    let r = refused-both c.before.before.before.before.before.before.before.before.before.before.before.before.before.before.before.before.before.before.before.before.before.before.before.before.before.before.before.before.before.args.text.now c.before.before.before.before.before.before.before.before.before.before.before.before.before.before.read-into.result _ _ _ _ _ _ _ _ _ _ _ _ c.before.before.before.before.before.before.before.before.before.before.before.before.before.before.read-into.ensures
-    (sym c.before.refuses-both.ensures ∙ c.if1.true) in
+    let r = refused-both c.args.text.now c.read_into-r.result _ _ _ _ _ _ _ _ _ _ _ _ c.read_into-r.ensures
+    (sym c.refuses_both.ensures ∙ c.if-refuses_both.true) in
     record { refuses = λ z. r.1; accepts = λ z. absurd (r.0 z) }
 
-untangle-fronts-requires : tie.Need-untangle-fronts-requires
+untangle-fronts-requires : tie.Need-untangle_fronts-requires
 untangle-fronts-requires c κs =
-    let s = c.before.before.before.before.before.before.before.before.before.before.before.before.before.before.before.before.before.before.before.before.before.before.before.before.before.before.before.before.before.before.before.before.before.before.before.before.before.args.text.now in
-    let f = c.before.before.before.before.before.before.before.before.before.before.before.before.before.before.before.before.before.before.before.before.before.before.read-into.ensures in
-    let p = taken-second s c.before.before.before.before.before.before.before.before.before.before.before.before.before.before.before.before.before.before.before.before.before.before.read-into.result _ _ _ _ _ _ _ _ _ _ _ _ f (sym c.before.before.before.before.before.before.before.before.before.refuses-both.ensures ∙ c.before.before.before.before.before.before.before.before.if1.false) in
-    record { plan = p.0; fronts = tangled-in s p.0 p.1 _ _ _ _ _ _ _ _ _ _ _ _ _ (f.kept p.0 p.1) _ c.before.before.before.before.before.before.before.before.before.before.before.before.before.before.before.before.before.before.before.before.before.before.before.before.before.before.before.before.before.before.before.before.before.before.before.before.before.requires.1 }
+    let s = c.args.text.now in
+    let f = c.read_into-r.ensures in
+    let p = taken-second s c.read_into-r.result _ _ _ _ _ _ _ _ _ _ _ _ f (sym c.refuses_both.ensures ∙ c.if-refuses_both.false) in
+    record { plan = p.0; fronts = tangled-in s p.0 p.1 _ _ _ _ _ _ _ _ _ _ _ _ _ (f.kept p.0 p.1) _ c.requires.1 }
 
-returns-2 : tie.Need-returns-2
+returns-2 : tie.Need-returns
 returns-2 c =
-    let s = c.before.before.before.before.before.before.before.before.before.before.before.before.before.before.before.before.before.before.before.before.before.before.before.before.before.before.before.before.before.before.before.before.before.before.before.before.before.before.before.before.before.before.before.before.before.before.before.before.before.before.args.text.now in
-    let f = c.before.before.before.before.before.before.before.before.before.before.before.before.before.before.before.before.before.before.before.before.before.before.before.before.before.before.before.before.before.before.before.before.before.before.before.read-into.ensures in
-    let p = taken-second s c.before.before.before.before.before.before.before.before.before.before.before.before.before.before.before.before.before.before.before.before.before.before.before.before.before.before.before.before.before.before.before.before.before.before.before.read-into.result _ _ _ _ _ _ _ _ _ _ _ _ f (sym c.before.before.before.before.before.before.before.before.before.before.before.before.before.before.before.before.before.before.before.before.before.before.refuses-both.ensures ∙ c.before.before.before.before.before.before.before.before.before.before.before.before.before.before.before.before.before.before.before.before.before.if1.false) in
+    let s = c.args.text.now in
+    let f = c.read_into-r.ensures in
+    let p = taken-second s c.read_into-r.result _ _ _ _ _ _ _ _ _ _ _ _ f (sym c.refuses_both.ensures ∙ c.if-refuses_both.false) in
     let k = f.kept p.0 p.1 in
-    let t = tangled-in s p.0 p.1 _ _ _ _ _ _ _ _ _ _ _ _ _ k _ c.before.before.before.before.before.before.before.before.before.before.before.before.before.before.before.before.before.before.before.before.before.before.before.before.before.before.before.before.before.before.before.before.before.before.before.before.before.before.before.before.before.before.before.before.before.before.before.before.before.before.requires.1 in
+    let t = tangled-in s p.0 p.1 _ _ _ _ _ _ _ _ _ _ _ _ _ k _ c.requires.1 in
     record {
       refuses = λ z. absurd (z refl);
-      accepts = λ z. accepts-tangled s p.0 p.1 _ _ _ _ _ _ _ _ _ _ _ _ _ k _ _ _ _ _ _ _ (c.before.before.before.before.before.before.before.before.before.before.before.before.untangle-fronts.ensures p.0 t);
+      accepts = λ z. accepts-tangled s p.0 p.1 _ _ _ _ _ _ _ _ _ _ _ _ _ k _ _ _ _ _ _ _ (c.untangle_fronts.ensures p.0 t);
     }
 
-pub read-tangled-into-spec : {M : Type 1} → statement M
-read-tangled-into-spec =
+pub read_tangled_into_spec : {M : Type 1} → statement M
+read_tangled_into_spec =
     tie.close
     (tie.spec (λ c κs. search rules) (λ c κs. search rules) (λ c. search rules) (λ c. search rules) (λ c. search rules) (λ c. search rules)
     (λ c. search rules) (λ c. search rules) returns untangle-fronts-requires (λ c. search rules) (λ c. search rules)

@@ -8,6 +8,6 @@ returns : tie.Need-returns
 unfolding untangled_answer
 returns c = rw c.empty.ensures
 
-pub refuse-spec : {M : Type 1} → statement M
-refuse-spec = tie.close
+pub refuse_spec : {M : Type 1} → statement M
+refuse_spec = tie.close
     (tie.spec (λ c κs. search rules) returns)

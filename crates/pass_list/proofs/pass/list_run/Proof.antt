@@ -9,38 +9,38 @@ use Rattle.pass_list.proofs.ListLaws.{stored-skipped, stored-empty, stored_more,
 use Rattle.pass_list.proofs.pass.list_run.Statement.{statement}
 use Rattle.pass_list.proofs.pass.list_run.Tie as tie
 
-returns : tie.Need-returns
-returns c list s = let a = c.before.before.before.before.before.args in stored-skipped a.placed a.q a.l a.from a.end a.at.now s (not-true _ c.if1.true)
+returns : tie.Need-returns-then-not-placed
+returns c list s = let a = c.args in stored-skipped a.placed a.q a.l a.from a.end a.at.now s (not-true _ c.if-not-placed.true-raw)
 
-returns-2 : tie.Need-returns-2
-returns-2 c list s = let a = c.before.before.before.before.before.before.args in stored-empty a.placed a.q a.l a.from a.end a.at.now s (omega (arith, c.if2.true))
+returns-2 : tie.Need-returns-then-end-from
+returns-2 c list s = let a = c.args in stored-empty a.placed a.q a.l a.from a.end a.at.now s (omega (arith, c.if-end-from.true))
 
-some : (c : tie.Else2) → c.before.before.before.before.before.before.args.from < c.before.before.before.before.before.before.args.end
-some c = omega (arith, c.before.before.before.before.before.before.requires.1, c.if2.false)
+some : (c : tie.Else-end-from) → c.args.from < c.args.end
+some c = omega (arith, c.requires.1, c.if-end-from.false)
 
-fit : (c : tie.Else2) → ListRoom c.before.before.before.before.before.before.args.from c.before.before.before.before.before.before.args.end (length c.before.before.before.before.before.before.args.at.now) c.before.before.before.before.before.before.args.list.placings c.before.before.before.before.before.before.args.list.boxes
-fit c = let a = c.before.before.before.before.before.before.args in let h = c.before.before.before.before.before.before.requires in
-    room a.placed a.q a.l a.from a.end a.at.now h.4 (not-false _ c.before.if1.false) (some c) (length a.at.now) h.2 h.3
+fit : (c : tie.Else-end-from) → ListRoom c.args.from c.args.end (length c.args.at.now) c.args.list.placings c.args.list.boxes
+fit c = let a = c.args in let h = c.requires in
+    room a.placed a.q a.l a.from a.end a.at.now h.4 (not-false _ c.if-not-placed.false-raw) (some c) (length a.at.now) h.2 h.3
 
-list-placing-requires : tie.Need-list-placing-requires
-list-placing-requires c κs = (c.before.before.before.before.before.before.before.before.before.before.before.requires.0, fit c.before.before.before.before.before)
+list-placing-requires : tie.Need-list_placing-requires
+list-placing-requires c κs = (c.requires.0, fit c.before.before.before.before.before)
 
-add-t25 : tie.Need-overflow-add-t25
+add-t25 : tie.Need-overflow_add-result
 add-t25 c = let r = fit c.before.before.before.before.before.before.before.before.before.before.before.before.before.before.before.before in omega (arith, r.placings)
 
-sub-t26 : tie.Need-overflow-sub-t26
+sub-t26 : tie.Need-overflow_sub-result
 sub-t26 c = let r = fit c.before.before.before.before.before.before.before.before.before.before.before.before.before.before.before.before in omega (arith, r.order)
 
-add-t27 : tie.Need-overflow-add-t27
+add-t27 : tie.Need-overflow_add-result-2
 add-t27 c = let r = fit c.before.before.before.before.before.before.before.before.before.before.before.before.before.before.before.before.before in omega (arith, r.boxes)
 
-returns-3 : tie.Need-returns-3
-returns-3 c list s = let a = c.before.before.before.before.before.before.before.before.before.before.before.before.before.before.before.before.before.before.before.before.before.before.before.args in
-    stored_more a.placed a.q a.l a.from a.end a.at.now s (not-false _ c.before.before.before.before.before.before.before.before.before.before.before.before.before.before.before.before.before.before.if1.false) (some c.before.before.before.before.before.before.before.before.before.before.before.before.before.before.before.before.before)
-    (c.before.before.before.before.before.before.before.before.before.before.before.list-placing.ensures list s)
+returns-3 : tie.Need-returns
+returns-3 c list s = let a = c.args in
+    stored_more a.placed a.q a.l a.from a.end a.at.now s (not-false _ c.if-not-placed.false-raw) (some c.before.before.before.before.before.before.before.before.before.before.before.before.before.before.before.before.before)
+    (c.list_placing.ensures list s)
 
-pub list-run-spec : {M : Type 1} → statement M
-list-run-spec =
+pub list_run_spec : {M : Type 1} → statement M
+list_run_spec =
     tie.close
     (tie.spec returns returns-2 list-placing-requires add-t25 sub-t26 add-t27 (λ c. search rules) (λ c. search rules)
     (λ c. search rules) (λ c. search rules) (λ c. search rules) returns-3)

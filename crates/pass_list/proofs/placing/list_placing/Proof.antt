@@ -6,14 +6,14 @@ use Rattle.pass_list.proofs.placing.list_placing.Statement.{statement}
 use Rattle.pass_list.proofs.placing.list_placing.Tie as tie
 
 returns : tie.Need-returns
-returns c list s = let a = c.before.before.before.before.before.before.before.before.before.before.before.args in
-    let r = c.before.before.before.before.before.before.before.before.before.before.before.requires.1 in
-    let v = c.before.before.before.before.before.list-vertices.ensures in
-    let y = c.before.list-positions.ensures in
+returns c list s = let a = c.args in
+    let r = c.requires.1 in
+    let v = c.list_vertices.ensures in
+    let y = c.list_positions.ensures in
     listing-more a.q a.l a.from a.end a.at.now a.n a.b _ _ (sym s.placings) (sym s.boxes) r.order r.placings r.boxes s.lists v.0 v.1 y.0 y.1
 
-pub list-placing-spec : {M : Type 1} → statement M
-list-placing-spec =
+pub list_placing_spec : {M : Type 1} → statement M
+list_placing_spec =
     tie.close
     (tie.spec (λ c. search rules) (λ c. search rules) (λ c. search rules) (λ c. search rules) (λ c. search rules)
     (λ c. search rules) (λ c. search rules) (λ c. search rules) (λ c. search rules) (λ c κs. search rules) (λ c. search rules)

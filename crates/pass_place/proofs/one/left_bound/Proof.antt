@@ -10,12 +10,12 @@ use Rattle.run.specs.declared.types.Bound.TheVariants.{At}
 use Rattle.pass_place.proofs.one.left_bound.Statement.{statement}
 use Rattle.pass_place.proofs.one.left_bound.Tie as tie
 
-returns : tie.Need-returns
-returns c = let a = c.before.before.args in rw (lt-ltb _ _ c.before.if1.true) (ap At (back' (get_or a.at.now (a.from - 1) (pos 0)) c.x.given))
+returns : tie.Need-returns-then-start-from
+returns c = let a = c.args in rw (lt-ltb _ _ c.if-start-from.true) (ap At (back' (get_or a.at.now (a.from - 1) (pos 0)) c.x-1.given))
 
-returns-2 : tie.Need-returns-2
-returns-2 c = rw (le-ltb _ _ c.if1.false)
+returns-2 : tie.Need-returns
+returns-2 c = rw (le-ltb _ _ c.if-start-from.false)
 
-pub left-bound-spec : {M : Type 1} → statement M
-left-bound-spec = tie.close
+pub left_bound_spec : {M : Type 1} → statement M
+left_bound_spec = tie.close
     (tie.spec (λ c. search rules) (λ c. search rules) (λ c. search rules) returns returns-2)

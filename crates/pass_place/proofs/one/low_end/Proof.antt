@@ -4,12 +4,12 @@ use borrow.Author.Tests.{lt-ltb, le-ltb}
 use Rattle.pass_place.proofs.one.low_end.Statement.{statement}
 use Rattle.pass_place.proofs.one.low_end.Tie as tie
 
-returns : tie.Need-returns
-returns c = rw (lt-ltb _ _ c.if1.true)
+returns : tie.Need-returns-then-start-from
+returns c = rw (lt-ltb _ _ c.if-start-from.true)
 
-returns-2 : tie.Need-returns-2
-returns-2 c = rw (le-ltb _ _ c.if1.false)
+returns-2 : tie.Need-returns-else-start-from
+returns-2 c = rw (le-ltb _ _ c.if-start-from.false)
 
-pub low-end-spec : {M : Type 1} → statement M
-low-end-spec = tie.close
+pub low_end_spec : {M : Type 1} → statement M
+low_end_spec = tie.close
     (tie.spec (λ c. search rules) returns returns-2)

@@ -10,25 +10,25 @@ use Rattle.pass_place.proofs.Rows.{row-order}
 use Rattle.pass_place.proofs.one.place_boxes.Statement.{statement}
 use Rattle.pass_place.proofs.one.place_boxes.Tie as tie
 
-returns : tie.Need-returns
+returns : tie.Need-returns-then-from-end
 returns c =
-    let a = c.before.before.before.before.before.args in
-    let z : a.end - a.from ≡ 0 = omega (arith, c.if1.true) in
+    let a = c.args in
+    let z : a.end - a.from ≡ 0 = omega (arith, c.if-from-end.true) in
     let none : length (part a.from a.end a.at.now) ≡ 0 = ap (λ (n : ℕ). length (take n (drop a.from a.at.now))) z in
-    none_is a.left a.right (part a.from a.end a.at.now) a.distances.now _ _ _ a.answer.now (taken a.left a.right (part a.from a.end a.at.now) a.distances.now _ _ _ a.answer.now c.before.before.before.before.before.requires.1) none
+    none_is a.left a.right (part a.from a.end a.at.now) a.distances.now _ _ _ a.answer.now (taken a.left a.right (part a.from a.end a.at.now) a.distances.now _ _ _ a.answer.now c.requires.1) none
 
-sub-if2 : tie.Need-overflow-sub-if2
-sub-if2 c = omega (arith, c.wide2.ensures, c.before.before.wide.ensures, row-order c.before.before.before.before.before.before.before.before.before.requires.0)
+sub-if2 : tie.Need-overflow_sub-wide
+sub-if2 c = omega (arith, c.wide-2.ensures, c.wide.ensures, row-order c.requires.0)
 
-place-near-requires : tie.Need-place-near-requires
+place-near-requires : tie.Need-place_near-requires
 place-near-requires c κs =
-    let a = c.before.before.before.before.before.wide.ensures in
-    let b = c.before.before.before.wide2.ensures in
-    let r = c.before.before.before.before.before.before.before.before.before.before.before.before.requires in
-    (r.0, (r.1, omega (arith, c.before.before.if2.true)))
+    let a = c.wide.ensures in
+    let b = c.wide-2.ensures in
+    let r = c.requires in
+    (r.0, (r.1, omega (arith, c.if-wide-le-FEW.true)))
 
-pub place-boxes-spec : {M : Type 1} → statement M
-place-boxes-spec =
+pub place_boxes_spec : {M : Type 1} → statement M
+place_boxes_spec =
     tie.close
     (tie.spec returns (λ c. search rules) (λ c. search rules) (λ c κs. search rules) (λ c. search rules) (λ c. search rules)
     (λ c κs. search rules) sub-if2 (λ c. search rules) place-near-requires (λ c. search rules) (λ c. search rules)

@@ -5,23 +5,23 @@ use Rattle.pass_place.proofs.Rows.{row-order}
 use Rattle.pass_place.proofs.one.place_many.Statement.{statement}
 use Rattle.pass_place.proofs.one.place_many.Tie as tie
 
-sub-if1 : tie.Need-overflow-sub-if1
-sub-if1 c = omega (arith, c.wide2.ensures, c.before.before.wide.ensures, row-order c.before.before.before.before.before.before.before.before.requires.0)
+sub-if1 : tie.Need-overflow_sub-wide
+sub-if1 c = omega (arith, c.wide-2.ensures, c.wide.ensures, row-order c.requires.0)
 
-place-near-requires : tie.Need-place-near-requires
+place-near-requires : tie.Need-place_near-requires
 place-near-requires c κs =
-    let a = c.before.before.before.before.before.wide.ensures in
-    let b = c.before.before.before.wide2.ensures in
-    let r = c.before.before.before.before.before.before.before.before.before.before.before.requires in
-    (r.0, (r.1, omega (arith, c.before.before.if1.true)))
+    let a = c.wide.ensures in
+    let b = c.wide-2.ensures in
+    let r = c.requires in
+    (r.0, (r.1, omega (arith, c.if-wide-le-SOME.true)))
 
-place-near-requires-2 : tie.Need-place-near-requires-2
+place-near-requires-2 : tie.Need-place_near-requires-2
 place-near-requires-2 c κs =
-    let r = c.before.before.before.before.before.before.before.before.before.before.before.requires in
+    let r = c.requires in
     (r.0, (r.1, omega (arith, r.0.inside, r.0.many)))
 
-pub place-many-spec : {M : Type 1} → statement M
-place-many-spec =
+pub place_many_spec : {M : Type 1} → statement M
+place_many_spec =
     tie.close
     (tie.spec (λ c. search rules) (λ c. search rules) (λ c κs. search rules) (λ c. search rules) (λ c. search rules)
     (λ c κs. search rules) sub-if1 (λ c. search rules) place-near-requires (λ c. search rules) (λ c. search rules)

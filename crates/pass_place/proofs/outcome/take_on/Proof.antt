@@ -14,43 +14,43 @@ use Rattle.pass_place.proofs.OutcomeLaws.{take_none, take_on_lem, gap-right}
 use Rattle.pass_place.proofs.outcome.take_on.Statement.{statement}
 use Rattle.pass_place.proofs.outcome.take_on.Tie as tie
 
-abbrev invariant-loop : tie.invariant-loop
+abbrev invariant-loop : tie.invariant-loop-v
 invariant-loop at low high apart₀ v₀ apart v = (low ≤ v) × (v ≤ high) × (length apart ≡ length apart₀) × (take_on at (numbers v (high - v)) apart ≡ take_on at (numbers low (high - low)) apart₀)
 
-abbrev decreases-loop : tie.decreases-loop
+abbrev decreases-loop : tie.decreases-loop-v
 decreases-loop at low high apart₀ v₀ apart v = high - v
 
-bv : (c : tie.In-loop invariant-loop decreases-loop) → to_z w64 (of_z w64 (get_or c.before.before.before.args.at.now c.before.loop.v (pos 0))) ≡ get_or c.before.before.before.args.at.now c.before.loop.v (pos 0)
-bv c = bits_back _ (c.before.before.before.requires.3 c.before.loop.v)
+bv : (c : tie.In-loop-v invariant-loop decreases-loop) → to_z w64 (of_z w64 (get_or c.args.at.now c.loop-v.v (pos 0))) ≡ get_or c.args.at.now c.loop-v.v (pos 0)
+bv c = bits_back _ (c.requires.3 c.loop-v.v)
 
-bw : (c : tie.In-loop invariant-loop decreases-loop) → to_z w64 (of_z w64 (get_or c.before.before.before.args.at.now (c.before.loop.v + 1) (pos 0))) ≡ get_or c.before.before.before.args.at.now (c.before.loop.v + 1) (pos 0)
-bw c = bits_back _ (c.before.before.before.requires.3 (c.before.loop.v + 1))
+bw : (c : tie.In-loop-v invariant-loop decreases-loop) → to_z w64 (of_z w64 (get_or c.args.at.now (c.loop-v.v + 1) (pos 0))) ≡ get_or c.args.at.now (c.loop-v.v + 1) (pos 0)
+bw c = bits_back _ (c.requires.3 (c.loop-v.v + 1))
 
 ruleset backs = (bv, bw)
 
-loop-holds : tie.Need-loop-init invariant-loop decreases-loop
+loop-holds : tie.Need-loop-v-init invariant-loop decreases-loop
 loop-holds c = (omega arith, omega arith, refl, refl)
 
 apart-requires : tie.Need-apart-requires invariant-loop decreases-loop
-apart-requires c κs = let a = c.before.before.before.before.before.args in let l = c.before.before.before.loop in simp backs (omega (arith, c.before.before.before.before.before.requires.3 l.v, c.before.before.before.before.before.requires.3 (l.v + 1)))
+apart-requires c κs = let a = c.args in let l = c.loop-v in simp backs (omega (arith, c.requires.3 l.v, c.requires.3 (l.v + 1)))
 
-loop-again : tie.Need-loop-preserved invariant-loop decreases-loop
-loop-again c = let a = c.before.before.before.before.before.before.args in
-    let l = c.before.before.before.before.loop in
+loop-again : tie.Need-loop-v-preserved invariant-loop decreases-loop
+loop-again c = let a = c.args in
+    let l = c.loop-v in
     let x = position_of a.at.now l.v in
     let y = position_of a.at.now (l.v + 1) in
-    let g = simp backs at c.apart.ensures ∙ gap-right x y (c.before.before.before.before.before.before.requires.4 l.v l.invariant.0 (omega arith)) in
+    let g = simp backs at c.apart.ensures ∙ gap-right x y (c.requires.4 l.v l.invariant.0 (omega arith)) in
     let m = a.high - (l.v + 1) - 1 in
     let e : a.high - (l.v + 1) ≡ suc m = omega arith in
     (omega arith, omega arith, simp length-set l.invariant.2, rw (e, g) (sym (take_on_lem a.at.now l.v (a.high - l.v) m l.apart (omega arith))) ∙ l.invariant.3)
 
 returns : tie.Need-returns invariant-loop decreases-loop
-returns c = let a = c.before.before.before.args in
-    let l = c.before.loop in
+returns c = let a = c.args in
+    let l = c.loop-v in
     sym (take_none a.at.now l.v (a.high - l.v) l.apart (omega arith)) ∙ l.invariant.3
 
-pub take-on-spec : {M : Type 1} → statement M
-take-on-spec =
+pub take_on_spec : {M : Type 1} → statement M
+take_on_spec =
     tie.close
     (tie.spec invariant-loop decreases-loop loop-holds (λ c. search rules) (λ c. search rules) (λ c. search rules) (λ c. search rules)
     (λ c. search rules) (λ c. search rules) apart-requires (λ c. search rules) (λ c. search rules) (λ c. search rules)

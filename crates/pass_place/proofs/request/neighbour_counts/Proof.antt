@@ -10,34 +10,34 @@ use Rattle.pass_tables.specs.inner.Tables.{along}
 use Rattle.pass_place.proofs.request.neighbour_counts.Statement.{statement}
 use Rattle.pass_place.proofs.request.neighbour_counts.Tie as tie
 
-abbrev invariant-loop : tie.invariant-loop
+abbrev invariant-loop : tie.invariant-loop-i
 invariant-loop first from n counts₀ i₀ counts i = (i ≤ n) × (length counts ≡ length counts₀) × (take i counts ++ along (λ (j : ℕ). get_or first (from + j + 1) 0 - get_or first (from + j) 0) i (n - i) ≡ along (λ (j : ℕ). get_or first (from + j + 1) 0 - get_or first (from + j) 0) 0 n)
 
-abbrev decreases-loop : tie.decreases-loop
+abbrev decreases-loop : tie.decreases-loop-i
 decreases-loop first from n counts₀ i₀ counts i = n - i
 
-loop-holds : tie.Need-loop-init invariant-loop decreases-loop
-loop-holds c = let a = c.before.before.args in (omega arith, refl, entries-start (λ (j : ℕ). get_or a.first.now (a.from + j + 1) 0 - get_or a.first.now (a.from + j) 0) a.counts.now a.n)
+loop-holds : tie.Need-loop-i-init invariant-loop decreases-loop
+loop-holds c = let a = c.args in (omega arith, refl, entries-start (λ (j : ℕ). get_or a.first.now (a.from + j + 1) 0 - get_or a.first.now (a.from + j) 0) a.counts.now a.n)
 
-sub-counts : tie.Need-overflow-sub-counts invariant-loop decreases-loop
-sub-counts c = let a = c.before.before.before.before.before.before.before.before.args in
-    let i = c.before.before.before.before.before.loop.i in
-    omega (arith, c.wide2.ensures, c.before.before.wide.ensures, c.before.before.before.before.before.before.before.before.requires.2 (a.from + i) (omega arith))
+sub-counts : tie.Need-overflow_sub-counts invariant-loop decreases-loop
+sub-counts c = let a = c.args in
+    let i = c.loop-i.i in
+    omega (arith, c.wide-in-loop-i.ensures, c.wide.ensures, c.requires.2 (a.from + i) (omega arith))
 
-loop-again : tie.Need-loop-preserved invariant-loop decreases-loop
-loop-again c = let a = c.before.before.before.before.before.before.before.before.args in
-    let l = c.before.before.before.before.before.loop in
+loop-again : tie.Need-loop-i-preserved invariant-loop decreases-loop
+loop-again c = let a = c.args in
+    let l = c.loop-i in
     let f : ℕ → ℕ = λ j. get_or a.first.now (a.from + j + 1) 0 - get_or a.first.now (a.from + j) 0 in
-    (omega arith, simp length-set l.invariant.1, entry-filled f l.counts l.i a.n (c.before.before.wide.result - c.wide2.result) (omega arith) (omega arith) (rw (c.wide2.ensures, c.before.before.wide.ensures) refl) ∙ l.invariant.2)
+    (omega arith, simp length-set l.invariant.1, entry-filled f l.counts l.i a.n (c.wide.result - c.wide-in-loop-i.result) (omega arith) (omega arith) (rw (c.wide-in-loop-i.ensures, c.wide.ensures) refl) ∙ l.invariant.2)
 
 returns : tie.Need-returns invariant-loop decreases-loop
-returns c = let a = c.before.before.before.before.args in
-    let l = c.before.loop in
+returns c = let a = c.args in
+    let l = c.loop-i in
     let f : ℕ → ℕ = λ j. get_or a.first.now (a.from + j + 1) 0 - get_or a.first.now (a.from + j) 0 in
     entries-end f l.counts l.i a.n (omega arith) ∙ l.invariant.2
 
-pub neighbour-counts-spec : {M : Type 1} → statement M
-neighbour-counts-spec =
+pub neighbour_counts_spec : {M : Type 1} → statement M
+neighbour_counts_spec =
     tie.close
     (tie.spec invariant-loop decreases-loop loop-holds (λ c. search rules) (λ c. search rules) (λ c. search rules) (λ c. search rules)
     (λ c κs. search rules) (λ c. search rules) (λ c. search rules) (λ c. search rules) (λ c κs. search rules) sub-counts

@@ -20,67 +20,67 @@ use Rattle.picture_elements.proofs.elements.put_box.Tie as tie
 b-x : (c : tie.Start) → to_z w64 (of_z w64 c.args.x) ≡ c.args.x
 b-x c = back c.ranges.x
 
-put-word-requires : tie.Need-put-word-requires
+put-word-requires : tie.Need-put_word-a-requires
 unfolding box_of
 put-word-requires c κs =
-    let s = c.before.before.before.before in
+    let s = c in
     let a = s.args in
     room_after (bytes "<g id=\"v")
     (box_of a.measure a.name.now a.n (box a.x a.y a.half))
     (wrote_none a.out.now a.at) s.requires.1 (simp length-append (omega arith))
 
-put-then-requires : tie.Need-put-then-requires
+put-then-requires : tie.Need-put_then-b-requires
 unfolding box_of
 put-then-requires c κs =
     let c1 = c.before.before.before.before in
-    let s = c1.before.before.before.before.before in
+    let s = c1 in
     let a = s.args in
-    let w1 = c1.put_word.ensures in
+    let w1 = c1.put_word-a.ensures in
     room_after ((decimal a.n) ++ (bytes "\"><title>"))
     (box_of a.measure a.name.now a.n (box a.x a.y a.half))
     w1 s.requires.1 (simp length-append (omega arith))
 
-put-title-requires : tie.Need-put-title-requires
+put-title-requires : tie.Need-put_title-c-requires
 unfolding box_of
 put-title-requires c κs =
     let c1 = c.before.before.before in
     let c2 = c1.before.before.before.before.before in
-    let s = c2.before.before.before.before.before in
+    let s = c2 in
     let a = s.args in
-    let w1 = c2.put_word.ensures in
-    let w2 = and_both (decimal a.n) (bytes "\"><title>") w1 c1.put_then.ensures in
+    let w1 = c2.put_word-a.ensures in
+    let w2 = and_both (decimal a.n) (bytes "\"><title>") w1 c1.put_then-b.ensures in
     room_after (title_of a.n a.name.now)
     (box_of a.measure a.name.now a.n (box a.x a.y a.half))
     w2 s.requires.1 (simp length-append (omega arith))
 
-put-word-requires-2 : tie.Need-put-word-requires-2
+put-word-requires-2 : tie.Need-put_word-d-requires
 unfolding box_of
 put-word-requires-2 c κs =
     let c1 = c.before.before.before.before in
     let c2 = c1.before.before.before.before in
     let c3 = c2.before.before.before.before.before in
-    let s = c3.before.before.before.before.before in
+    let s = c3 in
     let a = s.args in
-    let w1 = c3.put_word.ensures in
-    let w2 = and_both (decimal a.n) (bytes "\"><title>") w1 c2.put_then.ensures in
-    let w3 = and_then w2 c1.put-title.ensures in
+    let w1 = c3.put_word-a.ensures in
+    let w2 = and_both (decimal a.n) (bytes "\"><title>") w1 c2.put_then-b.ensures in
+    let w3 = and_then w2 c1.put_title-c.ensures in
     room_after (bytes "</title>")
     (box_of a.measure a.name.now a.n (box a.x a.y a.half))
     w3 s.requires.1 (simp length-append (omega arith))
 
-put-rect-requires : tie.Need-put-rect-requires
+put-rect-requires : tie.Need-put_rect-e-requires
 unfolding box_of
 put-rect-requires c κs =
     let c1 = c.before.before.before in
     let c2 = c1.before.before.before.before.before in
     let c3 = c2.before.before.before.before in
     let c4 = c3.before.before.before.before.before in
-    let s = c4.before.before.before.before.before in
+    let s = c4.before.before.before.before.before.before.before.before in
     let a = s.args in
-    let w1 = c4.put_word.ensures in
-    let w2 = and_both (decimal a.n) (bytes "\"><title>") w1 c3.put_then.ensures in
-    let w3 = and_then w2 c2.put-title.ensures in
-    let w4 = and_then w3 c1.put-word2.ensures in
+    let w1 = c4.put_word-a.ensures in
+    let w2 = and_both (decimal a.n) (bytes "\"><title>") w1 c3.put_then-b.ensures in
+    let w3 = and_then w2 c2.put_title-c.ensures in
+    let w4 = and_then w3 c1.put_word-d.ensures in
     rw (b-x s) (
       s.requires.0.vertex.point,
       s.requires.0.vertex.measure,
@@ -90,7 +90,7 @@ put-rect-requires c κs =
           w4 s.requires.1 (simp length-append (omega arith)),
     )
 
-put-label-requires : tie.Need-put-label-requires
+put-label-requires : tie.Need-put_label-f-requires
 unfolding box_of
 put-label-requires c κs =
     let c1 = c.before.before.before in
@@ -98,13 +98,13 @@ put-label-requires c κs =
     let c3 = c2.before.before.before.before.before in
     let c4 = c3.before.before.before.before in
     let c5 = c4.before.before.before.before.before in
-    let s = c5.before.before.before.before.before in
+    let s = c5.before.before.before.before.before.before.before.before in
     let a = s.args in
-    let w1 = c5.put_word.ensures in
-    let w2 = and_both (decimal a.n) (bytes "\"><title>") w1 c4.put_then.ensures in
-    let w3 = and_then w2 c3.put-title.ensures in
-    let w4 = and_then w3 c2.put-word2.ensures in
-    let w5 = and_then w4 (rw (b-x s) at c1.put-rect.ensures) in
+    let w1 = c5.put_word-a.ensures in
+    let w2 = and_both (decimal a.n) (bytes "\"><title>") w1 c4.put_then-b.ensures in
+    let w3 = and_then w2 c3.put_title-c.ensures in
+    let w4 = and_then w3 c2.put_word-d.ensures in
+    let w5 = and_then w4 (rw (b-x s) at c1.put_rect-e.ensures) in
     rw (b-x s) (
       in-limits s.requires.0,
       room_after (label_of a.x a.y a.half a.measure a.n a.name.now)
@@ -112,7 +112,7 @@ put-label-requires c κs =
           w5 s.requires.1 (simp length-append (omega arith)),
     )
 
-put-word-requires-3 : tie.Need-put-word-requires-3
+put-word-requires-3 : tie.Need-put_word-requires
 unfolding box_of
 put-word-requires-3 c κs =
     let c1 = c.before.before.before.before in
@@ -121,14 +121,14 @@ put-word-requires-3 c κs =
     let c4 = c3.before.before.before.before.before in
     let c5 = c4.before.before.before.before in
     let c6 = c5.before.before.before.before.before in
-    let s = c6.before.before.before.before.before in
+    let s = c6.before.before.before.before.before.before.before.before.before in
     let a = s.args in
-    let w1 = c6.put_word.ensures in
-    let w2 = and_both (decimal a.n) (bytes "\"><title>") w1 c5.put_then.ensures in
-    let w3 = and_then w2 c4.put-title.ensures in
-    let w4 = and_then w3 c3.put-word2.ensures in
-    let w5 = and_then w4 (rw (b-x s) at c2.put-rect.ensures) in
-    let w6 = and_then w5 (rw (b-x s) at c1.put-label.ensures) in
+    let w1 = c6.put_word-a.ensures in
+    let w2 = and_both (decimal a.n) (bytes "\"><title>") w1 c5.put_then-b.ensures in
+    let w3 = and_then w2 c4.put_title-c.ensures in
+    let w4 = and_then w3 c3.put_word-d.ensures in
+    let w5 = and_then w4 (rw (b-x s) at c2.put_rect-e.ensures) in
+    let w6 = and_then w5 (rw (b-x s) at c1.put_label-f.ensures) in
     room_after (bytes "</g>\n")
     (box_of a.measure a.name.now a.n (box a.x a.y a.half))
     w6 s.requires.1 (simp length-append (omega arith))
@@ -143,23 +143,21 @@ returns c =
     let c5 = c4.before.before.before.before.before in
     let c6 = c5.before.before.before.before in
     let c7 = c6.before.before.before.before.before in
-    let s = c7.before.before.before.before.before in
+    let s = c7.before.before.before.before.before.before.before.before.before in
     let a = s.args in
-    let w1 = c7.put_word.ensures in
-    let w2 = and_both (decimal a.n) (bytes "\"><title>") w1 c6.put_then.ensures in
-    let w3 = and_then w2 c5.put-title.ensures in
-    let w4 = and_then w3 c4.put-word2.ensures in
-    let w5 = and_then w4 (rw (b-x s) at c3.put-rect.ensures) in
-    let w6 = and_then w5 (rw (b-x s) at c2.put-label.ensures) in
-    let w7 = and_then w6 c1.put-word3.ensures in
+    let w1 = c7.put_word-a.ensures in
+    let w2 = and_both (decimal a.n) (bytes "\"><title>") w1 c6.put_then-b.ensures in
+    let w3 = and_then w2 c5.put_title-c.ensures in
+    let w4 = and_then w3 c4.put_word-d.ensures in
+    let w5 = and_then w4 (rw (b-x s) at c3.put_rect-e.ensures) in
+    let w6 = and_then w5 (rw (b-x s) at c2.put_label-f.ensures) in
+    let w7 = and_then w6 c1.put_word.ensures in
     w7
 
-same_length : tie.Need-same-length
+same_length : tie.Need-shape_of-out
 same_length c = wrote-long (returns c)
 
-pub put-box-spec : {M : Type 1} → statement M
-put-box-spec =
+pub put_box_spec : {M : Type 1} → statement M
+put_box_spec =
     tie.close
-    (tie.spec (λ c. search rules) put-word-requires (λ c. search rules) put-then-requires put-title-requires
-    (λ c. search rules) put-word-requires-2 put-rect-requires put-label-requires (λ c. search rules) put-word-requires-3
-    same_length returns)
+    (tie.spec put-word-requires put-then-requires put-title-requires put-word-requires-2 put-rect-requires put-label-requires put-word-requires-3 same_length returns)

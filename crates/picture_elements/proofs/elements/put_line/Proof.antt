@@ -21,10 +21,10 @@ b-x c = back c.ranges.x
 b-a : (c : tie.Start) → to_z w64 (of_z w64 c.args.a) ≡ c.args.a
 b-a c = back c.ranges.a
 
-put-across-requires : tie.Need-put-across-requires
+put-across-requires : tie.Need-put_across-y1-requires
 unfolding line_of
 put-across-requires c κs =
-    let s = c.before.before.before in
+    let s = c.before.before.before.before in
     let a = s.args in
     rw (b-x s) (
       omega (arith, s.requires.1.0),
@@ -33,28 +33,28 @@ put-across-requires c κs =
           (wrote_none a.out.now a.at) s.requires.3 (simp length-append (omega arith)),
     )
 
-put-down-requires : tie.Need-put-down-requires
+put-down-requires : tie.Need-put_down-x2-requires
 unfolding line_of
 put-down-requires c κs =
     let c1 = c.before.before.before.before in
-    let s = c1.before.before.before.before in
+    let s = c1.before.before.before.before.before.before in
     let a = s.args in
-    let w1 = (rw (b-x s) at c1.put-across.ensures) in (
+    let w1 = (rw (b-x s) at c1.put_across-y1.ensures) in (
       omega (arith, s.requires.1.1),
       room_after ((bytes "\" y1=\"") ++ (down a.y))
           (line_of a.measure a.rating (line a.x a.y a.a a.b))
           w1 s.requires.3 (simp length-append (omega arith)),
     )
 
-put-across-requires-2 : tie.Need-put-across-requires-2
+put-across-requires-2 : tie.Need-put_across-y2-requires
 unfolding line_of
 put-across-requires-2 c κs =
     let c1 = c.before.before.before.before in
     let c2 = c1.before.before.before.before.before in
-    let s = c2.before.before.before.before in
+    let s = c2.before.before.before.before.before.before.before in
     let a = s.args in
-    let w1 = (rw (b-x s) at c2.put-across.ensures) in
-    let w2 = and_both (bytes "\" y1=\"") (down a.y) w1 c1.put-down.ensures in
+    let w1 = (rw (b-x s) at c2.put_across-y1.ensures) in
+    let w2 = and_both (bytes "\" y1=\"") (down a.y) w1 c1.put_down-x2.ensures in
     rw (b-a s) (
       omega (arith, s.requires.2.0),
       room_after ((bytes "\" x2=\"") ++ (across a.a))
@@ -62,43 +62,43 @@ put-across-requires-2 c κs =
           w2 s.requires.3 (simp length-append (omega arith)),
     )
 
-put-down-requires-2 : tie.Need-put-down-requires-2
+put-down-requires-2 : tie.Need-put_down-pen-requires
 unfolding line_of
 put-down-requires-2 c κs =
     let c1 = c.before.before.before.before in
     let c2 = c1.before.before.before.before.before in
     let c3 = c2.before.before.before.before.before in
-    let s = c3.before.before.before.before in
+    let s = c3.before.before.before.before.before.before.before.before in
     let a = s.args in
-    let w1 = (rw (b-x s) at c3.put-across.ensures) in
-    let w2 = and_both (bytes "\" y1=\"") (down a.y) w1 c2.put-down.ensures in
-    let w3 = and_both (bytes "\" x2=\"") (across a.a) w2 (rw (b-a s) at c1.put-across2.ensures) in (
+    let w1 = (rw (b-x s) at c3.put_across-y1.ensures) in
+    let w2 = and_both (bytes "\" y1=\"") (down a.y) w1 c2.put_down-x2.ensures in
+    let w3 = and_both (bytes "\" x2=\"") (across a.a) w2 (rw (b-a s) at c1.put_across-y2.ensures) in (
       omega (arith, s.requires.2.1),
       room_after ((bytes "\" y2=\"") ++ (down a.b))
           (line_of a.measure a.rating (line a.x a.y a.a a.b))
           w3 s.requires.3 (simp length-append (omega arith)),
     )
 
-put-pen-requires : tie.Need-put-pen-requires
+put-pen-requires : tie.Need-put_pen-end-requires
 unfolding line_of
 put-pen-requires c κs =
     let c1 = c.before.before.before in
     let c2 = c1.before.before.before.before.before in
     let c3 = c2.before.before.before.before.before in
     let c4 = c3.before.before.before.before.before in
-    let s = c4.before.before.before.before in
+    let s = c4.before.before.before.before.before.before.before.before in
     let a = s.args in
-    let w1 = (rw (b-x s) at c4.put-across.ensures) in
-    let w2 = and_both (bytes "\" y1=\"") (down a.y) w1 c3.put-down.ensures in
-    let w3 = and_both (bytes "\" x2=\"") (across a.a) w2 (rw (b-a s) at c2.put-across2.ensures) in
-    let w4 = and_both (bytes "\" y2=\"") (down a.b) w3 c1.put-down2.ensures in (
+    let w1 = (rw (b-x s) at c4.put_across-y1.ensures) in
+    let w2 = and_both (bytes "\" y1=\"") (down a.y) w1 c3.put_down-x2.ensures in
+    let w3 = and_both (bytes "\" x2=\"") (across a.a) w2 (rw (b-a s) at c2.put_across-y2.ensures) in
+    let w4 = and_both (bytes "\" y2=\"") (down a.b) w3 c1.put_down-pen.ensures in (
       s.requires.0,
       room_after (pen_of a.measure a.rating)
           (line_of a.measure a.rating (line a.x a.y a.a a.b))
           w4 s.requires.3 (simp length-append (omega arith)),
     )
 
-put-word-requires : tie.Need-put-word-requires
+put-word-requires : tie.Need-put_word-requires
 unfolding line_of
 put-word-requires c κs =
     let c1 = c.before.before.before.before in
@@ -106,13 +106,13 @@ put-word-requires c κs =
     let c3 = c2.before.before.before.before.before in
     let c4 = c3.before.before.before.before.before in
     let c5 = c4.before.before.before.before.before in
-    let s = c5.before.before.before.before in
+    let s = c5.before.before.before.before.before.before.before.before.before in
     let a = s.args in
-    let w1 = (rw (b-x s) at c5.put-across.ensures) in
-    let w2 = and_both (bytes "\" y1=\"") (down a.y) w1 c4.put-down.ensures in
-    let w3 = and_both (bytes "\" x2=\"") (across a.a) w2 (rw (b-a s) at c3.put-across2.ensures) in
-    let w4 = and_both (bytes "\" y2=\"") (down a.b) w3 c2.put-down2.ensures in
-    let w5 = and_then w4 c1.put-pen.ensures in
+    let w1 = (rw (b-x s) at c5.put_across-y1.ensures) in
+    let w2 = and_both (bytes "\" y1=\"") (down a.y) w1 c4.put_down-x2.ensures in
+    let w3 = and_both (bytes "\" x2=\"") (across a.a) w2 (rw (b-a s) at c3.put_across-y2.ensures) in
+    let w4 = and_both (bytes "\" y2=\"") (down a.b) w3 c2.put_down-pen.ensures in
+    let w5 = and_then w4 c1.put_pen-end.ensures in
     room_after (bytes "\"/>\n")
     (line_of a.measure a.rating (line a.x a.y a.a a.b))
     w5 s.requires.3 (simp length-append (omega arith))
@@ -126,19 +126,17 @@ returns c =
     let c4 = c3.before.before.before.before.before in
     let c5 = c4.before.before.before.before.before in
     let c6 = c5.before.before.before.before.before in
-    let s = c6.before.before.before.before in
+    let s = c6.before.before.before.before.before.before.before.before.before in
     let a = s.args in
-    let w1 = (rw (b-x s) at c6.put-across.ensures) in
-    let w2 = and_both (bytes "\" y1=\"") (down a.y) w1 c5.put-down.ensures in
-    let w3 = and_both (bytes "\" x2=\"") (across a.a) w2 (rw (b-a s) at c4.put-across2.ensures) in
-    let w4 = and_both (bytes "\" y2=\"") (down a.b) w3 c3.put-down2.ensures in
-    let w5 = and_then w4 c2.put-pen.ensures in
+    let w1 = (rw (b-x s) at c6.put_across-y1.ensures) in
+    let w2 = and_both (bytes "\" y1=\"") (down a.y) w1 c5.put_down-x2.ensures in
+    let w3 = and_both (bytes "\" x2=\"") (across a.a) w2 (rw (b-a s) at c4.put_across-y2.ensures) in
+    let w4 = and_both (bytes "\" y2=\"") (down a.b) w3 c3.put_down-pen.ensures in
+    let w5 = and_then w4 c2.put_pen-end.ensures in
     let w6 = and_then w5 c1.put_word.ensures in
     w6
 
-pub put-line-spec : {M : Type 1} → statement M
-put-line-spec =
+pub put_line_spec : {M : Type 1} → statement M
+put_line_spec =
     tie.close
-    (tie.spec (λ c. search rules) put-across-requires (λ c. search rules) put-down-requires (λ c. search rules)
-    put-across-requires-2 (λ c. search rules) put-down-requires-2 put-pen-requires (λ c. search rules) put-word-requires
-    (λ c. search rules) returns)
+    (tie.spec put-across-requires put-down-requires put-across-requires-2 put-down-requires-2 put-pen-requires put-word-requires (λ c. search rules) returns)

@@ -22,26 +22,26 @@ b-x c = back c.ranges.x
 b-y : (c : tie.Start) → to_z w64 (1000 * c.args.y) ≡ pos (1000 * c.args.y)
 b-y c = of-nat (1000 * c.args.y) (omega (arith, c.requires.0.1))
 
-left_is : (c : tie.After-minus) → to_z w64 (of_z w64 c.minus.result) ≡ c.before.before.args.x -ℤ pos (2 * c.before.before.args.half)
-left_is c = back' c.minus.result c.minus.type-inv ∙ (simp b-x at c.minus.ensures)
+left_is : (c : tie.After-minus-left) → to_z w64 (of_z w64 c.minus-left.result) ≡ c.args.x -ℤ pos (2 * c.args.half)
+left_is c = back' c.minus-left.result c.minus-left.type_inv ∙ (simp b-x at c.minus-left.ensures)
 
-top-is : (c : tie.After-minus2) →
-    let s = c.before.before.before in
+top-is : (c : tie.After-minus-top) →
+    let s = c in
     let a = s.args in
-    to_z w64 (of_z w64 c.minus2.result) ≡ pos (1000 * a.y) -ℤ pos (200 * a.measure)
-top-is c = back' c.minus2.result c.minus2.type-inv ∙ (simp b-y at c.minus2.ensures)
+    to_z w64 (of_z w64 c.minus-top.result) ≡ pos (1000 * a.y) -ℤ pos (200 * a.measure)
+top-is c = back' c.minus-top.result c.minus-top.type_inv ∙ (simp b-y at c.minus-top.ensures)
 
-minus-requires : tie.Need-minus-requires
-minus-requires c κs = simp b-x (omega (arith, c.before.requires.0.0, c.before.requires.2))
+minus-requires : tie.Need-minus-left-requires
+minus-requires c κs = simp b-x (omega (arith, c.requires.0.0, c.requires.2))
 
-minus-requires-2 : tie.Need-minus-requires-2
-minus-requires-2 c κs = simp b-y (omega (arith, c.before.before.requires.0.1, c.before.before.requires.1))
+minus-requires-2 : tie.Need-minus-top-requires
+minus-requires-2 c κs = simp b-y (omega (arith, c.requires.0.1, c.requires.1))
 
-put-across-requires : tie.Need-put-across-requires
+put-across-requires : tie.Need-put_across-a-requires
 unfolding rect_of
 put-across-requires c κs =
-    let c1 = c.before.before.before in
-    let s = c1.before.before in
+    let c1 = c.before.before.before.before in
+    let s = c1 in
     let a = s.args in
     rw (left_is c1) (
       omega (arith, s.requires.0.0, s.requires.2, dif a.x (pos (2 * a.half))),
@@ -50,29 +50,29 @@ put-across-requires c κs =
           (wrote_none a.out.now a.at) s.requires.3 (simp length-append (omega arith)),
     )
 
-put-word-requires : tie.Need-put-word-requires
+put-word-requires : tie.Need-put_word-b-requires
 unfolding rect_of
 put-word-requires c κs =
     let c1 = c.before.before.before.before in
-    let c2 = c1.before.before.before.before in
-    let s = c2.before.before in
+    let c2 = c1.before.before.before.before.before.before in
+    let s = c2 in
     let a = s.args in
-    let w1 = (rw (left_is c2) at c1.put-across.ensures) in
+    let w1 = (rw (left_is c2) at c1.put_across-a.ensures) in
     room_after (bytes "\" y=\"")
     (rect_of a.measure a.x a.y a.half)
     w1 s.requires.3 (simp length-append (omega arith))
 
-put-thousandths-requires : tie.Need-put-thousandths-requires
+put-thousandths-requires : tie.Need-put_thousandths-c-requires
 unfolding rect_of
 put-thousandths-requires c κs =
     let c1 = c.before.before.before in
     let c2 = c1.before.before.before.before.before in
-    let c3 = c2.before.before.before in
+    let c3 = c2.before.before.before.before.before in
     let c4 = c3.before in
-    let s = c4.before.before in
+    let s = c4 in
     let a = s.args in
-    let w1 = (rw (left_is c4) at c2.put-across.ensures) in
-    let w2 = and_then w1 c1.put_word.ensures in
+    let w1 = (rw (left_is c4) at c2.put_across-a.ensures) in
+    let w2 = and_then w1 c1.put_word-b.ensures in
     rw (top-is c3) (
       omega (arith, s.requires.0.1, s.requires.1, dif (pos (1000 * a.y)) (pos (200 * a.measure))),
       room_after (thousandths (pos (1000 * a.y) -ℤ pos (200 * a.measure)))
@@ -80,45 +80,45 @@ put-thousandths-requires c κs =
           w2 s.requires.3 (simp length-append (omega arith)),
     )
 
-put-down-requires : tie.Need-put-down-requires
+put-down-requires : tie.Need-put_down-d-requires
 unfolding rect_of
 put-down-requires c κs =
     let c1 = c.before.before.before.before in
     let c2 = c1.before.before.before.before in
     let c3 = c2.before.before.before.before.before in
-    let c4 = c3.before.before.before in
+    let c4 = c3.before.before.before.before.before.before in
     let c5 = c4.before in
-    let s = c5.before.before in
+    let s = c5 in
     let a = s.args in
-    let w1 = (rw (left_is c5) at c3.put-across.ensures) in
-    let w2 = and_then w1 c2.put_word.ensures in
-    let w3 = and_then w2 (rw (top-is c4) at c1.put-thousandths.ensures) in (
+    let w1 = (rw (left_is c5) at c3.put_across-a.ensures) in
+    let w2 = and_then w1 c2.put_word-b.ensures in
+    let w3 = and_then w2 (rw (top-is c4) at c1.put_thousandths-c.ensures) in (
       omega (arith, s.requires.2),
       room_after ((bytes "\" width=\"") ++ (down (2 * a.half)))
           (rect_of a.measure a.x a.y a.half)
           w3 s.requires.3 (simp length-append (omega arith)),
     )
 
-put-measured-requires : tie.Need-put-measured-requires
+put-measured-requires : tie.Need-put_measured-e-requires
 unfolding rect_of
 put-measured-requires c κs =
     let c1 = c.before.before.before.before in
     let c2 = c1.before.before.before.before.before in
     let c3 = c2.before.before.before.before in
     let c4 = c3.before.before.before.before.before in
-    let c5 = c4.before.before.before in
+    let c5 = c4.before.before.before.before.before.before.before in
     let c6 = c5.before in
-    let s = c6.before.before in
+    let s = c6 in
     let a = s.args in
-    let w1 = (rw (left_is c6) at c4.put-across.ensures) in
-    let w2 = and_then w1 c3.put_word.ensures in
-    let w3 = and_then w2 (rw (top-is c5) at c2.put-thousandths.ensures) in
-    let w4 = and_both (bytes "\" width=\"") (down (2 * a.half)) w3 c1.put-down.ensures in
+    let w1 = (rw (left_is c6) at c4.put_across-a.ensures) in
+    let w2 = and_then w1 c3.put_word-b.ensures in
+    let w3 = and_then w2 (rw (top-is c5) at c2.put_thousandths-c.ensures) in
+    let w4 = and_both (bytes "\" width=\"") (down (2 * a.half)) w3 c1.put_down-d.ensures in
     room_after ((bytes "\" height=\"") ++ (amount (400 * a.measure)))
     (rect_of a.measure a.x a.y a.half)
     w4 s.requires.3 (simp length-append (omega arith))
 
-put-word-requires-2 : tie.Need-put-word-requires-2
+put-word-requires-2 : tie.Need-put_word-requires
 unfolding rect_of
 put-word-requires-2 c κs =
     let c1 = c.before.before.before.before in
@@ -126,15 +126,15 @@ put-word-requires-2 c κs =
     let c3 = c2.before.before.before.before.before in
     let c4 = c3.before.before.before.before in
     let c5 = c4.before.before.before.before.before in
-    let c6 = c5.before.before.before in
+    let c6 = c5.before.before.before.before.before.before.before.before in
     let c7 = c6.before in
-    let s = c7.before.before in
+    let s = c7 in
     let a = s.args in
-    let w1 = (rw (left_is c7) at c5.put-across.ensures) in
-    let w2 = and_then w1 c4.put_word.ensures in
-    let w3 = and_then w2 (rw (top-is c6) at c3.put-thousandths.ensures) in
-    let w4 = and_both (bytes "\" width=\"") (down (2 * a.half)) w3 c2.put-down.ensures in
-    let w5 = and_both (bytes "\" height=\"") (amount (400 * a.measure)) w4 c1.put-measured.ensures in
+    let w1 = (rw (left_is c7) at c5.put_across-a.ensures) in
+    let w2 = and_then w1 c4.put_word-b.ensures in
+    let w3 = and_then w2 (rw (top-is c6) at c3.put_thousandths-c.ensures) in
+    let w4 = and_both (bytes "\" width=\"") (down (2 * a.half)) w3 c2.put_down-d.ensures in
+    let w5 = and_both (bytes "\" height=\"") (amount (400 * a.measure)) w4 c1.put_measured-e.ensures in
     room_after (bytes "\"/>")
     (rect_of a.measure a.x a.y a.half)
     w5 s.requires.3 (simp length-append (omega arith))
@@ -148,22 +148,19 @@ returns c =
     let c4 = c3.before.before.before.before.before in
     let c5 = c4.before.before.before.before in
     let c6 = c5.before.before.before.before.before in
-    let c7 = c6.before.before.before in
+    let c7 = c6.before.before.before.before.before.before.before.before in
     let c8 = c7.before in
-    let s = c8.before.before in
+    let s = c8 in
     let a = s.args in
-    let w1 = (rw (left_is c8) at c6.put-across.ensures) in
-    let w2 = and_then w1 c5.put_word.ensures in
-    let w3 = and_then w2 (rw (top-is c7) at c4.put-thousandths.ensures) in
-    let w4 = and_both (bytes "\" width=\"") (down (2 * a.half)) w3 c3.put-down.ensures in
-    let w5 = and_both (bytes "\" height=\"") (amount (400 * a.measure)) w4 c2.put-measured.ensures in
-    let w6 = and_then w5 c1.put-word2.ensures in
+    let w1 = (rw (left_is c8) at c6.put_across-a.ensures) in
+    let w2 = and_then w1 c5.put_word-b.ensures in
+    let w3 = and_then w2 (rw (top-is c7) at c4.put_thousandths-c.ensures) in
+    let w4 = and_both (bytes "\" width=\"") (down (2 * a.half)) w3 c3.put_down-d.ensures in
+    let w5 = and_both (bytes "\" height=\"") (amount (400 * a.measure)) w4 c2.put_measured-e.ensures in
+    let w6 = and_then w5 c1.put_word.ensures in
     w6
 
-pub put-rect-spec : {M : Type 1} → statement M
-put-rect-spec =
+pub put_rect_spec : {M : Type 1} → statement M
+put_rect_spec =
     tie.close
-    (tie.spec (λ c. search rules) minus-requires (λ c. search rules) (λ c. search rules) (λ c. search rules) minus-requires-2
-    (λ c. search rules) put-across-requires (λ c. search rules) put-word-requires put-thousandths-requires
-    (λ c. search rules) (λ c. search rules) put-down-requires (λ c. search rules) (λ c. search rules) put-measured-requires
-    (λ c. search rules) put-word-requires-2 (λ c. search rules) returns)
+    (tie.spec (λ c. search rules) minus-requires (λ c. search rules) (λ c. search rules) (λ c. search rules) minus-requires-2 put-across-requires put-word-requires put-thousandths-requires (λ c. search rules) put-down-requires (λ c. search rules) put-measured-requires put-word-requires-2 (λ c. search rules) returns)

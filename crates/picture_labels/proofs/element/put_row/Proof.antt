@@ -19,10 +19,10 @@ use Rattle.picture_labels.proofs.element.put_row.Tie as tie
 b-x : (c : tie.Start) → to_z w64 (of_z w64 c.args.x) ≡ c.args.x
 b-x c = back c.ranges.x
 
-put-start-requires : tie.Need-put-start-requires
+put-start-requires : tie.Need-put_start-a-requires
 unfolding element_of
 put-start-requires c κs =
-    let s = c.before.before.before in let a = s.args in
+    let s = c in let a = s.args in
     simp b-x (
       s.requires.0,
       s.requires.1,
@@ -30,16 +30,16 @@ put-start-requires c κs =
           (wrote_none a.out.now a.at) s.requires.2 (simp length-append (omega arith)),
     )
 
-put-escaped-requires : tie.Need-put-escaped-requires
+put-escaped-requires : tie.Need-put_escaped-b-requires
 unfolding element_of
 put-escaped-requires c κs =
     let c3 = c.before.before.before in
     let c7 = c3.before.before.before.before in
     let s = c7 in let a = s.args in
-    room_after (escaped a.front.now) (element_of a.x a.y a.size a.k (letters (row a.front.now a.cut))) (simp b-x at c3.put-start.ensures)
+    room_after (escaped a.front.now) (element_of a.x a.y a.size a.k (letters (row a.front.now a.cut))) (simp b-x at c3.put_start-a.ensures)
     s.requires.2 (simp length-append (omega arith))
 
-put-sign-requires : tie.Need-put-sign-requires
+put-sign-requires : tie.Need-put_sign-c-requires
 unfolding element_of
 put-sign-requires c κs =
     let c3 = c.before.before.before in
@@ -47,9 +47,9 @@ put-sign-requires c κs =
     let c11 = c7.before.before.before.before in
     let s = c11 in let a = s.args in
     room_after (cond a.cut sign []) (element_of a.x a.y a.size a.k (letters (row a.front.now a.cut)))
-    (and_then (simp b-x at c7.put-start.ensures) c3.put-escaped.ensures) s.requires.2 (simp length-append (omega arith))
+    (and_then (simp b-x at c7.put_start-a.ensures) c3.put_escaped-b.ensures) s.requires.2 (simp length-append (omega arith))
 
-put-word-requires : tie.Need-put-word-requires
+put-word-requires : tie.Need-put_word-requires
 unfolding element_of
 put-word-requires c κs =
     let c4 = c.before.before.before.before in
@@ -58,7 +58,7 @@ put-word-requires c κs =
     let c16 = c12.before.before.before.before in
     let s = c16 in let a = s.args in
     room_after (bytes "</text>") (element_of a.x a.y a.size a.k (letters (row a.front.now a.cut)))
-    (and_then (and_then (simp b-x at c12.put-start.ensures) c8.put-escaped.ensures) c4.put-sign.ensures) s.requires.2 (simp length-append (omega arith))
+    (and_then (and_then (simp b-x at c12.put_start-a.ensures) c8.put_escaped-b.ensures) c4.put_sign-c.ensures) s.requires.2 (simp length-append (omega arith))
 
 returns : tie.Need-returns
 unfolding element_of
@@ -66,11 +66,11 @@ returns c =
     let c7 = c.before.before.before.before.before.before.before in
     let c11 = c7.before.before.before.before in
     let c15 = c11.before.before.before.before in
-    let c19 = c15.before.before.before.before in
+    let c19 = c15 in
     let a = c19.args in
-    and_then (and_then (simp b-x at c15.put-start.ensures) (and_then c11.put-escaped.ensures c7.put-sign.ensures)) c.before.before.put_word.ensures
+    and_then (and_then (simp b-x at c15.put_start-a.ensures) (and_then c11.put_escaped-b.ensures c7.put_sign-c.ensures)) c.put_word.ensures
 
-pub put-row-spec : {M : Type 1} → statement M
-put-row-spec =
+pub put_row_spec : {M : Type 1} → statement M
+put_row_spec =
     tie.close
-    (tie.spec put-start-requires put-escaped-requires put-sign-requires (λ c. search rules) put-word-requires (λ c. search rules) returns)
+    (tie.spec put-start-requires put-escaped-requires put-sign-requires put-word-requires (λ c. search rules) returns)

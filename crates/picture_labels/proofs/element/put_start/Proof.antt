@@ -17,38 +17,38 @@ use Rattle.picture_labels.proofs.element.put_start.Tie as tie
 b-x : (c : tie.Start) → to_z w64 (of_z w64 c.args.x) ≡ c.args.x
 b-x c = back c.ranges.x
 
-put-across-requires : tie.Need-put-across-requires
+put-across-requires : tie.Need-put_across-a-requires
 unfolding start_of
 put-across-requires c κs =
-    let s = c.before.before.before in let a = s.args in
+    let s = c in let a = s.args in
     simp b-x (
       s.requires.0,
       room_after (bytes "<text x=\"" ++ across a.x) (start_of a.x a.y a.size a.k) (wrote_none a.out.now a.at) s.requires.2
           (simp length-append (omega arith)),
     )
 
-put-down-requires : tie.Need-put-down-requires
+put-down-requires : tie.Need-put_down-b-requires
 unfolding start_of
 put-down-requires c κs =
     let c4 = c.before.before.before.before in
     let c8 = c4.before.before.before.before in
     let s = c8 in let a = s.args in (
       s.requires.1,
-      room_after (bytes "\" y=\"" ++ down a.y) (start_of a.x a.y a.size a.k) (simp b-x at c4.put-across.ensures) s.requires.2
+      room_after (bytes "\" y=\"" ++ down a.y) (start_of a.x a.y a.size a.k) (simp b-x at c4.put_across-a.ensures) s.requires.2
           (simp length-append (omega arith)),
     )
 
-put-word-requires : tie.Need-put-word-requires
+put-word-requires : tie.Need-put_word-c-requires
 unfolding start_of
 put-word-requires c κs =
     let c4 = c.before.before.before.before in
     let c9 = c4.before.before.before.before.before in
     let c13 = c9.before.before.before.before in
     let s = c13 in let a = s.args in
-    room_after (bytes "\" dy=\"") (start_of a.x a.y a.size a.k) (and_then (simp b-x at c9.put-across.ensures) c4.put-down.ensures) s.requires.2
+    room_after (bytes "\" dy=\"") (start_of a.x a.y a.size a.k) (and_then (simp b-x at c9.put_across-a.ensures) c4.put_down-b.ensures) s.requires.2
     (simp length-append (omega arith))
 
-put-offset-requires : tie.Need-put-offset-requires
+put-offset-requires : tie.Need-put_offset-d-requires
 unfolding start_of
 put-offset-requires c κs =
     let c3 = c.before.before.before in
@@ -57,9 +57,9 @@ put-offset-requires c κs =
     let c17 = c13.before.before.before.before in
     let s = c17 in let a = s.args in
     room_after (offset a.k) (start_of a.x a.y a.size a.k)
-    (and_then (and_then (simp b-x at c13.put-across.ensures) c8.put-down.ensures) c3.put_word.ensures) s.requires.2 (simp length-append (omega arith))
+    (and_then (and_then (simp b-x at c13.put_across-a.ensures) c8.put_down-b.ensures) c3.put_word-c.ensures) s.requires.2 (simp length-append (omega arith))
 
-put-measured-requires : tie.Need-put-measured-requires
+put-measured-requires : tie.Need-put_measured-e-requires
 unfolding start_of
 put-measured-requires c κs =
     let c4 = c.before.before.before.before in
@@ -69,10 +69,10 @@ put-measured-requires c κs =
     let c22 = c18.before.before.before.before in
     let s = c22 in let a = s.args in
     room_after (bytes "em\" font-size=\"" ++ amount a.size) (start_of a.x a.y a.size a.k)
-    (and_then (and_then (and_then (simp b-x at c18.put-across.ensures) c13.put-down.ensures) c8.put_word.ensures) c4.put-offset.ensures) s.requires.2
+    (and_then (and_then (and_then (simp b-x at c18.put_across-a.ensures) c13.put_down-b.ensures) c8.put_word-c.ensures) c4.put_offset-d.ensures) s.requires.2
     (simp length-append (omega arith))
 
-put-word-requires-2 : tie.Need-put-word-requires-2
+put-word-requires-2 : tie.Need-put_word-requires
 unfolding start_of
 put-word-requires-2 c κs =
     let c4 = c.before.before.before.before in
@@ -83,8 +83,8 @@ put-word-requires-2 c κs =
     let c27 = c23.before.before.before.before in
     let s = c27 in let a = s.args in
     room_after (bytes "\">") (start_of a.x a.y a.size a.k)
-    (and_then (and_then (and_then (and_then (simp b-x at c23.put-across.ensures) c18.put-down.ensures) c13.put_word.ensures) c9.put-offset.ensures)
-    c4.put-measured.ensures) s.requires.2 (simp length-append (omega arith))
+    (and_then (and_then (and_then (and_then (simp b-x at c23.put_across-a.ensures) c18.put_down-b.ensures) c13.put_word-c.ensures) c9.put_offset-d.ensures)
+    c4.put_measured-e.ensures) s.requires.2 (simp length-append (omega arith))
 
 returns : tie.Need-returns
 unfolding start_of
@@ -94,14 +94,13 @@ returns c =
     let c16 = c12.before.before.before.before in
     let c21 = c16.before.before.before.before.before in
     let c26 = c21.before.before.before.before.before in
-    let c30 = c26.before.before.before.before in
+    let c30 = c26 in
     let a = c30.args in
     and_then (and_both (bytes "em\" font-size=\"") (amount a.size) (and_then (and_then
-    (and_both (bytes "\" y=\"") (down a.y) (simp b-x at c26.put-across.ensures) c21.put-down.ensures) c16.put_word.ensures) c12.put-offset.ensures)
-    c7.put-measured.ensures) c.before.before.put-word2.ensures
+    (and_both (bytes "\" y=\"") (down a.y) (simp b-x at c26.put_across-a.ensures) c21.put_down-b.ensures) c16.put_word-c.ensures) c12.put_offset-d.ensures)
+    c7.put_measured-e.ensures) c.put_word.ensures
 
-pub put-start-spec : {M : Type 1} → statement M
-put-start-spec =
+pub put_start_spec : {M : Type 1} → statement M
+put_start_spec =
     tie.close
-    (tie.spec (λ c. search rules) put-across-requires (λ c. search rules) put-down-requires (λ c. search rules) put-word-requires put-offset-requires
-    (λ c. search rules) put-measured-requires (λ c. search rules) put-word-requires-2 (λ c. search rules) returns)
+    (tie.spec put-across-requires put-down-requires put-word-requires put-offset-requires put-measured-requires put-word-requires-2 (λ c. search rules) returns)

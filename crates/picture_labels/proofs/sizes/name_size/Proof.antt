@@ -6,9 +6,9 @@ use Rattle.picture_labels.proofs.sizes.name_size.Tie as tie
 
 returns : tie.Need-returns
 unfolding name_size
-returns c = rw (← c.before.asked.ensures.0) c.lesser.ensures
+returns c = rw (← c.asked.ensures.0) c.lesser.ensures
 
-pub name-size-spec : {M : Type 1} → statement M
-name-size-spec =
+pub name_size_spec : {M : Type 1} → statement M
+name_size_spec =
     tie.close
     (tie.spec (λ c. search rules) (λ c. search rules) (λ c κs. search rules) (λ c. search rules) (λ c κs. search rules) returns)

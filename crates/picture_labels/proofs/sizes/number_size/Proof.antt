@@ -6,9 +6,9 @@ use Rattle.picture_labels.proofs.sizes.number_size.Tie as tie
 
 returns : tie.Need-returns
 unfolding number_size
-returns c = rw (← c.before.digits.ensures.0) c.lesser.ensures
+returns c = rw (← c.digits.ensures.0) c.lesser.ensures
 
-pub number-size-spec : {M : Type 1} → statement M
-number-size-spec =
+pub number_size_spec : {M : Type 1} → statement M
+number_size_spec =
     tie.close
     (tie.spec (λ c. search rules) (λ c. search rules) (λ c κs. search rules) (λ c. search rules) (λ c κs. search rules) returns)

@@ -20,32 +20,32 @@ b-times c = back (fits c.args.n c.requires.0)
 
 ruleset backs = (b-n, b-times)
 
-put-word-requires : tie.Need-put-word-requires
+put-word-requires : tie.Need-put_word-next-requires
 put-word-requires c κs =
-    let s = c.before.before.before in
+    let s = c in
     let a = s.args in
     room-first a.word.now (across a.n) a.out.now a.at s.requires.1
 
-mul-put-thousandths : tie.Need-overflow-mul-put-thousandths
+mul-put-thousandths : tie.Need-overflow_mul-n
 mul-put-thousandths c =
-    let s = c.before.before.before.before.before.before.before in
+    let s = c in
     let a = s.args in
     simp backs (fits a.n s.requires.0)
 
-put-thousandths-requires : tie.Need-put-thousandths-requires
+put-thousandths-requires : tie.Need-put_thousandths-requires
 unfolding across
 put-thousandths-requires c κs =
-    let c1 = c.before.before.before in
-    let s = c1.before.before.before.before in
+    let c1 = c in
+    let s = c1 in
     let a = s.args in
-    simp backs (omega (arith, small a.n s.requires.0), room-then (across a.n) c1.put_word.ensures s.requires.1)
+    simp backs (omega (arith, small a.n s.requires.0), room-then (across a.n) c1.put_word-next.ensures s.requires.1)
 
 returns : tie.Need-returns
 unfolding across
 returns c =
-    and_then c.before.before.before.before.before.before.put_word.ensures (simp backs at c.before.before.put-thousandths.ensures)
+    and_then c.put_word-next.ensures (simp backs at c.put_thousandths.ensures)
 
-pub put-across-spec : {M : Type 1} → statement M
-put-across-spec =
+pub put_across_spec : {M : Type 1} → statement M
+put_across_spec =
     tie.close
     (tie.spec put-word-requires mul-put-thousandths put-thousandths-requires (λ c. search rules) returns)

@@ -5,24 +5,24 @@ use Rattle.picture_numbers.specs.Thousandths.{amount}
 use Rattle.picture_numbers.proofs.attributes.put_measured.Statement.{statement}
 use Rattle.picture_numbers.proofs.attributes.put_measured.Tie as tie
 
-put-word-requires : tie.Need-put-word-requires
+put-word-requires : tie.Need-put_word-next-requires
 put-word-requires c κs =
-    let s = c.before.before.before in
+    let s = c in
     let a = s.args in
     room-first a.word.now (amount a.n) a.out.now a.at s.requires
 
-put-amount-requires : tie.Need-put-amount-requires
+put-amount-requires : tie.Need-put_amount-requires
 put-amount-requires c κs =
-    let c1 = c.before.before.before in
-    let s = c1.before.before.before.before in
+    let c1 = c in
+    let s = c1 in
     let a = s.args in
-    room-then (amount a.n) c1.put_word.ensures s.requires
+    room-then (amount a.n) c1.put_word-next.ensures s.requires
 
 returns : tie.Need-returns
 returns c =
-    and_then c.before.before.before.before.before.before.put_word.ensures c.before.before.put-amount.ensures
+    and_then c.put_word-next.ensures c.put_amount.ensures
 
-pub put-measured-spec : {M : Type 1} → statement M
-put-measured-spec =
+pub put_measured_spec : {M : Type 1} → statement M
+put_measured_spec =
     tie.close
     (tie.spec put-word-requires put-amount-requires (λ c. search rules) returns)

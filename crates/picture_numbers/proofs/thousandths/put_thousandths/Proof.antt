@@ -24,71 +24,70 @@ b-neg c = back (neg-fits c)
 
 ruleset backs = (b-n, b-neg)
 
-put-word-requires : tie.Need-put-word-requires
+put-word-requires : tie.Need-put_word-next-requires
 put-word-requires c κs =
-    let c1 = c.before.before in
-    let s = c1.before.before in
+    let c1 = c in
+    let s = c1 in
     let a = s.args in
     let n = a.n in
-    room-first (bytes "-") (amount (nat_abs n)) a.out.now a.at (rw (below-0 n (simp backs at c1.if1.true)) at s.requires.1)
+    room-first (bytes "-") (amount (nat_abs n)) a.out.now a.at (rw (below-0 n (simp backs at c1.if-n-lt0.true)) at s.requires.1)
 
-sub-put-amount : tie.Need-overflow-sub-put-amount
-sub-put-amount c = simp backs (neg-fits c.before.before.before.before.before.before.before.before)
+sub-put-amount : tie.Need-overflow_sub-n
+sub-put-amount c = simp backs (neg-fits c.before.before.before.before.before.before.before.before.before)
 
-cast-put-amount : tie.Need-overflow-cast-put-amount
+cast-put-amount : tie.Need-overflow_cast-n
 cast-put-amount c =
-    let c1 = c.before.before.before.before.before.before in
-    let s = c1.before.before in
+    let c1 = c in
+    let s = c1 in
     let a = s.args in
     let n = a.n in
-    let h = simp backs at c1.if1.true in
+    let h = simp backs at c1.if-n-lt0.true in
     simp backs (cast-make (pos 0 -ℤ n) (omega (arith, ints, dif (pos 0) n, apart (pos 0 -ℤ n), apart n)))
 
-put-amount-requires : tie.Need-put-amount-requires
+put-amount-requires : tie.Need-put_amount-requires
 put-amount-requires c κs =
-    let c1 = c.before.before.before in
-    let c2 = c1.before.before.before in
-    let s = c2.before.before in
+    let c1 = c in
+    let c2 = c1 in
+    let s = c2 in
     let a = s.args in
     let n = a.n in
-    simp (b-n, b-neg, same_size) (room-then (amount (nat_abs n)) c1.put_word.ensures (rw (below-0 n (simp backs at c2.if1.true)) at s.requires.1))
+    simp (b-n, b-neg, same_size) (room-then (amount (nat_abs n)) c1.put_word-next.ensures (rw (below-0 n (simp backs at c2.if-n-lt0.true)) at s.requires.1))
 
-returns : tie.Need-returns
+returns : tie.Need-returns-then-n-lt0
 returns c =
-    let c1 = c.before.before in
-    let c2 = c1.before.before.before.before in
-    let c3 = c2.before.before.before in
-    let s = c3.before.before in
+    let c1 = c in
+    let c2 = c1 in
+    let c3 = c2 in
+    let s = c3 in
     let a = s.args in
     let n = a.n in
-    rw (below-0 n (simp backs at c3.if1.true)) (and_then c2.put_word.ensures (simp (b-n, b-neg, same_size) at c1.put-amount.ensures))
+    rw (below-0 n (simp backs at c3.if-n-lt0.true)) (and_then c2.put_word-next.ensures (simp (b-n, b-neg, same_size) at c1.put_amount.ensures))
 
-cast-put-amount-2 : tie.Need-overflow-cast-put-amount-2
+cast-put-amount-2 : tie.Need-overflow_cast-n-2
 cast-put-amount-2 c =
-    let c1 = c.before in
-    let s = c1.before.before in
+    let c1 = c in
+    let s = c1 in
     let a = s.args in
     let n = a.n in
-    let h = simp backs at c1.if1.false in
+    let h = simp backs at c1.if-n-lt0.false in
     simp backs (cast-make n (omega (arith, ints, apart n)))
 
-put-amount-requires-2 : tie.Need-put-amount-requires-2
+put-amount-requires-2 : tie.Need-put_amount-requires-2
 put-amount-requires-2 c κs =
-    let c1 = c.before in
-    let s = c1.before.before in
+    let c1 = c in
+    let s = c1 in
     let a = s.args in
-    let n = a.n in simp backs (rw (from-0 n (simp backs at c1.if1.false)) at s.requires.1)
+    let n = a.n in simp backs (rw (from-0 n (simp backs at c1.if-n-lt0.false)) at s.requires.1)
 
-returns-2 : tie.Need-returns-2
+returns-2 : tie.Need-returns
 returns-2 c =
-    let c1 = c.before.before in
-    let c2 = c1.before.before in
-    let s = c2.before.before in
+    let c1 = c in
+    let c2 = c1 in
+    let s = c2 in
     let a = s.args in
-    let n = a.n in rw (from-0 n (simp backs at c2.if1.false)) (simp backs at c1.put-amount2.ensures)
+    let n = a.n in rw (from-0 n (simp backs at c2.if-n-lt0.false)) (simp backs at c1.put_amount-2.ensures)
 
-pub put-thousandths-spec : {M : Type 1} → statement M
-put-thousandths-spec =
+pub put_thousandths_spec : {M : Type 1} → statement M
+put_thousandths_spec =
     tie.close
-    (tie.spec (λ c. search rules) put-word-requires sub-put-amount cast-put-amount put-amount-requires (λ c. search rules)
-    returns cast-put-amount-2 put-amount-requires-2 (λ c. search rules) returns-2)
+    (tie.spec put-word-requires sub-put-amount cast-put-amount put-amount-requires (λ c. search rules) returns cast-put-amount-2 put-amount-requires-2 (λ c. search rules) returns-2)

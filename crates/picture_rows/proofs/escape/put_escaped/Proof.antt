@@ -10,36 +10,36 @@ use Rattle.picture_rows.proofs.EscapeLaws.{escaped-on, escaped-end}
 use Rattle.picture_rows.proofs.escape.put_escaped.Statement.{statement}
 use Rattle.picture_rows.proofs.escape.put_escaped.Tie as tie
 
-abbrev invariant-loop : tie.invariant-loop
+abbrev invariant-loop : tie.invariant-loop-i
 invariant-loop out₀ from text at₀ i₀ out at i = (i ≤ length text) × (length out ≡ length out₀) × Partly (escaped text) (escaped (drop i text)) out₀ from at out
 
-abbrev decreases-loop : tie.decreases-loop
+abbrev decreases-loop : tie.decreases-loop-i
 decreases-loop out₀ from text at₀ i₀ out at i = length text - i
 
-loop-holds : tie.Need-loop-init invariant-loop decreases-loop
-loop-holds c = let a = c.before.before.args in (omega arith, refl, nothing_yet (escaped a.text.now) a.out.now a.from)
+loop-holds : tie.Need-loop-i-init invariant-loop decreases-loop
+loop-holds c = let a = c.args in (omega arith, refl, nothing_yet (escaped a.text.now) a.out.now a.from)
 
-put-escaped-byte-requires : tie.Need-put-escaped-byte-requires invariant-loop decreases-loop
+put-escaped-byte-requires : tie.Need-put_escaped_byte-at-requires invariant-loop decreases-loop
 put-escaped-byte-requires c κs =
-    let s = c.before.before.before.before.before.before in let text = s.args.text.now in let l = c.before.before.before.loop in
-    next-room (escaped_byte (get_or text l.i 0)) (escaped (drop (l.i + 1) text)) (escaped-on text l.i c.before.before.loop-test.true) l.invariant.2 s.requires
+    let s = c in let text = s.args.text.now in let l = c.loop-i in
+    next-room (escaped_byte (get_or text l.i 0)) (escaped (drop (l.i + 1) text)) (escaped-on text l.i c.loop-i-test.true) l.invariant.2 s.requires
 
-loop-again : tie.Need-loop-preserved invariant-loop decreases-loop
+loop-again : tie.Need-loop-i-preserved invariant-loop decreases-loop
 loop-again c =
-    let c5 = c.before.before.before.before.before in
-    let c6 = c5.before in
-    let c9 = c6.before.before.before in
-    let text = c9.args.text.now in let l = c6.loop in (
+    let c5 = c in
+    let c6 = c5 in
+    let c9 = c6 in
+    let text = c9.args.text.now in let l = c6.loop-i in (
       omega arith,
-      c.before.before.put-escaped-byte.auto.0 ∙ l.invariant.1,
-      next-written (escaped_byte (get_or text l.i 0)) (escaped (drop (l.i + 1) text)) (escaped-on text l.i c5.loop-test.true) l.invariant.2
-          c.before.before.put-escaped-byte.ensures,
+      c.put_escaped_byte-at.auto.out ∙ l.invariant.1,
+      next-written (escaped_byte (get_or text l.i 0)) (escaped (drop (l.i + 1) text)) (escaped-on text l.i c5.loop-i-test.true) l.invariant.2
+          c.put_escaped_byte-at.ensures,
     )
 
 returns : tie.Need-returns invariant-loop decreases-loop
-returns c = all-written (escaped-end c.before.before.before.before.args.text.now c.before.loop.i c.loop-test.false) c.before.loop.invariant.2
+returns c = all-written (escaped-end c.args.text.now c.loop-i.i c.loop-i-test.false) c.loop-i.invariant.2
 
-pub put-escaped-spec : {M : Type 1} → statement M
-put-escaped-spec =
+pub put_escaped_spec : {M : Type 1} → statement M
+put_escaped_spec =
     tie.close
     (tie.spec invariant-loop decreases-loop loop-holds (λ c. search rules) put-escaped-byte-requires (λ c. search rules) (λ c. search rules) loop-again (λ c. search rules) returns)

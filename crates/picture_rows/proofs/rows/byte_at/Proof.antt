@@ -6,11 +6,11 @@ use Rattle.ints.proofs.Lists.{get_d-either}
 use Rattle.picture_rows.proofs.rows.byte_at.Statement.{statement}
 use Rattle.picture_rows.proofs.rows.byte_at.Tie as tie
 
-returns : tie.Need-returns
-returns c = get_d-either c.before.before.args.name.now c.before.before.args.at 0 32 c.before.if1.true
+returns : tie.Need-returns-then-at-name
+returns c = get_d-either c.args.name.now c.args.at 0 32 c.if-at-name.true
 
-returns-2 : tie.Need-returns-2
-returns-2 c = sym (get_or-eq_default c.before.args.name.now 32 c.if1.false)
+returns-2 : tie.Need-returns
+returns-2 c = sym (get_or-eq_default c.args.name.now 32 c.if-at-name.false)
 
-pub byte-at-spec : {M : Type 1} → statement M
-byte-at-spec = tie.close (tie.spec (λ c. search rules) returns returns-2)
+pub byte_at_spec : {M : Type 1} → statement M
+byte_at_spec = tie.close (tie.spec (λ c. search rules) returns returns-2)

@@ -5,21 +5,21 @@ use Rattle.picture_rows.proofs.RowLaws.{cut-none, cut-space, cut-plain}
 use Rattle.picture_rows.proofs.rows.cut_end.Statement.{statement}
 use Rattle.picture_rows.proofs.rows.cut_end.Tie as tie
 
-returns : tie.Need-returns
+returns : tie.Need-returns-then-end-eq0
 returns c =
-    let c3 = c.before.before.before in
-    let a = c3.args in let e = c.before.longest in (cut-none a.most a.name.now e.result e.ensures.0 c.if1.true, omega arith)
+    let c3 = c in
+    let a = c3.args in let e = c.longest-end in (cut-none a.most a.name.now e.result e.ensures.0 c.if-end-eq0.true, omega arith)
 
-returns-2 : tie.Need-returns-2
+returns-2 : tie.Need-returns-then-name-before-eq32
 returns-2 c =
-    let a = c.before.before.before.before.before.args in let e = c.before.before.before.longest in
-    (cut-space a.most a.name.now e.result e.ensures.0 c.if2.true, omega (arith, e.ensures.1))
+    let a = c.args in let e = c.longest-end in
+    (cut-space a.most a.name.now e.result e.ensures.0 c.if-name-before-eq32.true, omega (arith, e.ensures.1))
 
-returns-3 : tie.Need-returns-3
+returns-3 : tie.Need-returns
 returns-3 c =
-    let c3 = c.before.before.before in
-    let c5 = c3.before.before in
-    let a = c5.args in let e = c3.longest in (cut-plain a.most a.name.now e.result e.ensures.0 c.if2.false, e.ensures.1)
+    let c3 = c in
+    let c5 = c3 in
+    let a = c5.args in let e = c3.longest-end in (cut-plain a.most a.name.now e.result e.ensures.0 c.if-name-before-eq32.false, e.ensures.1)
 
-pub cut-end-spec : {M : Type 1} → statement M
-cut-end-spec = tie.close (tie.spec (λ c κs. search rules) returns (λ c. search rules) (λ c. search rules) returns-2 returns-3)
+pub cut_end_spec : {M : Type 1} → statement M
+cut_end_spec = tie.close (tie.spec (λ c κs. search rules) returns (λ c. search rules) (λ c. search rules) returns-2 returns-3)

@@ -3,11 +3,11 @@ use borrow.Author.Rules.{rules}
 use Rattle.picture_rows.proofs.rows.is_stop.Statement.{statement}
 use Rattle.picture_rows.proofs.rows.is_stop.Tie as tie
 
-returns : tie.Need-returns
-returns c = rw c.if1.true
+returns : tie.Need-returns-then-words
+returns c = rw c.if-words.true
 
-returns-2 : tie.Need-returns-2
-returns-2 c = rw (c.before.if1.false, c.columns_of.ensures.0)
+returns-2 : tie.Need-returns
+returns-2 c = rw (c.if-words.false, c.columns_of.ensures.0)
 
-pub is-stop-spec : {M : Type 1} → statement M
-is-stop-spec = tie.close (tie.spec returns (λ c κs. search rules) returns-2)
+pub is_stop_spec : {M : Type 1} → statement M
+is_stop_spec = tie.close (tie.spec returns (λ c κs. search rules) returns-2)

@@ -12,7 +12,7 @@ b-x : (c : tie.Start) → to_z w64 (of_z w64 c.args.x) ≡ c.args.x
 b-x c = back c.ranges.x
 
 b-r : (c : tie.After-minus) → to_z w64 (of_z w64 c.minus.result) ≡ c.minus.result
-b-r c = back' c.minus.result c.minus.type-inv
+b-r c = back' c.minus.result c.minus.type_inv
 
 minus-requires : tie.Need-minus-requires
 minus-requires c κs = simp b-x (omega (arith, c.ranges.half, c.requires))
@@ -20,7 +20,7 @@ minus-requires c κs = simp b-x (omega (arith, c.ranges.half, c.requires))
 returns : tie.Need-returns
 returns c = simp (b-x, b-r) (simp b-x at c.minus.ensures)
 
-pub left-edge-spec : {M : Type 1} → statement M
-left-edge-spec =
+pub left_edge_spec : {M : Type 1} → statement M
+left_edge_spec =
     tie.close
     (tie.spec (λ c. search rules) minus-requires returns)

@@ -12,7 +12,7 @@ b-x : (c : tie.Start) → to_z w64 (of_z w64 c.args.x) ≡ c.args.x
 b-x c = back c.ranges.x
 
 b-r : (c : tie.After-plus) → to_z w64 (of_z w64 c.plus.result) ≡ c.plus.result
-b-r c = back' c.plus.result c.plus.type-inv
+b-r c = back' c.plus.result c.plus.type_inv
 
 plus-requires : tie.Need-plus-requires
 plus-requires c κs = simp b-x (omega (arith, c.ranges.half, c.requires))
@@ -20,7 +20,7 @@ plus-requires c κs = simp b-x (omega (arith, c.ranges.half, c.requires))
 returns : tie.Need-returns
 returns c = simp (b-x, b-r) (simp b-x at c.plus.ensures)
 
-pub right-edge-spec : {M : Type 1} → statement M
-right-edge-spec =
+pub right_edge_spec : {M : Type 1} → statement M
+right_edge_spec =
     tie.close
     (tie.spec (λ c. search rules) plus-requires returns)

@@ -4,15 +4,15 @@ use Rattle.picture_view.specs.View.{style}
 use Rattle.picture_view.proofs.head.put_style.Statement.{statement}
 use Rattle.picture_view.proofs.head.put_style.Tie as tie
 
-put-word-requires : tie.Need-put-word-requires
+put-word-requires : tie.Need-put_word-requires
 unfolding style
-put-word-requires c κs = c.before.before.before.requires
+put-word-requires c κs = c.requires
 
 returns : tie.Need-returns
 unfolding style
-returns c = c.before.before.put_word.ensures
+returns c = c.put_word.ensures
 
-pub put-style-spec : {M : Type 1} → statement M
-put-style-spec =
+pub put_style_spec : {M : Type 1} → statement M
+put_style_spec =
     tie.close
-    (tie.spec (λ c. search rules) put-word-requires (λ c. search rules) returns)
+    (tie.spec put-word-requires (λ c. search rules) returns)

@@ -8,21 +8,21 @@ use Rattle.place_run.proofs.Taken.{taken_places}
 use Rattle.place_run.proofs.call.place_run.Statement.{statement}
 use Rattle.place_run.proofs.call.place_run.Tie as tie
 
-returns : tie.Need-returns
+returns : tie.Need-returns-then-not-is_taken
 unfolding call_of
-returns c = rw (sym c.before.is-taken.ensures ∙ not-true _ c.if1.true) (record { answered = refl; left = refl })
+returns c = rw (sym c.is_taken.ensures ∙ not-true _ c.if-not-is_taken.true-raw) (record { answered = refl; left = refl })
 
-place-rated-requires : tie.Need-place-rated-requires
+place-rated-requires : tie.Need-place_rated-requires
 place-rated-requires c κs =
-    taken_places _ _ _ _ _ _ _ _ _ (sym c.before.before.is-taken.ensures ∙ not-false _ c.before.if1.false)
+    taken_places _ _ _ _ _ _ _ _ _ (sym c.is_taken.ensures ∙ not-false _ c.if-not-is_taken.false-raw)
 
-returns-2 : tie.Need-returns-2
+returns-2 : tie.Need-returns
 unfolding call_of placed_of
 returns-2 c =
-    rw (sym c.before.before.before.before.is-taken.ensures ∙ not-false _ c.before.before.before.if1.false)
-    (record { answered = refl; left = c.before.place-rated.ensures })
+    rw (sym c.is_taken.ensures ∙ not-false _ c.if-not-is_taken.false-raw)
+    (record { answered = refl; left = c.place_rated.ensures })
 
-pub place-run-spec : {M : Type 1} → statement M
-place-run-spec =
+pub place_run_spec : {M : Type 1} → statement M
+place_run_spec =
     tie.close
     (tie.spec (λ c κs. search rules) (λ c. search rules) returns place-rated-requires (λ c. search rules) returns-2)

@@ -14,18 +14,18 @@ use Rattle.run_halves.specs.inner.Halves.{SmallLimit}
 use Rattle.place_run.proofs.place.left_limit.Statement.{statement}
 use Rattle.place_run.proofs.place.left_limit.Tie as tie
 
-plus-requires : tie.Need-plus-requires
-plus-requires c κs = let s = c.before.before.before.before.before in let g = c.before.before.left.given in let v = g.0.0 in
-    let q : size v ≤ max_size = subst (λ w. SmallLimit (limit_of w)) g.1 s.requires.0 in
-    simp (back' v c.before.known-told.given.0.1) (omega (arith, q, c.distance-at.ensures, s.requires.1))
+plus-requires : tie.Need-plus-x-requires
+plus-requires c κs = let s = c in let g = c.in-At in let v = g.l in
+    let q : size v ≤ max_size = subst (λ w. SmallLimit (limit_of w)) g.is s.requires.0 in
+    simp (back' v c.in-At.known_told-1-own.given.0.1) (omega (arith, q, c.distance_at.ensures, s.requires.1))
 
-returns-2 : tie.Need-returns-2
-returns-2 c = let a = c.before.before.before.before.before.before.args in let g = c.before.before.before.left.given in let v = g.0.0 in
-    let e = simp (back' v c.before.before.known-told.given.0.1) at c.plus.ensures in
-    ap at (back' c.plus.result c.plus.type-inv ∙ e ∙ ap (λ n. v +ℤ pos n) c.before.distance-at.ensures)
-    ∙ sym (ap (λ w. left_limit (limit_of w) (left_distance w a.distances.now)) g.1)
+returns-2 : tie.Need-returns-in-At
+returns-2 c = let a = c.args in let g = c.in-At in let v = g.l in
+    let e = simp (back' v c.in-At.known_told-1-own.given.0.1) at c.plus-x.ensures in
+    ap at (back' c.plus-x.result c.plus-x.type_inv ∙ e ∙ ap (λ n. v +ℤ pos n) c.distance_at.ensures)
+    ∙ sym (ap (λ w. left_limit (limit_of w) (left_distance w a.distances.now)) g.is)
 
-pub left-limit-spec : {M : Type 1} → statement M
-left-limit-spec =
+pub left_limit_spec : {M : Type 1} → statement M
+left_limit_spec =
     tie.close
     (tie.spec (λ c. search rules) (λ c. search rules) (λ c κs. search rules) plus-requires (λ c. search rules) returns-2)

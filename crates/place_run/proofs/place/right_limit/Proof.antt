@@ -15,18 +15,18 @@ use Rattle.run_halves.specs.inner.Halves.{SmallLimit}
 use Rattle.place_run.proofs.place.right_limit.Statement.{statement}
 use Rattle.place_run.proofs.place.right_limit.Tie as tie
 
-minus-requires : tie.Need-minus-requires
-minus-requires c κs = let s = c.before.before.before.before.before in let g = c.before.before.right.given in let v = g.0.0 in
-    let q : size v ≤ max_size = subst (λ w. SmallLimit (limit_of w)) g.1 s.requires.0 in
-    simp (back' v c.before.known-told.given.0.1) (omega (arith, q, c.total.ensures, s.requires.1))
+minus-requires : tie.Need-minus-x-requires
+minus-requires c κs = let s = c in let g = c.in-At in let v = g.h in
+    let q : size v ≤ max_size = subst (λ w. SmallLimit (limit_of w)) g.is s.requires.0 in
+    simp (back' v c.in-At.known_told-1-own.given.0.1) (omega (arith, q, c.total.ensures, s.requires.1))
 
-returns-2 : tie.Need-returns-2
-returns-2 c = let a = c.before.before.before.before.before.before.args in let g = c.before.before.before.right.given in let v = g.0.0 in
-    let e = simp (back' v c.before.before.known-told.given.0.1) at c.minus.ensures in
-    ap at (back' c.minus.result c.minus.type-inv ∙ e ∙ ap (λ n. v -ℤ pos n) c.before.total.ensures)
-    ∙ sym (ap (λ w. right_limit (limit_of w) (sum a.steps.now)) g.1)
+returns-2 : tie.Need-returns-in-At
+returns-2 c = let a = c.args in let g = c.in-At in let v = g.h in
+    let e = simp (back' v c.in-At.known_told-1-own.given.0.1) at c.minus-x.ensures in
+    ap at (back' c.minus-x.result c.minus-x.type_inv ∙ e ∙ ap (λ n. v -ℤ pos n) c.total.ensures)
+    ∙ sym (ap (λ w. right_limit (limit_of w) (sum a.steps.now)) g.is)
 
-pub right-limit-spec : {M : Type 1} → statement M
-right-limit-spec =
+pub right_limit_spec : {M : Type 1} → statement M
+right_limit_spec =
     tie.close
     (tie.spec (λ c. search rules) (λ c. search rules) (λ c κs. search rules) minus-requires (λ c. search rules) returns-2)

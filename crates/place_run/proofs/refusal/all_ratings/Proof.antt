@@ -10,32 +10,32 @@ use Rattle.ints.proofs.Ratings.{ratings-on, ratings-stop, ratings-end}
 use Rattle.place_run.proofs.refusal.all_ratings.Statement.{statement}
 use Rattle.place_run.proofs.refusal.all_ratings.Tie as tie
 
-abbrev invariant-loop : tie.invariant-loop
+abbrev invariant-loop : tie.invariant-loop-i
 invariant-loop ratings i₀ i = (i ≤ length ratings) × (all_ratings (drop i ratings) ≡ all_ratings ratings)
 
-abbrev decreases-loop : tie.decreases-loop
+abbrev decreases-loop : tie.decreases-loop-i
 decreases-loop ratings i₀ i = length ratings - i
 
-loop-holds : tie.Need-loop-init invariant-loop decreases-loop
+loop-holds : tie.Need-loop-i-init invariant-loop decreases-loop
 loop-holds c = (omega arith, refl)
 
-returns : tie.Need-returns invariant-loop decreases-loop
+returns : tie.Need-returns-then-not-is_rating invariant-loop decreases-loop
 returns c =
-    let ws = c.before.before.before.before.before.before.args.ratings.now in
-    let l = c.before.before.before.before.loop in
-    sym (ratings-stop ws l.i (omega arith) (sym c.before.is-rating.ensures ∙ not-true _ c.if1.true)) ∙ l.invariant.1
+    let ws = c.args.ratings.now in
+    let l = c.loop-i in
+    sym (ratings-stop ws l.i (omega arith) (sym c.is_rating.ensures ∙ not-true _ c.if-not-is_rating.true-raw)) ∙ l.invariant.1
 
-loop-again : tie.Need-loop-preserved invariant-loop decreases-loop
+loop-again : tie.Need-loop-i-preserved invariant-loop decreases-loop
 loop-again c =
-    let ws = c.before.before.before.before.before.before.args.ratings.now in
-    let l = c.before.before.before.before.loop in
-    (omega arith, sym (ratings-on ws l.i (omega arith) (sym c.before.is-rating.ensures ∙ not-false _ c.if1.false)) ∙ l.invariant.1)
+    let ws = c.args.ratings.now in
+    let l = c.loop-i in
+    (omega arith, sym (ratings-on ws l.i (omega arith) (sym c.is_rating.ensures ∙ not-false _ c.if-not-is_rating.false-raw)) ∙ l.invariant.1)
 
-returns-2 : tie.Need-returns-2 invariant-loop decreases-loop
-returns-2 c = sym (ratings-end c.before.before.before.args.ratings.now c.before.loop.i c.loop-test.false) ∙ c.before.loop.invariant.1
+returns-2 : tie.Need-returns invariant-loop decreases-loop
+returns-2 c = sym (ratings-end c.args.ratings.now c.loop-i.i c.loop-i-test.false) ∙ c.loop-i.invariant.1
 
-pub all-ratings-spec : {M : Type 1} → statement M
-all-ratings-spec =
+pub all_ratings_spec : {M : Type 1} → statement M
+all_ratings_spec =
     tie.close
     (tie.spec invariant-loop decreases-loop loop-holds (λ c. search rules) (λ c. search rules) (λ c κs. search rules) returns
     (λ c. search rules) (λ c. search rules) loop-again returns-2)

@@ -6,16 +6,16 @@ use Rattle.ints.proofs.Tests.{and-true}
 use Rattle.place_run.proofs.refusal.bound_within.Statement.{statement}
 use Rattle.place_run.proofs.refusal.bound_within.Tie as tie
 
-returns : tie.Need-returns
+returns : tie.Need-returns-in-Free
 unfolding all_within
-returns c = rw c.enum_told.given.1
+returns c = rw c.in-Free.is
 
-returns-2 : tie.Need-returns-2
+returns-2 : tie.Need-returns-in-At
 unfolding all_within
 returns-2 c =
-    rw (c.before.before.bound.given.1, and-true) (simp (back' c.before.before.bound.given.0.0 c.before.known-told.given.0.1) at c.is_Within.ensures)
+    rw (c.in-At.is, and-true) (simp (back' c.in-At.x c.in-At.known_told-1-own.given.0.1) at c.is_within.ensures)
 
-pub bound-within-spec : {M : Type 1} → statement M
-bound-within-spec =
+pub bound_within_spec : {M : Type 1} → statement M
+bound_within_spec =
     tie.close
     (tie.spec (λ c. search rules) (λ c. search rules) (λ c κs. search rules) returns returns-2)

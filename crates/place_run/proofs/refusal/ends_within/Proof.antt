@@ -17,23 +17,23 @@ none [] e = refl
 none (x ∷ xs) e = absurd (omega arith)
 
 -- what the call says of the first
-first : (c : tie.After-is-within) → c.is_Within.result ≡ is_within (get_or c.before.before.before.args.positions.now 0 (pos 0))
-first c = simp (back' (get_or c.before.before.before.args.positions.now 0 (pos 0)) c.before.is-within-arg.given) at c.is_Within.ensures
+first : (c : tie.After-is_within) → c.is_within.result ≡ is_within (get_or c.args.positions.now 0 (pos 0))
+first c = simp (back' (get_or c.args.positions.now 0 (pos 0)) c.is_within-arg-1.given) at c.is_within.ensures
 
-returns : tie.Need-returns
-returns c = none c.before.args.positions.now c.if1.true
+returns : tie.Need-returns-then-positions-eq0
+returns c = none c.args.positions.now c.if-positions-eq0.true
 
-returns-2 : tie.Need-returns-2
+returns-2 : tie.Need-returns-then-is_within
 returns-2 c =
-    let xs = c.before.before.before.before.before.before.args.positions.now in
-    rw (sym (first c.before.before.before) ∙ c.before.before.if2.true)
-    (simp (back' (get_or xs (length xs - 1) (pos 0)) c.before.is-within-arg2.given) at c.is-within2.ensures)
+    let xs = c.args.positions.now in
+    rw (sym (first c.before.before.before) ∙ c.if-is_within.true)
+    (simp (back' (get_or xs (length xs - 1) (pos 0)) c.is_within-arg-then-is_within-1.given) at c.is_within-then-is_within.ensures)
 
-returns-3 : tie.Need-returns-3
-returns-3 c = rw (sym (first c.before) ∙ c.if2.false) c.if2.false
+returns-3 : tie.Need-returns-else-is_within
+returns-3 c = rw (sym (first c.before) ∙ c.if-is_within.false) c.if-is_within.false
 
-pub ends-within-spec : {M : Type 1} → statement M
-ends-within-spec =
+pub ends_within_spec : {M : Type 1} → statement M
+ends_within_spec =
     tie.close
     (tie.spec returns (λ c. search rules) (λ c κs. search rules) (λ c. search rules) (λ c. search rules) (λ c. search rules)
     (λ c κs. search rules) returns-2 returns-3)

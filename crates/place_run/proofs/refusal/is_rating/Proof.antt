@@ -3,12 +3,12 @@ use borrow.Author.Tests.{le-leb, lt-leb}
 use Rattle.place_run.proofs.refusal.is_rating.Statement.{statement}
 use Rattle.place_run.proofs.refusal.is_rating.Tie as tie
 
-returns : tie.Need-returns
-returns c = rw (le-leb _ _ c.if1.true)
+returns : tie.Need-returns-then-w-ge1
+returns c = rw (le-leb _ _ c.if-w-ge1.true)
 
-returns-2 : tie.Need-returns-2
-returns-2 c = rw (lt-leb _ _ c.if1.false)
+returns-2 : tie.Need-returns-else-w-ge1
+returns-2 c = rw (lt-leb _ _ c.if-w-ge1.false)
 
-pub is-rating-spec : {M : Type 1} → statement M
-is-rating-spec = tie.close
+pub is_rating_spec : {M : Type 1} → statement M
+is_rating_spec = tie.close
     (tie.spec returns returns-2)

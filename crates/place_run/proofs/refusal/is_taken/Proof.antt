@@ -28,156 +28,156 @@ abbrev tests : (Request → List ℤ → Bool) → tie.Start → Bool
 tests f s = f (request s) s.args.answer.now
 
 -- the call, from where the flags of its tests are
-abbrev s1 : tie.Joined1 → tie.Start
+abbrev s1 : tie.Joined-r-le-MAX_BOXES → tie.Start
 s1 c = c.before.before.before.before.before
 
-abbrev s2 : tie.Joined2 → tie.Start
+abbrev s2 : tie.Joined-total-le-MAX_NEIGHBOURS → tie.Start
 s2 c = s1 c.before
 
-abbrev s3 : tie.Joined3 → tie.Start
+abbrev s3 : tie.Joined-answer-r → tie.Start
 s3 c = s2 c.before
 
-abbrev s4 : tie.Joined4 → tie.Start
+abbrev s4 : tie.Joined-old-r → tie.Start
 s4 c = s3 c.before
 
-abbrev s5 : tie.Joined5 → tie.Start
+abbrev s5 : tie.Joined-counts-r → tie.Start
 s5 c = s4 c.before
 
-abbrev s6 : tie.Joined6 → tie.Start
+abbrev s6 : tie.Joined-neighbours-total → tie.Start
 s6 c = s5 c.before
 
-abbrev s7 : tie.Joined7 → tie.Start
+abbrev s7 : tie.Joined-ratings-total → tie.Start
 s7 c = s6 c.before
 
-abbrev s8 : tie.Joined8 → tie.Start
+abbrev s8 : tie.Joined-distances-distances_due → tie.Start
 s8 c = s7 c.before
 
-abbrev s9 : tie.Joined9 → tie.Start
+abbrev s9 : tie.Joined-bound_within → tie.Start
 s9 c = s8 c.before
 
-abbrev s10 : tie.Joined10 → tie.Start
+abbrev s10 : tie.Joined-bound_within-2 → tie.Start
 s10 c = s9 c.before
 
-abbrev s11 : tie.Joined11 → tie.Start
+abbrev s11 : tie.Joined-all_within → tie.Start
 s11 c = s10 c.before
 
-abbrev s12 : tie.Joined12 → tie.Start
+abbrev s12 : tie.Joined-all_distances → tie.Start
 s12 c = s11 c.before
 
-abbrev s13 : tie.Joined13 → tie.Start
+abbrev s13 : tie.Joined-all_ratings → tie.Start
 s13 c = s12 c.before
 
-to-small : (c : tie.Joined1) → c.if1.if2 ≡ is_small (request (s1 c))
+to-small : (c : tie.Joined-r-le-MAX_BOXES) → c.if-r-le-MAX_BOXES.t-24 ≡ is_small (request (s1 c))
 to-small c =
-    let e = min-leb c.before.neighbours-in-all.result (sum (s1 c).args.counts.now) max_neighbours c.before.neighbours-in-all.ensures in
-    ⊎_elim (λ w. rw (le-leb _ _ w.0.taken) (w.1 ∙ e)) (λ w. rw (lt-leb _ _ w.0.left) (w.1 ∙ lt-leb _ _ w.0.left)) c.if1.branch
+    let e = min-leb c.neighbours_in_all-total.result (sum (s1 c).args.counts.now) max_neighbours c.neighbours_in_all-total.ensures in
+    ⊎_elim (λ w. rw (le-leb _ _ w.if-r-le-MAX_BOXES.true) (w.t-24-is ∙ e)) (λ w. rw (lt-leb _ _ w.if-r-le-MAX_BOXES.false) (w.t-24-is ∙ lt-leb _ _ w.if-r-le-MAX_BOXES.false)) c.if-r-le-MAX_BOXES.branch-raw
 
-to-answer : (c : tie.Joined2) → c.if2.if3 ≡ tests to_answer (s2 c)
+to-answer : (c : tie.Joined-total-le-MAX_NEIGHBOURS) → c.if-total-le-MAX_NEIGHBOURS.t-23 ≡ tests to_answer (s2 c)
 to-answer c =
     let p = sym (to-small c.before) in
-    ⊎_elim (λ w. rw (p ∙ w.0.taken) w.1) (λ w. rw (p ∙ w.0.left) (w.1 ∙ w.0.left)) c.if2.branch
+    ⊎_elim (λ w. rw (p ∙ w.if-total-le-MAX_NEIGHBOURS.true-raw) w.t-23-is) (λ w. rw (p ∙ w.if-total-le-MAX_NEIGHBOURS.false-raw) (w.t-23-is ∙ w.if-total-le-MAX_NEIGHBOURS.false-raw)) c.if-total-le-MAX_NEIGHBOURS.branch-raw
 
-to-old : (c : tie.Joined3) → c.if3.if4 ≡ tests to_old (s3 c)
+to-old : (c : tie.Joined-answer-r) → c.if-answer-r.t-22 ≡ tests to_old (s3 c)
 to-old c =
     let p = sym (to-answer c.before) in
-    ⊎_elim (λ w. rw (p ∙ w.0.taken) w.1) (λ w. rw (p ∙ w.0.left) (w.1 ∙ w.0.left)) c.if3.branch
+    ⊎_elim (λ w. rw (p ∙ w.if-answer-r.true-raw) w.t-22-is) (λ w. rw (p ∙ w.if-answer-r.false-raw) (w.t-22-is ∙ w.if-answer-r.false-raw)) c.if-answer-r.branch-raw
 
-to-counts : (c : tie.Joined4) → c.if4.if5 ≡ tests to_counts (s4 c)
+to-counts : (c : tie.Joined-old-r) → c.if-old-r.t-21 ≡ tests to_counts (s4 c)
 to-counts c =
     let p = sym (to-old c.before) in
-    ⊎_elim (λ w. rw (p ∙ w.0.taken) w.1) (λ w. rw (p ∙ w.0.left) (w.1 ∙ w.0.left)) c.if4.branch
+    ⊎_elim (λ w. rw (p ∙ w.if-old-r.true-raw) w.t-21-is) (λ w. rw (p ∙ w.if-old-r.false-raw) (w.t-21-is ∙ w.if-old-r.false-raw)) c.if-old-r.branch-raw
 
-to-neighbours : (c : tie.Joined5) → c.if5.if6 ≡ tests to_neighbours (s5 c)
+to-neighbours : (c : tie.Joined-counts-r) → c.if-counts-r.t-20 ≡ tests to_neighbours (s5 c)
 to-neighbours c =
     let p = sym (to-counts c.before) in
     ⊎_elim
     (λ w.
-    let e = c.before.before.before.before.before.neighbours-in-all.ensures ∙ total_of (request (s5 c)) (s5 c).args.answer.now (p ∙ w.0.taken) in
-    rw (p ∙ w.0.taken) (w.1 ∙ ap (λ t. eqb (length (s5 c).args.neighbours.now) t) e))
-    (λ w. rw (p ∙ w.0.left) (w.1 ∙ w.0.left))
-    c.if5.branch
+    let e = c.neighbours_in_all-total.ensures ∙ total_of (request (s5 c)) (s5 c).args.answer.now (p ∙ w.if-counts-r.true-raw) in
+    rw (p ∙ w.if-counts-r.true-raw) (w.t-20-is ∙ ap (λ t. eqb (length (s5 c).args.neighbours.now) t) e))
+    (λ w. rw (p ∙ w.if-counts-r.false-raw) (w.t-20-is ∙ w.if-counts-r.false-raw))
+    c.if-counts-r.branch-raw
 
-to-ratings : (c : tie.Joined6) → c.if6.if7 ≡ tests to_ratings (s6 c)
+to-ratings : (c : tie.Joined-neighbours-total) → c.if-neighbours-total.t-19 ≡ tests to_ratings (s6 c)
 to-ratings c =
     let p = sym (to-neighbours c.before) in
     ⊎_elim
     (λ w.
     let q = request (s6 c) in let a = (s6 c).args.answer.now in
-    let e = c.before.before.before.before.before.before.neighbours-in-all.ensures ∙ total_of q a (and_left (to_counts q a) (eqb (length q.neighbours) (sum q.counts)) (p ∙ w.0.taken)) in
-    rw (p ∙ w.0.taken) (w.1 ∙ ap (λ t. eqb (length (s6 c).args.ratings.now) t) e))
-    (λ w. rw (p ∙ w.0.left) (w.1 ∙ w.0.left))
-    c.if6.branch
+    let e = c.neighbours_in_all-total.ensures ∙ total_of q a (and_left (to_counts q a) (eqb (length q.neighbours) (sum q.counts)) (p ∙ w.if-neighbours-total.true-raw)) in
+    rw (p ∙ w.if-neighbours-total.true-raw) (w.t-19-is ∙ ap (λ t. eqb (length (s6 c).args.ratings.now) t) e))
+    (λ w. rw (p ∙ w.if-neighbours-total.false-raw) (w.t-19-is ∙ w.if-neighbours-total.false-raw))
+    c.if-neighbours-total.branch-raw
 
-to-distances : (c : tie.Joined7) → c.if7.if8 ≡ tests to_distances (s7 c)
+to-distances : (c : tie.Joined-ratings-total) → c.if-ratings-total.value ≡ tests to_distances (s7 c)
 to-distances c =
     let p = sym (to-ratings c.before) in
-    ⊎_elim (λ w. rw (p ∙ w.0.taken) (w.2 ∙ rw w.1.ensures)) (λ w. rw (p ∙ w.0.left) (w.1 ∙ w.0.left)) c.if7.branch
+    ⊎_elim (λ w. rw (p ∙ w.if-ratings-total.true-raw) (w.value-is ∙ rw w.distances_due.ensures)) (λ w. rw (p ∙ w.if-ratings-total.false-raw) (w.value-is ∙ w.if-ratings-total.false-raw)) c.if-ratings-total.branch-raw
 
-to-left-within : (c : tie.Joined8) → c.if8.if9 ≡ tests to_left_within (s8 c)
+to-left-within : (c : tie.Joined-distances-distances_due) → c.if-distances-distances_due.value ≡ tests to_left_within (s8 c)
 to-left-within c =
     let p = sym (to-distances c.before) in
-    ⊎_elim (λ w. rw (p ∙ w.0.taken) (w.2 ∙ w.1.ensures)) (λ w. rw (p ∙ w.0.left) (w.1 ∙ w.0.left)) c.if8.branch
+    ⊎_elim (λ w. rw (p ∙ w.if-distances-distances_due.true) (w.value-is ∙ w.bound_within.ensures)) (λ w. rw (p ∙ w.if-distances-distances_due.false) (w.value-is ∙ w.if-distances-distances_due.false)) c.if-distances-distances_due.branch-raw
 
-to-right-within : (c : tie.Joined9) → c.if9.if10 ≡ tests to_right_within (s9 c)
+to-right-within : (c : tie.Joined-bound_within) → c.if-bound_within.value ≡ tests to_right_within (s9 c)
 to-right-within c =
     let p = sym (to-left-within c.before) in
-    ⊎_elim (λ w. rw (p ∙ w.0.taken) (w.2 ∙ w.1.ensures)) (λ w. rw (p ∙ w.0.left) (w.1 ∙ w.0.left)) c.if9.branch
+    ⊎_elim (λ w. rw (p ∙ w.if-bound_within.true) (w.value-is ∙ w.bound_within-then-bound_within.ensures)) (λ w. rw (p ∙ w.if-bound_within.false) (w.value-is ∙ w.if-bound_within.false)) c.if-bound_within.branch-raw
 
-to-old-within : (c : tie.Joined10) → c.if10.if11 ≡ tests to_old_within (s10 c)
+to-old-within : (c : tie.Joined-bound_within-2) → c.if-bound_within-2.value ≡ tests to_old_within (s10 c)
 to-old-within c =
     let p = sym (to-right-within c.before) in
-    ⊎_elim (λ w. rw (p ∙ w.0.taken) (w.2 ∙ w.1.ensures)) (λ w. rw (p ∙ w.0.left) (w.1 ∙ w.0.left)) c.if10.branch
+    ⊎_elim (λ w. rw (p ∙ w.if-bound_within-2.true) (w.value-is ∙ w.all_within.ensures)) (λ w. rw (p ∙ w.if-bound_within-2.false) (w.value-is ∙ w.if-bound_within-2.false)) c.if-bound_within-2.branch-raw
 
-to-all-distances : (c : tie.Joined11) → c.if11.if12 ≡ tests to_all_distances (s11 c)
+to-all-distances : (c : tie.Joined-all_within) → c.if-all_within.value ≡ tests to_all_distances (s11 c)
 to-all-distances c =
     let p = sym (to-old-within c.before) in
-    ⊎_elim (λ w. rw (p ∙ w.0.taken) (w.2 ∙ w.1.ensures)) (λ w. rw (p ∙ w.0.left) (w.1 ∙ w.0.left)) c.if11.branch
+    ⊎_elim (λ w. rw (p ∙ w.if-all_within.true) (w.value-is ∙ w.all_distances.ensures)) (λ w. rw (p ∙ w.if-all_within.false) (w.value-is ∙ w.if-all_within.false)) c.if-all_within.branch-raw
 
-to-all-ratings : (c : tie.Joined12) → c.if12.if13 ≡ tests to_all_ratings (s12 c)
+to-all-ratings : (c : tie.Joined-all_distances) → c.if-all_distances.value ≡ tests to_all_ratings (s12 c)
 to-all-ratings c =
     let p = sym (to-all-distances c.before) in
-    ⊎_elim (λ w. rw (p ∙ w.0.taken) (w.2 ∙ w.1.ensures)) (λ w. rw (p ∙ w.0.left) (w.1 ∙ w.0.left)) c.if12.branch
+    ⊎_elim (λ w. rw (p ∙ w.if-all_distances.true) (w.value-is ∙ w.all_ratings.ensures)) (λ w. rw (p ∙ w.if-all_distances.false) (w.value-is ∙ w.if-all_distances.false)) c.if-all_distances.branch-raw
 
 reach : (s : tie.Start) → tests to_all_ratings s ≡ true → Reached (request s) s.args.answer.now
 reach s e = reached (request s) s.args.answer.now (rated (request s) s.args.answer.now e)
 
-to-neighbours-taken : (c : tie.Joined13) → c.if13.if14 ≡ tests to_neighbours_taken (s13 c)
+to-neighbours-taken : (c : tie.Joined-all_ratings) → c.if-all_ratings.value ≡ tests to_neighbours_taken (s13 c)
 to-neighbours-taken c =
     let p = sym (to-all-ratings c.before) in
     ⊎_elim
     (λ w.
-    let a = (s13 c).args in let h = reach (s13 c) (p ∙ w.0.taken) in
-    rw (p ∙ w.0.taken, in-order-same a.old.now (other_distances a.left a.distances.now) a.counts.now a.neighbours.now a.ratings.now (omega arith) (omega arith)) (w.2 ∙ w.1.ensures))
-    (λ w. rw (p ∙ w.0.left) (w.1 ∙ w.0.left))
-    c.if13.branch
+    let a = (s13 c).args in let h = reach (s13 c) (p ∙ w.if-all_ratings.true) in
+    rw (p ∙ w.if-all_ratings.true, in-order-same a.old.now (other_distances a.left a.distances.now) a.counts.now a.neighbours.now a.ratings.now (omega arith) (omega arith)) (w.value-is ∙ w.neighbours_are_taken.ensures))
+    (λ w. rw (p ∙ w.if-all_ratings.false) (w.value-is ∙ w.if-all_ratings.false))
+    c.if-all_ratings.branch-raw
 
-distances-due-requires : tie.Need-distances-due-requires
-distances-due-requires c κs = let s = s6 c.before in few-of (request s) s.args.answer.now (sym (to-ratings c.before) ∙ c.if7.true)
+distances-due-requires : tie.Need-distances_due-requires
+distances-due-requires c κs = let s = s6 c.before in few-of (request s) s.args.answer.now (sym (to-ratings c.before) ∙ c.if-ratings-total.true-raw)
 
-neighbours-are-taken-requires : tie.Need-neighbours-are-taken-requires
-neighbours-are-taken-requires c κs = (reach (s12 c.before) (sym (to-all-ratings c.before) ∙ c.if13.true)).fits.neighbours
+neighbours-are-taken-requires : tie.Need-neighbours_are_taken-requires
+neighbours-are-taken-requires c κs = (reach (s12 c.before) (sym (to-all-ratings c.before) ∙ c.if-all_ratings.true)).fits.neighbours
 
-is-possible-requires : tie.Need-is-possible-requires
+is-possible-requires : tie.Need-is_possible-requires
 is-possible-requires c κs =
     let s = s13 c.before in
-    let h = reached (request s) s.args.answer.now (ordered (request s) s.args.answer.now (sym (to-neighbours-taken c.before) ∙ c.if14.true)) in
+    let h = reached (request s) s.args.answer.now (ordered (request s) s.args.answer.now (sym (to-neighbours-taken c.before) ∙ c.if-neighbours_are_taken.true)) in
     ((h.left, h.right), (omega (arith, member-le s.args.left, member-le s.args.right), h.distances))
 
-returns : tie.Need-returns
+returns : tie.Need-returns-then-neighbours_are_taken
 returns c =
     let s = s13 c.before.before in
     let q = request s in let a = s.args.answer.now in
-    let p = sym (to-neighbours-taken c.before.before) ∙ c.before.if14.true in
+    let p = sym (to-neighbours-taken c.before.before) ∙ c.if-neighbours_are_taken.true in
     let h = reached q a (ordered q a p) in
-    rw (taken-list q a, p) (c.is-possible.ensures q.old q.counts q.neighbours q.ratings (omega arith) (omega arith))
+    rw (taken-list q a, p) (c.is_possible.ensures q.old q.counts q.neighbours q.ratings (omega arith) (omega arith))
 
-returns-2 : tie.Need-returns-2
+returns-2 : tie.Need-returns-else-neighbours_are_taken
 returns-2 c =
     let s = s13 c.before in
-    rw (taken-list (request s) s.args.answer.now, sym (to-neighbours-taken c.before) ∙ c.if14.false) c.if14.false
+    rw (taken-list (request s) s.args.answer.now, sym (to-neighbours-taken c.before) ∙ c.if-neighbours_are_taken.false) c.if-neighbours_are_taken.false
 
-pub is-taken-spec : {M : Type 1} → statement M
-is-taken-spec =
+pub is_taken_spec : {M : Type 1} → statement M
+is_taken_spec =
     tie.close
     (tie.spec (λ c κs. search rules) distances-due-requires (λ c κs. search rules) (λ c κs. search rules) (λ c κs. search rules)
     (λ c κs. search rules) (λ c κs. search rules) neighbours-are-taken-requires is-possible-requires returns returns-2)

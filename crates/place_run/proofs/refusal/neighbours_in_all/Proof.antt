@@ -11,23 +11,23 @@ use Rattle.ints.proofs.Lists.{sum-on, sum-end}
 use Rattle.place_run.proofs.refusal.neighbours_in_all.Statement.{statement}
 use Rattle.place_run.proofs.refusal.neighbours_in_all.Tie as tie
 
-abbrev invariant-loop : tie.invariant-loop
+abbrev invariant-loop : tie.invariant-loop-i
 invariant-loop counts total₀ i₀ total i = (i ≤ length counts) × (total ≤ max_neighbours) × (total + sum (drop i counts) ≡ sum counts)
 
-abbrev decreases-loop : tie.decreases-loop
+abbrev decreases-loop : tie.decreases-loop-i
 decreases-loop counts total₀ i₀ total i = length counts - i
 
-returns : tie.Need-returns invariant-loop decreases-loop
-returns c = omega (arith, sum-on c.before.before.before.before.args.counts.now c.before.before.before.loop.i c.before.before.loop-test.true)
+returns : tie.Need-returns-then-total-counts invariant-loop decreases-loop
+returns c = omega (arith, sum-on c.args.counts.now c.loop-i.i c.loop-i-test.true)
 
-loop-again : tie.Need-loop-preserved invariant-loop decreases-loop
-loop-again c = omega (arith, sum-on c.before.before.before.before.before.args.counts.now c.before.before.before.before.loop.i c.before.before.before.loop-test.true)
+loop-again : tie.Need-loop-i-preserved invariant-loop decreases-loop
+loop-again c = omega (arith, sum-on c.args.counts.now c.loop-i.i c.loop-i-test.true)
 
-returns-2 : tie.Need-returns-2 invariant-loop decreases-loop
-returns-2 c = omega (arith, sum-end c.before.before.args.counts.now c.before.loop.i c.loop-test.false)
+returns-2 : tie.Need-returns invariant-loop decreases-loop
+returns-2 c = omega (arith, sum-end c.args.counts.now c.loop-i.i c.loop-i-test.false)
 
-pub neighbours-in-all-spec : {M : Type 1} → statement M
-neighbours-in-all-spec =
+pub neighbours_in_all_spec : {M : Type 1} → statement M
+neighbours_in_all_spec =
     tie.close
     (tie.spec invariant-loop decreases-loop (λ c. search rules) (λ c. search rules) (λ c. search rules) (λ c. search rules)
     (λ c. search rules) returns (λ c. search rules) (λ c. search rules) (λ c. search rules) (λ c. search rules)

@@ -6,16 +6,16 @@ use Rattle.place_run.proofs.RefusalLaws.{ends-within}
 use Rattle.place_run.proofs.refusal.part_is_taken.Statement.{statement}
 use Rattle.place_run.proofs.refusal.part_is_taken.Tie as tie
 
-returns : tie.Need-returns
+returns : tie.Need-returns-then-is_nondecreasing
 returns c =
-    let xs = c.before.before.before.args.positions.now in
-    let e = sym c.before.before.is-nondecreasing.ensures ∙ c.before.if1.true in
-    rw (e, and-true) (c.ends-within.ensures ∙ ends-within xs e)
+    let xs = c.args.positions.now in
+    let e = sym c.is_nondecreasing.ensures ∙ c.if-is_nondecreasing.true in
+    rw (e, and-true) (c.ends_within.ensures ∙ ends-within xs e)
 
-returns-2 : tie.Need-returns-2
-returns-2 c = rw (sym c.before.is-nondecreasing.ensures ∙ c.if1.false, and-false) c.if1.false
+returns-2 : tie.Need-returns-else-is_nondecreasing
+returns-2 c = rw (sym c.is_nondecreasing.ensures ∙ c.if-is_nondecreasing.false, and-false) c.if-is_nondecreasing.false
 
-pub part-is-taken-spec : {M : Type 1} → statement M
-part-is-taken-spec =
+pub part_is_taken_spec : {M : Type 1} → statement M
+part_is_taken_spec =
     tie.close
     (tie.spec (λ c κs. search rules) (λ c κs. search rules) returns returns-2)

@@ -12,8 +12,8 @@ difference-requires : tie.Need-difference-requires
 difference-requires c κs = simp (back c.ranges.x, back c.ranges.y) (omega arith)
 
 returns : tie.Need-returns
-returns c = back' c.difference.result c.difference.type-inv ∙ simp (back c.before.ranges.x, back c.before.ranges.y) at c.difference.ensures
+returns c = back' c.difference.result c.difference.type_inv ∙ simp (back c.ranges.x, back c.ranges.y) at c.difference.ensures
 
-pub both-spec : {M : Type 1} → statement M
-both-spec = tie.close
+pub both_spec : {M : Type 1} → statement M
+both_spec = tie.close
     (tie.spec difference-requires returns)

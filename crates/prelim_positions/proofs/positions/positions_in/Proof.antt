@@ -11,29 +11,29 @@ use Rattle.prelim_classes.proofs.inner.strands.Reads as strands-reads
 
 strands-requires : tie.Need-strands-requires
 strands-requires c κs =
-    let a = c.before.before.before.before.before.before.before.before.before.before.before.before.before.args in
-    (plan-within a.gap a.sizes.now a.vias.now a.halves.now a.uppers.now a.lowers.now c.before.before.before.before.before.before.before.before.before.before.before.before.before.requires.0, (c.before.before.before.before.before.before.before.before.before.before.before.before.before.requires.1.nexts, c.before.before.before.before.before.before.before.before.before.before.before.before.before.requires.1.tops))
+    let a = c.args in
+    (plan-within a.gap a.sizes.now a.vias.now a.halves.now a.uppers.now a.lowers.now c.requires.0, (c.requires.1.nexts, c.requires.1.tops))
 
 side-requires : tie.Need-side-requires
 side-requires c κs =
-    let a = c.before.before.before.before.before.before.before.before.before.before.before.before.before.before.before.before.before.before.before.before.before.before.before.before.args in
-    let f = c.before.before.before.before.before.before.before.before.before.before.before.before.before.before.before.before.before.before.before.before.before.before.before.before.requires.1 in
-    let s = c.before.before.before.before.before.before.before.before.before.before.strands.ensures in
+    let a = c.args in
+    let f = c.requires.1 in
+    let s = c.strands.ensures in
     let n = s.down.long in (
-      some-strung a.gap a.sizes.now a.vias.now a.halves.now a.uppers.now a.lowers.now c.before.before.before.before.before.before.before.before.before.before.before.before.before.before.before.before.before.before.before.before.before.before.before.before.requires.0 c.before.before.before.before.before.before.before.before.before.before.strands.new.1.1.1.0 c.before.before.before.before.before.before.before.before.before.before.strands.new.1.1.1.1.0 s,
+      some-strung a.gap a.sizes.now a.vias.now a.halves.now a.uppers.now a.lowers.now c.requires.0 c.strands.new.next c.strands.new.top s,
       rw n f.left,
     )
 
 side-requires-2 : tie.Need-side-requires-2
 side-requires-2 c κs =
-    let a = c.before.before.before.before.before.before.before.before.before.before.before.before.before.before.before.before.before.before.before.before.before.before.before.before.before.before.before.before.before.before.before.before.before.before.before.before.before.before.args in
-    let f = c.before.before.before.before.before.before.before.before.before.before.before.before.before.before.before.before.before.before.before.before.before.before.before.before.before.before.before.before.before.before.before.before.before.before.before.before.before.before.requires.1 in
-    let s = c.before.before.before.before.before.before.before.before.before.before.before.before.before.before.before.before.before.before.before.before.before.before.before.before.strands.ensures in
+    let a = c.args in
+    let f = c.requires.1 in
+    let s = c.strands.ensures in
     let n = s.down.long in (
-      some-strung a.gap a.sizes.now a.vias.now a.halves.now a.uppers.now a.lowers.now c.before.before.before.before.before.before.before.before.before.before.before.before.before.before.before.before.before.before.before.before.before.before.before.before.before.before.before.before.before.before.before.before.before.before.before.before.before.before.requires.0 c.before.before.before.before.before.before.before.before.before.before.before.before.before.before.before.before.before.before.before.before.before.before.before.before.strands.new.1.1.1.0 c.before.before.before.before.before.before.before.before.before.before.before.before.before.before.before.before.before.before.before.before.before.before.before.before.strands.new.1.1.1.1.0 s,
+      some-strung a.gap a.sizes.now a.vias.now a.halves.now a.uppers.now a.lowers.now c.requires.0 c.strands.new.next c.strands.new.top s,
       rw n (record {
-        orders = c.before.before.before.before.before.before.before.before.before.before.before.before.before.side.auto.1.1.1.1.1.1.1.1.0 ∙ f.left.orders;
-        rights = c.before.before.before.before.before.before.before.before.before.before.before.before.before.side.auto.1.1.1.1.1.1.1.1.1.0 ∙ f.left.rights;
+        orders = c.side.auto.order ∙ f.left.orders;
+        rights = c.side.auto.right ∙ f.left.rights;
         unclassed = f.unclassed;
         places = f.others;
       }),
@@ -41,42 +41,42 @@ side-requires-2 c κs =
 
 subtract-requires : tie.Need-subtract-requires
 subtract-requires c κs =
-    let f = c.before.before.before.before.before.before.before.before.before.before.before.before.before.before.before.before.before.before.before.before.before.before.before.before.before.before.before.before.before.before.before.before.before.before.before.before.before.before.before.before.before.before.before.before.before.before.before.before.requires.1 in
-    (c.before.before.before.before.before.before.before.before.before.before.before.before.before.before.before.before.before.before.before.before.before.before.before.side.auto.1.1.1.1.1.1.1.1.1.1.1.0 ∙ f.left.places ∙ sym (c.before.before.before.before.before.before.before.before.before.side2.auto.1.1.1.1.1.1.1.1.1.1.1.0 ∙ f.others), c.before.before.before.before.before.before.before.before.before.before.before.before.before.before.before.before.before.before.before.before.before.before.before.side.ensures.small, c.before.before.before.before.before.before.before.before.before.side2.ensures.small)
+    let f = c.requires.1 in
+    (c.side.auto.xs ∙ f.left.places ∙ sym (c.side-2.auto.xs ∙ f.others), c.side.ensures.small, c.side-2.ensures.small)
 
-same_length : tie.Need-same-length
-same_length c = c.before.before.before.before.before.before.before.before.before.before.before.before.before.before.before.before.before.before.before.before.before.before.before.before.before.before.before.before.before.before.before.before.before.before.before.before.strands.auto.1.1.1.0
+same_length : tie.Need-shape_of-next
+same_length c = c.strands.auto.next
 
-same-length-2 : tie.Need-same-length-2
-same-length-2 c = c.before.before.before.before.before.before.before.before.before.before.before.before.before.before.before.before.before.before.before.before.before.before.before.before.before.before.before.before.before.before.before.before.before.before.before.before.strands.auto.1.1.1.1.0
+same-length-2 : tie.Need-shape_of-top
+same-length-2 c = c.strands.auto.top
 
-same-length-3 : tie.Need-same-length-3
-same-length-3 c = c.before.before.before.before.before.before.before.before.before.before.before.side2.auto.1.1.1.1.1.1.1.1.0 ∙ c.before.before.before.before.before.before.before.before.before.before.before.before.before.before.before.before.before.before.before.before.before.before.before.before.before.side.auto.1.1.1.1.1.1.1.1.0
+same-length-3 : tie.Need-shape_of-order
+same-length-3 c = c.side-2.auto.order ∙ c.side.auto.order
 
-same-length-4 : tie.Need-same-length-4
-same-length-4 c = c.before.before.before.before.before.before.before.before.before.before.before.side2.auto.1.1.1.1.1.1.1.1.1.0 ∙ c.before.before.before.before.before.before.before.before.before.before.before.before.before.before.before.before.before.before.before.before.before.before.before.before.before.side.auto.1.1.1.1.1.1.1.1.1.0
+same-length-4 : tie.Need-shape_of-right
+same-length-4 c = c.side-2.auto.right ∙ c.side.auto.right
 
-same-length-5 : tie.Need-same-length-5
-same-length-5 c = c.before.before.before.before.before.before.before.before.before.before.before.before.before.before.before.before.before.before.before.before.before.before.before.before.before.side.auto.1.1.1.1.1.1.1.1.1.1.0
+same-length-5 : tie.Need-shape_of-classes
+same-length-5 c = c.side.auto.classes
 
-same-length-6 : tie.Need-same-length-6
-same-length-6 c = c.before.before.before.before.before.before.before.before.before.before.before.side2.auto.1.1.1.1.1.1.1.1.1.1.0
+same-length-6 : tie.Need-shape_of-again
+same-length-6 c = c.side-2.auto.classes
 
-same-length-7 : tie.Need-same-length-7
-same-length-7 c = c.before.subtract.auto.0 ∙ c.before.before.before.before.before.before.before.before.before.before.before.before.before.before.before.before.before.before.before.before.before.before.before.before.before.side.auto.1.1.1.1.1.1.1.1.1.1.1.0
+same-length-7 : tie.Need-shape_of-xs
+same-length-7 c = c.subtract.auto.xs ∙ c.side.auto.xs
 
-same-length-8 : tie.Need-same-length-8
-same-length-8 c = c.before.before.before.before.before.before.before.before.before.before.before.side2.auto.1.1.1.1.1.1.1.1.1.1.1.0
+same-length-8 : tie.Need-shape_of-ys
+same-length-8 c = c.side-2.auto.xs
 
 returns : tie.Need-returns
 returns c =
-    let a = c.before.before.before.before.before.before.before.before.before.before.before.before.before.before.before.before.before.before.before.before.before.before.before.before.before.before.before.before.before.before.before.before.before.before.before.before.before.before.before.before.before.before.before.before.before.before.before.before.before.before.args in
-    λ p l. c.before.subtract.ensures
-    ∙ both-sides a.gap a.sizes.now a.vias.now a.halves.now a.uppers.now a.lowers.now c.before.before.before.before.before.before.before.before.before.before.before.before.before.before.before.before.before.before.before.before.before.before.before.before.before.before.before.before.before.before.before.before.before.before.before.before.strands.new.1.1.1.0 c.before.before.before.before.before.before.before.before.before.before.before.before.before.before.before.before.before.before.before.before.before.before.before.before.before.before.before.before.before.before.before.before.before.before.before.before.strands.new.1.1.1.1.0 c.before.before.before.before.before.before.before.before.before.before.before.before.before.before.before.before.before.before.before.before.before.before.before.before.before.before.before.before.before.before.before.before.before.before.before.before.strands.ensures
-    c.before.before.before.before.before.before.before.before.before.before.before.before.before.before.before.before.before.before.before.before.before.before.before.before.before.side.new.1.1.1.1.1.1.1.1.1.1.1.0 c.before.before.before.before.before.before.before.before.before.before.before.side2.new.1.1.1.1.1.1.1.1.1.1.1.0 c.before.before.before.before.before.before.before.before.before.before.before.before.before.before.before.before.before.before.before.before.before.before.before.before.before.side.ensures c.before.before.before.before.before.before.before.before.before.before.before.side2.ensures p l
+    let a = c.args in
+    λ p l. c.subtract.ensures
+    ∙ both-sides a.gap a.sizes.now a.vias.now a.halves.now a.uppers.now a.lowers.now c.strands.new.next c.strands.new.top c.strands.ensures
+    c.side.new.xs c.side-2.new.xs c.side.ensures c.side-2.ensures p l
 
-pub positions-in-spec : {M : Type 1} → statement M
-positions-in-spec =
+pub positions_in_spec : {M : Type 1} → statement M
+positions_in_spec =
     tie.close
     (tie.spec strands-requires side-requires side-requires-2 subtract-requires same_length same-length-2 same-length-3
     same-length-4 same-length-5 same-length-6 same-length-7 same-length-8 returns)

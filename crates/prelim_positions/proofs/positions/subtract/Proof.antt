@@ -18,39 +18,39 @@ use Rattle.prelim_positions.proofs.positions.subtract.Reads as reads
 use Rattle.prelim_positions.proofs.positions.subtract.Lts as lts
 use Rattle.prelim_positions.proofs.positions.both.Reads as both-reads
 
-abbrev invariant-loop : tie.invariant-loop
+abbrev invariant-loop : tie.invariant-loop-i
 invariant-loop xs₀ ys i₀ xs i = (i ≤ length ys) × (length xs ≡ length xs₀) × (xs ≡ over (take i (sums xs₀ (map neg_ℤ ys))) xs₀)
 
-abbrev decreases-loop : tie.decreases-loop
+abbrev decreases-loop : tie.decreases-loop-i
 decreases-loop xs₀ ys i₀ xs i = length ys - i
 
-loop-holds : tie.Need-loop-init invariant-loop decreases-loop
+loop-holds : tie.Need-loop-i-init invariant-loop decreases-loop
 loop-holds c = (omega arith, refl, refl)
 
-both-requires : tie.Need-both-requires invariant-loop decreases-loop
+both-requires : tie.Need-both-x-requires invariant-loop decreases-loop
 both-requires c κs =
-    let a = c.before.before.before.before.args in
-    let l = c.before.before.before.loop in
-    let same : get_or l.xs l.i (pos 0) ≡ get_or a.xs.now l.i (pos 0) = ap (λ (z : List ℤ). get_or z l.i (pos 0)) l.invariant.2 ∙ subtract-same a.xs.now a.ys.now l.i c.before.before.before.before.requires.0 (omega (arith, l.invariant.1)) in
-    simp (back' (get_or l.xs l.i (pos 0)) c.before.both-arg.given, back' (get_or a.ys.now l.i (pos 0)) c.both-arg2.given) (rw same (omega (arith, c.before.before.before.before.requires.1.each l.i, c.before.before.before.before.requires.2.each l.i)))
+    let a = c.args in
+    let l = c.loop-i in
+    let same : get_or l.xs l.i (pos 0) ≡ get_or a.xs.now l.i (pos 0) = ap (λ (z : List ℤ). get_or z l.i (pos 0)) l.invariant.2 ∙ subtract-same a.xs.now a.ys.now l.i c.requires.0 (omega (arith, l.invariant.1)) in
+    simp (back' (get_or l.xs l.i (pos 0)) c.both-arg-1.given, back' (get_or a.ys.now l.i (pos 0)) c.both-arg-in-loop-i-1.given) (rw same (omega (arith, c.requires.1.each l.i, c.requires.2.each l.i)))
 
-loop-less : tie.Need-loop-smaller invariant-loop decreases-loop
-loop-less c = omega (arith, c.before.before.before.before.loop.invariant.1, c.before.before.before.before.before.requires.0)
+loop-less : tie.Need-loop-i-smaller invariant-loop decreases-loop
+loop-less c = omega (arith, c.loop-i.invariant.1, c.requires.0)
 
-loop-again : tie.Need-loop-preserved invariant-loop decreases-loop
+loop-again : tie.Need-loop-i-preserved invariant-loop decreases-loop
 loop-again c =
-    let a = c.before.before.before.before.before.args in
-    let l = c.before.before.before.before.loop in
-    let same : get_or l.xs l.i (pos 0) ≡ get_or a.xs.now l.i (pos 0) = ap (λ (z : List ℤ). get_or z l.i (pos 0)) l.invariant.2 ∙ subtract-same a.xs.now a.ys.now l.i c.before.before.before.before.before.requires.0 (omega (arith, l.invariant.1)) in
-    let x = to_z w64 (of_z w64 c.both.result) in
-    let e : x ≡ get_or a.xs.now l.i (pos 0) -ℤ get_or a.ys.now l.i (pos 0) = back' c.both.result c.both.type-inv ∙ rw same at (simp (back' (get_or l.xs l.i (pos 0)) c.before.before.both-arg.given, back' (get_or a.ys.now l.i (pos 0)) c.before.both-arg2.given) at c.both.ensures) in
-    (omega (arith, l.invariant.1, c.before.before.before.before.before.requires.0), length-set l.xs l.i x ∙ l.invariant.1, ap (λ (z : List ℤ). set z l.i x) l.invariant.2 ∙ subtract-on a.xs.now a.ys.now l.i c.before.before.before.before.before.requires.0 (omega (arith, l.invariant.1)) x e)
+    let a = c.args in
+    let l = c.loop-i in
+    let same : get_or l.xs l.i (pos 0) ≡ get_or a.xs.now l.i (pos 0) = ap (λ (z : List ℤ). get_or z l.i (pos 0)) l.invariant.2 ∙ subtract-same a.xs.now a.ys.now l.i c.requires.0 (omega (arith, l.invariant.1)) in
+    let x = to_z w64 (of_z w64 c.both-x.result) in
+    let e : x ≡ get_or a.xs.now l.i (pos 0) -ℤ get_or a.ys.now l.i (pos 0) = back' c.both-x.result c.both-x.type_inv ∙ rw same at (simp (back' (get_or l.xs l.i (pos 0)) c.both-arg-1.given, back' (get_or a.ys.now l.i (pos 0)) c.both-arg-in-loop-i-1.given) at c.both-x.ensures) in
+    (omega (arith, l.invariant.1, c.requires.0), length-set l.xs l.i x ∙ l.invariant.1, ap (λ (z : List ℤ). set z l.i x) l.invariant.2 ∙ subtract-on a.xs.now a.ys.now l.i c.requires.0 (omega (arith, l.invariant.1)) x e)
 
 returns : tie.Need-returns invariant-loop decreases-loop
-returns c = let a = c.before.before.args in let l = c.before.loop in l.invariant.2 ∙ subtract-end a.xs.now a.ys.now l.i c.before.before.requires.0 (omega (arith, l.invariant.1))
+returns c = let a = c.args in let l = c.loop-i in l.invariant.2 ∙ subtract-end a.xs.now a.ys.now l.i c.requires.0 (omega (arith, l.invariant.1))
 
-pub subtract-spec : {M : Type 1} → statement M
-subtract-spec =
+pub subtract_spec : {M : Type 1} → statement M
+subtract_spec =
     tie.close
     (tie.spec invariant-loop decreases-loop loop-holds (λ c. search rules) (λ c. search rules) (λ c. search rules) (λ c. search rules)
     both-requires (λ c. search rules) (λ c. search rules) (λ c. search rules) loop-less loop-again (λ c. search rules) returns)

@@ -13,19 +13,19 @@ use Rattle.prelim_shifts.proofs.collect.offset.Lts as lts
 use Rattle.ints.proofs.difference.Reads as difference-reads
 
 difference-requires : tie.Need-difference-requires
-difference-requires c κs = let a = c.before.before.before.before.before.args in let p = c.before.before.before.before.before.requires.3 in simp (back' (get_or a.xs.now a.b (pos 0)) c.before.difference-arg.given, back' (get_or a.xs.now a.a (pos 0)) c.difference-arg2.given) (omega (arith, p.each a.a, p.each a.b))
+difference-requires c κs = let a = c.args in let p = c.requires.3 in simp (back' (get_or a.xs.now a.b (pos 0)) c.difference-arg-1.given, back' (get_or a.xs.now a.a (pos 0)) c.difference-arg-then-classes-a-1.given) (omega (arith, p.each a.a, p.each a.b))
 
-returns : tie.Need-returns
-returns c = let a = c.before.before.before.before.before.before.args in rw (eq-eqb _ _ c.before.before.before.if1.true) (back' c.difference.result c.difference.type-inv ∙ simp (back' (get_or a.xs.now a.b (pos 0)) c.before.before.difference-arg.given, back' (get_or a.xs.now a.a (pos 0)) c.before.difference-arg2.given) at c.difference.ensures)
+returns : tie.Need-returns-then-classes-a
+returns c = let a = c.args in rw (eq-eqb _ _ c.if-classes-a.true) (back' c.difference.result c.difference.type_inv ∙ simp (back' (get_or a.xs.now a.b (pos 0)) c.difference-arg-1.given, back' (get_or a.xs.now a.a (pos 0)) c.difference-arg-then-classes-a-1.given) at c.difference.ensures)
 
 difference-requires-2 : tie.Need-difference-requires-2
-difference-requires-2 c κs = let a = c.before.before.before.before.before.args in let p = c.before.before.before.before.before.requires.3 in simp (back' (get_or a.xs.now a.a (pos 0)) c.before.difference-arg3.given, back' (get_or a.xs.now a.b (pos 0)) c.difference-arg4.given) (omega (arith, p.each a.a, p.each a.b))
+difference-requires-2 c κs = let a = c.args in let p = c.requires.3 in simp (back' (get_or a.xs.now a.a (pos 0)) c.difference-arg-2-1.given, back' (get_or a.xs.now a.b (pos 0)) c.difference-arg-3-1.given) (omega (arith, p.each a.a, p.each a.b))
 
-returns-2 : tie.Need-returns-2
-returns-2 c = let a = c.before.before.before.before.before.before.args in rw (ne_eqb _ _ c.before.before.before.if1.false) (back' c.difference2.result c.difference2.type-inv ∙ simp (back' (get_or a.xs.now a.a (pos 0)) c.before.before.difference-arg3.given, back' (get_or a.xs.now a.b (pos 0)) c.before.difference-arg4.given) at c.difference2.ensures)
+returns-2 : tie.Need-returns
+returns-2 c = let a = c.args in rw (ne_eqb _ _ c.if-classes-a.false) (back' c.difference-2.result c.difference-2.type_inv ∙ simp (back' (get_or a.xs.now a.a (pos 0)) c.difference-arg-2-1.given, back' (get_or a.xs.now a.b (pos 0)) c.difference-arg-3-1.given) at c.difference-2.ensures)
 
-pub offset-spec : {M : Type 1} → statement M
-offset-spec =
+pub offset_spec : {M : Type 1} → statement M
+offset_spec =
     tie.close
     (tie.spec (λ c. search rules) (λ c. search rules) (λ c. search rules) (λ c. search rules) (λ c. search rules)
     (λ c. search rules) difference-requires returns (λ c. search rules) (λ c. search rules) (λ c. search rules)

@@ -16,45 +16,45 @@ use Rattle.prelim_shifts.proofs.collect.slacks.Lts as lts
 use Rattle.ints.proofs.wide.Reads as wide-reads
 use Rattle.prelim_shifts.proofs.collect.slack.Reads as slack-reads
 
-abbrev invariant-loop : tie.invariant-loop
+abbrev invariant-loop : tie.invariant-loop-i
 invariant-loop gap first link order right halves xs out₀ s₀ i₀ out s i = (length out ≡ length out₀) × Collecting (λ (k : ℕ). slack gap halves xs (get_or order k 0) (get_or right k 0)) link first s i out out₀
 
-abbrev decreases-loop : tie.decreases-loop
+abbrev decreases-loop : tie.decreases-loop-i
 decreases-loop gap first link order right halves xs out₀ s₀ i₀ out s i = length link - i
 
-loop-holds : tie.Need-loop-init invariant-loop decreases-loop
+loop-holds : tie.Need-loop-i-init invariant-loop decreases-loop
 loop-holds c = (refl, collect-start _ _ _ _)
 
-slack-requires : tie.Need-slack-requires invariant-loop decreases-loop
+slack-requires : tie.Need-slack-x-requires invariant-loop decreases-loop
 slack-requires c κs =
-    let a = c.before.before.before.before.before.before.before.before.before.before.args in
-    let p = c.before.before.before.before.before.before.before.before.before.before.requires.1 in
-    (p.0, p.1, rw c.before.before.wide.ensures (p.3 c.before.before.before.before.before.loop.i (omega (arith, c.before.before.before.before.before.before.before.before.before.before.requires.0.1))), rw c.wide2.ensures (p.4 c.before.before.before.before.before.loop.i (collect-member _ _ _ _ _ _ _ c.before.before.before.before.before.before.before.before.before.before.requires.0.0 c.before.before.before.before.before.loop.invariant.1 (omega arith))), p.2)
+    let a = c.args in
+    let p = c.requires.1 in
+    (p.0, p.1, rw c.wide.ensures (p.3 c.loop-i.i (omega (arith, c.requires.0.1))), rw c.wide-in-loop-i.ensures (p.4 c.loop-i.i (collect-member _ _ _ _ _ _ _ c.requires.0.0 c.loop-i.invariant.1 (omega arith))), p.2)
 
-mul-x : tie.Need-overflow-mul-x invariant-loop decreases-loop
-mul-x c = omega (arith, collect-room _ _ _ _ _ _ _ c.before.before.before.before.before.before.before.before.before.before.before.requires.0.0 c.before.before.before.before.before.before.loop.invariant.1 (omega arith) c.before.before.before.before.before.before.before.before.before.before.before.requires.0.3)
+mul-x : tie.Need-offset_bounds-out-s invariant-loop decreases-loop
+mul-x c = omega (arith, collect-room _ _ _ _ _ _ _ c.requires.0.0 c.loop-i.invariant.1 (omega arith) c.requires.0.3)
 
-slice-set-from-x : tie.Need-slice-set-from-x invariant-loop decreases-loop
-slice-set-from-x c = omega (arith, collect-room _ _ _ _ _ _ _ c.before.before.before.before.before.before.before.before.before.before.before.requires.0.0 c.before.before.before.before.before.before.loop.invariant.1 (omega arith) c.before.before.before.before.before.before.before.before.before.before.before.requires.0.3)
+slice-set-from-x : tie.Need-bounds-out-s invariant-loop decreases-loop
+slice-set-from-x c = omega (arith, collect-room _ _ _ _ _ _ _ c.requires.0.0 c.loop-i.invariant.1 (omega arith) c.requires.0.3)
 
-add-s : tie.Need-overflow-add-s invariant-loop decreases-loop
-add-s c = omega (arith, collect-room _ _ _ _ _ _ _ c.before.before.before.before.before.before.before.before.before.before.before.requires.0.0 c.before.before.before.before.before.before.loop.invariant.1 (omega arith) c.before.before.before.before.before.before.before.before.before.before.before.requires.0.3)
+add-s : tie.Need-overflow_add-s invariant-loop decreases-loop
+add-s c = omega (arith, collect-room _ _ _ _ _ _ _ c.requires.0.0 c.loop-i.invariant.1 (omega arith) c.requires.0.3)
 
-loop-less : tie.Need-loop-smaller invariant-loop decreases-loop
-loop-less c = let r = c.before.before.before.before.before.before.before.before.before.before.before.before.before.requires.0.0.rises c.before.before.before.before.before.before.before.before.loop.i (omega arith) (omega arith) in omega (arith, c.wide3.ensures)
+loop-less : tie.Need-loop-i-smaller invariant-loop decreases-loop
+loop-less c = let r = c.requires.0.0.rises c.loop-i.i (omega arith) (omega arith) in omega (arith, c.wide-i.ensures)
 
-loop-again : tie.Need-loop-preserved invariant-loop decreases-loop
+loop-again : tie.Need-loop-i-preserved invariant-loop decreases-loop
 loop-again c =
-    let a = c.before.before.before.before.before.before.before.before.before.before.before.before.before.args in
-    let l = c.before.before.before.before.before.before.before.before.loop in
-    let e = back' c.before.before.slack.result c.before.before.slack.type-inv ∙ rw (c.before.before.before.before.before.wide.ensures, c.before.before.before.wide2.ensures) at c.before.before.slack.ensures in
-    rw c.wide3.ensures (length-set l.out l.s (to_z w64 (of_z w64 c.before.before.slack.result)) ∙ l.invariant.0, collect-on _ _ _ _ _ _ _ c.before.before.before.before.before.before.before.before.before.before.before.before.before.requires.0.0 l.invariant.1 (omega arith) c.before.before.before.before.before.before.before.before.before.before.before.before.before.requires.0.3 (to_z w64 (of_z w64 c.before.before.slack.result)) e)
+    let a = c.args in
+    let l = c.loop-i in
+    let e = back' c.slack-x.result c.slack-x.type_inv ∙ rw (c.wide.ensures, c.wide-in-loop-i.ensures) at c.slack-x.ensures in
+    rw c.wide-i.ensures (length-set l.out l.s (to_z w64 (of_z w64 c.slack-x.result)) ∙ l.invariant.0, collect-on _ _ _ _ _ _ _ c.requires.0.0 l.invariant.1 (omega arith) c.requires.0.3 (to_z w64 (of_z w64 c.slack-x.result)) e)
 
 returns : tie.Need-returns invariant-loop decreases-loop
-returns c = (collect-count _ _ _ _ _ _ _ c.before.before.before.before.before.before.requires.0.0 c.before.loop.invariant.1 (omega arith), collect-end _ _ _ _ _ _ _ c.before.before.before.before.before.before.requires.0.0 c.before.loop.invariant.1 (omega arith))
+returns c = (collect-count _ _ _ _ _ _ _ c.requires.0.0 c.loop-i.invariant.1 (omega arith), collect-end _ _ _ _ _ _ _ c.requires.0.0 c.loop-i.invariant.1 (omega arith))
 
-pub slacks-spec : {M : Type 1} → statement M
-slacks-spec =
+pub slacks_spec : {M : Type 1} → statement M
+slacks_spec =
     tie.close
     (tie.spec invariant-loop decreases-loop loop-holds (λ c. search rules) (λ c. search rules) (λ c κs. search rules) (λ c. search rules)
     (λ c. search rules) (λ c κs. search rules) slack-requires mul-x slice-set-from-x add-s (λ c. search rules)

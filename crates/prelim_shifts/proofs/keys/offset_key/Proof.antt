@@ -6,17 +6,17 @@ use Rattle.prelim_shifts.proofs.keys.offset_key.Tie as tie
 use Rattle.prelim_shifts.proofs.keys.offset_key.Reads as reads
 use Rattle.prelim_shifts.proofs.keys.offset_key.Lts as lts
 
-returns : tie.Need-returns
-returns c = rw (lt-ltb _ _ c.before.if1.true)
+returns : tie.Need-returns-then-classes-b
+returns c = rw (lt-ltb _ _ c.if-classes-b.true)
 
-returns-2 : tie.Need-returns-2
-returns-2 c = rw (le-ltb _ _ c.before.before.before.before.if1.false, lt-ltb _ _ c.before.if2.true)
+returns-2 : tie.Need-returns-then-classes-a
+returns-2 c = rw (le-ltb _ _ c.if-classes-b.false, lt-ltb _ _ c.if-classes-a.true)
 
-returns-3 : tie.Need-returns-3
-returns-3 c = rw (le-ltb _ _ c.before.before.before.if1.false, le-ltb _ _ c.if2.false)
+returns-3 : tie.Need-returns
+returns-3 c = rw (le-ltb _ _ c.if-classes-b.false, le-ltb _ _ c.if-classes-a.false)
 
-pub offset-key-spec : {M : Type 1} → statement M
-offset-key-spec =
+pub offset_key_spec : {M : Type 1} → statement M
+offset_key_spec =
     tie.close
     (tie.spec (λ c. search rules) (λ c. search rules) (λ c. search rules) (λ c. search rules) (λ c. search rules)
     (λ c. search rules) returns (λ c. search rules) (λ c. search rules) (λ c. search rules) (λ c. search rules)

@@ -14,34 +14,34 @@ use Rattle.prelim_shifts.proofs.middle.least.Tie as tie
 use Rattle.prelim_shifts.proofs.middle.least.Reads as reads
 use Rattle.prelim_shifts.proofs.middle.least.Lts as lts
 
-abbrev invariant-loop : tie.invariant-loop
+abbrev invariant-loop : tie.invariant-loop-i
 invariant-loop xs best₀ i₀ best i = (i ≤ length xs) × (best < length xs) × (least_of (get_or xs best (pos 0)) (drop i xs) ≡ least_of (get_or xs 0 (pos 0)) (drop 1 xs))
 
-abbrev decreases-loop : tie.decreases-loop
+abbrev decreases-loop : tie.decreases-loop-i
 decreases-loop xs best₀ i₀ best i = length xs - i
 
-loop-holds : tie.Need-loop-init invariant-loop decreases-loop
+loop-holds : tie.Need-loop-i-init invariant-loop decreases-loop
 loop-holds c = (omega arith, omega arith, refl)
 
-loop-again : tie.Need-loop-preserved invariant-loop decreases-loop
+loop-again : tie.Need-loop-i-preserved invariant-loop decreases-loop
 loop-again c =
-    let xs = c.before.before.before.before.before.args.xs.now in
-    let l = c.before.before.before.before.loop in
-    let b = back' (get_or xs l.i (pos 0)) c.before.before.if12.given in
-    let b2 = back' (get_or xs l.best (pos 0)) c.before.if13.given in
+    let xs = c.args.xs.now in
+    let l = c.loop-i in
+    let b = back' (get_or xs l.i (pos 0)) c.t7-1.given in
+    let b2 = back' (get_or xs l.best (pos 0)) c.t10-1.given in
     let on = least_on xs l.i (get_or xs l.best (pos 0)) (omega arith) in
     ⊎_elim
-    (λ w. rw w.1 (omega arith, omega arith, rw (simp (b, b2) at w.0.taken) at (sym on ∙ l.invariant.2)))
-    (λ w. rw w.1 (omega arith, omega arith, rw (simp (b, b2) at w.0.left) at (sym on ∙ l.invariant.2)))
-    c.if1.branch
+    (λ w. rw w.best-is (omega arith, omega arith, rw (simp (b, b2) at w.if-xs-i.true) at (sym on ∙ l.invariant.2)))
+    (λ w. rw w.best-is (omega arith, omega arith, rw (simp (b, b2) at w.if-xs-i.false) at (sym on ∙ l.invariant.2)))
+    c.if-xs-i.branch-raw
 
 returns : tie.Need-returns invariant-loop decreases-loop
 returns c =
-    let xs = c.before.before.before.args.xs.now in
-    λ other. back' (get_or xs c.before.before.loop.best (pos 0)) c.result.given ∙ sym (least-end xs c.before.before.loop.i (get_or xs c.before.before.loop.best (pos 0)) (omega arith)) ∙ c.before.before.loop.invariant.2 ∙ sym (least_start other xs c.before.before.before.requires)
+    let xs = c.args.xs.now in
+    λ other. back' (get_or xs c.loop-i.best (pos 0)) c.result-1.given ∙ sym (least-end xs c.loop-i.i (get_or xs c.loop-i.best (pos 0)) (omega arith)) ∙ c.loop-i.invariant.2 ∙ sym (least_start other xs c.requires)
 
-pub least-spec : {M : Type 1} → statement M
-least-spec =
+pub least_spec : {M : Type 1} → statement M
+least_spec =
     tie.close
     (tie.spec invariant-loop decreases-loop loop-holds (λ c. search rules) (λ c. search rules) (λ c. search rules) (λ c. search rules)
     (λ c. search rules) (λ c. search rules) loop-again (λ c. search rules) (λ c. search rules) returns)

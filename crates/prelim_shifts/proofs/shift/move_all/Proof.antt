@@ -18,39 +18,39 @@ use Rattle.prelim_shifts.proofs.shift.move_all.Lts as lts
 use Rattle.ints.proofs.sum.Reads as sum-reads
 use Rattle.ints.proofs.wide.Reads as wide-reads
 
-abbrev invariant-loop : tie.invariant-loop
+abbrev invariant-loop : tie.invariant-loop-v
 invariant-loop d first link xs₀ v₀ xs v = (length xs ≡ length xs₀) × AheadSized v 134217728 xs × (moved_at (to_z w64 d) (chain link v) xs ≡ moved_at (to_z w64 d) (chain link first) xs₀)
 
-abbrev decreases-loop : tie.decreases-loop
+abbrev decreases-loop : tie.decreases-loop-v
 decreases-loop d first link xs₀ v₀ xs v = length link - v
 
-loop-holds : tie.Need-loop-init invariant-loop decreases-loop
-loop-holds c = (refl, record { each = λ w h. c.before.requires.2.each w }, refl)
+loop-holds : tie.Need-loop-v-init invariant-loop decreases-loop
+loop-holds c = (refl, record { each = λ w h. c.requires.2.each w }, refl)
 
-sum-requires : tie.Need-sum-requires invariant-loop decreases-loop
-sum-requires c κs = simp (back c.before.before.before.before.ranges.d, back' (get_or c.before.before.loop.xs c.before.before.loop.v (pos 0)) c.sum-arg.given) (omega (arith, c.before.before.loop.invariant.1.each c.before.before.loop.v (omega arith), c.before.before.before.before.requires.3))
+sum-requires : tie.Need-sum-x-requires invariant-loop decreases-loop
+sum-requires c κs = simp (back c.ranges.d, back' (get_or c.loop-v.xs c.loop-v.v (pos 0)) c.sum-arg-1.given) (omega (arith, c.loop-v.invariant.1.each c.loop-v.v (omega arith), c.requires.3))
 
-loop-less : tie.Need-loop-smaller invariant-loop decreases-loop
-loop-less c = let r = c.before.before.before.before.before.before.before.requires.0.rises c.before.before.before.before.before.loop.v (omega arith) (omega arith) in omega (arith, c.wide.ensures)
+loop-less : tie.Need-loop-v-smaller invariant-loop decreases-loop
+loop-less c = let r = c.requires.0.rises c.loop-v.v (omega arith) (omega arith) in omega (arith, c.wide-v.ensures)
 
-loop-again : tie.Need-loop-preserved invariant-loop decreases-loop
+loop-again : tie.Need-loop-v-preserved invariant-loop decreases-loop
 loop-again c =
-    let a = c.before.before.before.before.before.before.before.args in
-    let l = c.before.before.before.before.before.loop in
-    let r = c.before.before.before.before.before.before.before.requires.0.rises l.v (omega arith) (omega arith) in
+    let a = c.args in
+    let l = c.loop-v in
+    let r = c.requires.0.rises l.v (omega arith) (omega arith) in
     let z = to_z w64 (of_z w64 a.d) in
-    let s : to_z w64 (of_z w64 c.before.before.sum.result) ≡ get_or l.xs l.v (pos 0) +ℤ z = back' c.before.before.sum.result c.before.before.sum.type-inv ∙ rw (back' (get_or l.xs l.v (pos 0)) c.before.before.before.sum-arg.given) at c.before.before.sum.ensures in
-    rw (s, c.wide.ensures) (
+    let s : to_z w64 (of_z w64 c.sum-x.result) ≡ get_or l.xs l.v (pos 0) +ℤ z = back' c.sum-x.result c.sum-x.type_inv ∙ rw (back' (get_or l.xs l.v (pos 0)) c.sum-arg-1.given) at c.sum-x.ensures in
+    rw (s, c.wide-v.ensures) (
       length-set l.xs l.v (get_or l.xs l.v (pos 0) +ℤ z) ∙ l.invariant.0,
       ahead-set l.v (get_or a.link.now l.v 0) 134217728 (get_or l.xs l.v (pos 0) +ℤ z) l.xs r l.invariant.1,
-      sym (moved_on a.link.now c.before.before.before.before.before.before.before.requires.0 z l.v l.xs (omega arith)) ∙ l.invariant.2,
+      sym (moved_on a.link.now c.requires.0 z l.v l.xs (omega arith)) ∙ l.invariant.2,
     )
 
 returns : tie.Need-returns invariant-loop decreases-loop
-returns c = let a = c.before.before.before.args in let e = back c.before.before.before.ranges.d in let l = c.before.loop in rw e at (sym (moved-end a.link.now c.before.before.before.requires.0 (to_z w64 (of_z w64 a.d)) l.v l.xs (omega arith)) ∙ l.invariant.2)
+returns c = let a = c.args in let e = back c.ranges.d in let l = c.loop-v in rw e at (sym (moved-end a.link.now c.requires.0 (to_z w64 (of_z w64 a.d)) l.v l.xs (omega arith)) ∙ l.invariant.2)
 
-pub move-all-spec : {M : Type 1} → statement M
-move-all-spec =
+pub move_all_spec : {M : Type 1} → statement M
+move_all_spec =
     tie.close
     (tie.spec invariant-loop decreases-loop loop-holds (λ c. search rules) (λ c. search rules) sum-requires (λ c. search rules)
     (λ c. search rules) (λ c. search rules) (λ c. search rules) (λ c κs. search rules) loop-less loop-again (λ c. search rules)

@@ -22,47 +22,46 @@ b-x c = back c.ranges.x
 
 ruleset backs = (b-p, b-x)
 
-put-word-requires : tie.Need-put-word-requires
+put-word-requires : tie.Need-put_word-number-requires
 unfolding at_line
-put-word-requires c κs = let a = c.before.before.before.args in
-    room_after (bytes "(at ") (at_line a.n a.p a.x a.y) (wrote_none a.out.now a.at) c.before.before.before.requires.2 (simp length-append (omega arith))
+put-word-requires c κs = let a = c.args in
+    room_after (bytes "(at ") (at_line a.n a.p a.x a.y) (wrote_none a.out.now a.at) c.requires.2 (simp length-append (omega arith))
 
-put-then-requires : tie.Need-put-then-requires
+put-then-requires : tie.Need-put_then-before-requires
 unfolding at_line
-put-then-requires c κs = let a = c.before.before.before.before.before.before.before.before.args in
-    room_after (decimal a.n ++ bytes " ") (at_line a.n a.p a.x a.y) c.before.before.before.before.put_word.ensures c.before.before.before.before.before.before.before.before.requires.2 (simp length-append (omega arith))
+put-then-requires c κs = let a = c.args in
+    room_after (decimal a.n ++ bytes " ") (at_line a.n a.p a.x a.y) c.put_word-number.ensures c.requires.2 (simp length-append (omega arith))
 
-put-position-requires : tie.Need-put-position-requires
+put-position-requires : tie.Need-put_position-after-requires
 unfolding at_line
 put-position-requires c κs =
-    let s = c.before.before.before.before.before.before.before.before.before.before.before.before.before in
+    let s = c in
     let a = s.args in
-    let h = and_then c.before.before.before.before.before.before.before.before.before.put_word.ensures c.before.before.before.before.put_then.ensures in
+    let h = and_then c.put_word-number.ensures c.put_then-before.ensures in
     simp backs
     (omega (arith, s.requires.0, s.requires.1), room_after (signed a.p ++ bytes " ") (at_line a.n a.p a.x a.y) h s.requires.2 (simp length-append (omega arith)))
 
-put-position-requires-2 : tie.Need-put-position-requires-2
+put-position-requires-2 : tie.Need-put_position-height-requires
 unfolding at_line
-put-position-requires-2 c κs = let a = c.before.before.before.before.before.before.before.before.before.before.before.before.before.before.before.before.before.before.args in
-    let h = and_then (and_then c.before.before.before.before.before.before.before.before.before.before.before.before.before.before.put_word.ensures c.before.before.before.before.before.before.before.before.before.put_then.ensures) (simp backs at c.before.before.before.before.put-position.ensures) in
-    simp backs (c.before.before.before.before.before.before.before.before.before.before.before.before.before.before.before.before.before.before.requires.1, room_after (signed a.x ++ bytes " ") (at_line a.n a.p a.x a.y) h c.before.before.before.before.before.before.before.before.before.before.before.before.before.before.before.before.before.before.requires.2 (simp length-append (omega arith)))
+put-position-requires-2 c κs = let a = c.args in
+    let h = and_then (and_then c.put_word-number.ensures c.put_then-before.ensures) (simp backs at c.put_position-after.ensures) in
+    simp backs (c.requires.1, room_after (signed a.x ++ bytes " ") (at_line a.n a.p a.x a.y) h c.requires.2 (simp length-append (omega arith)))
 
-put-then-requires-2 : tie.Need-put-then-requires-2
+put-then-requires-2 : tie.Need-put_then-requires
 unfolding at_line
-put-then-requires-2 c κs = let a = c.before.before.before.before.before.before.before.before.before.before.before.before.before.before.before.before.before.before.before.before.before.before.before.args in
-    let h = and_then (and_then (and_then c.before.before.before.before.before.before.before.before.before.before.before.before.before.before.before.before.before.before.before.put_word.ensures c.before.before.before.before.before.before.before.before.before.before.before.before.before.before.put_then.ensures) (simp backs at c.before.before.before.before.before.before.before.before.before.put-position.ensures)) (simp backs at c.before.before.before.before.put-position2.ensures) in
-    room_after (decimal a.y ++ bytes ")\n") (at_line a.n a.p a.x a.y) h c.before.before.before.before.before.before.before.before.before.before.before.before.before.before.before.before.before.before.before.before.before.before.before.requires.2 (simp length-append (omega arith))
+put-then-requires-2 c κs = let a = c.args in
+    let h = and_then (and_then (and_then c.put_word-number.ensures c.put_then-before.ensures) (simp backs at c.put_position-after.ensures)) (simp backs at c.put_position-height.ensures) in
+    room_after (decimal a.y ++ bytes ")\n") (at_line a.n a.p a.x a.y) h c.requires.2 (simp length-append (omega arith))
 
 returns : tie.Need-returns
 unfolding at_line
-returns c = let a = c.before.before.before.before.before.before.before.before.before.before.before.before.before.before.before.before.before.before.before.before.before.before.before.before.before.before.args in
-    let number = and_both (decimal a.n) (bytes " ") c.before.before.before.before.before.before.before.before.before.before.before.before.before.before.before.before.before.before.before.before.before.before.put_word.ensures c.before.before.before.before.before.before.before.before.before.before.before.before.before.before.before.before.before.put_then.ensures in
-    let before = and_both (signed a.p) (bytes " ") number (simp backs at c.before.before.before.before.before.before.before.before.before.before.before.before.put-position.ensures) in
-    let after = and_both (signed a.x) (bytes " ") before (simp backs at c.before.before.before.before.before.before.before.put-position2.ensures) in
-    and_both (decimal a.y) (bytes ")\n") after c.before.before.put-then2.ensures
+returns c = let a = c.args in
+    let number = and_both (decimal a.n) (bytes " ") c.put_word-number.ensures c.put_then-before.ensures in
+    let before = and_both (signed a.p) (bytes " ") number (simp backs at c.put_position-after.ensures) in
+    let after = and_both (signed a.x) (bytes " ") before (simp backs at c.put_position-height.ensures) in
+    and_both (decimal a.y) (bytes ")\n") after c.put_then.ensures
 
-pub put-at-spec : {M : Type 1} → statement M
-put-at-spec =
+pub put_at_spec : {M : Type 1} → statement M
+put_at_spec =
     tie.close
-    (tie.spec (λ c. refl) put-word-requires (λ c. refl) put-then-requires (λ c. refl) put-position-requires (λ c. refl)
-    put-position-requires-2 (λ c. refl) put-then-requires-2 (λ c. search rules) returns)
+    (tie.spec put-word-requires put-then-requires put-position-requires put-position-requires-2 put-then-requires-2 (λ c. search rules) returns)

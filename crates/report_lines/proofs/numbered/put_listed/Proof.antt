@@ -8,17 +8,17 @@ use Rattle.report_lines.proofs.numbered.put_listed.Statement.{statement}
 use Rattle.report_lines.proofs.numbered.put_listed.Tie as tie
 
 -- the part lent is as long as the count says
-part : (c : tie.After-wide) → c.before.before.before.before.before.before.before.args.start + c.wide.result - c.before.before.before.before.before.before.before.args.start ≡ get_or c.before.before.before.before.before.before.before.args.counts.now c.before.before.before.before.before.before.before.args.k 0
+part : (c : tie.After-wide) → c.args.start + c.wide.result - c.args.start ≡ get_or c.args.counts.now c.args.k 0
 part c = omega arith
 
-put-placing-requires : tie.Need-put-placing-requires
-put-placing-requires c κs = rw (part c.before.before.before.before.before) (simp (length-take, length-drop) (omega (arith, c.before.before.before.before.before.before.before.before.before.before.before.before.requires.of_vertices, c.before.before.before.before.before.before.before.before.before.before.before.before.requires.of_positions)), c.before.before.before.before.before.before.before.before.before.before.before.before.requires.within, c.before.before.before.before.before.before.before.before.before.before.before.before.requires.room)
+put-placing-requires : tie.Need-put_placing-requires
+put-placing-requires c κs = rw (part c.before.before.before.before.before) (simp (length-take, length-drop) (omega (arith, c.requires.of_vertices, c.requires.of_positions)), c.requires.within, c.requires.room)
 
 returns : tie.Need-returns
-returns c = rw (part c.before.before.before.before.before.before.before.before) at c.before.before.put-placing.ensures
+returns c = rw (part c.before.before.before.before.before.before.before.before) at c.put_placing.ensures
 
-pub put-listed-spec : {M : Type 1} → statement M
-put-listed-spec =
+pub put_listed_spec : {M : Type 1} → statement M
+put_listed_spec =
     tie.close
     (tie.spec (λ c. search rules) (λ c. search rules) (λ c κs. search rules) (λ c. search rules) (λ c. search rules)
     (λ c. search rules) (λ c. search rules) (λ c. search rules) (λ c. search rules) (λ c. search rules) (λ c. search rules)

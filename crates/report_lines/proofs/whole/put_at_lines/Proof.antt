@@ -9,36 +9,36 @@ use Rattle.report_lines.proofs.whole.put_at_lines.Statement.{statement}
 use Rattle.report_lines.proofs.whole.put_at_lines.Tie as tie
 
 -- what `heights` wrote is as long as the vertices
-long : (c : tie.After-heights) → length c.heights.new.1.1.0 ≡ length c.before.before.before.before.args.preliminary.now
-long c = c.heights.auto.1.1.0 ∙ length-take-le _ _ c.before.before.before.before.requires.lists.in_limit
+long : (c : tie.After-heights) → length c.heights.new.out ≡ length c.args.preliminary.now
+long c = c.heights.auto.out ∙ length-take-le _ _ c.requires.lists.in_limit
 
-array-borrow-prefix-height : tie.Need-array-borrow-prefix-height
-array-borrow-prefix-height c = c.before.before.requires.lists.in_limit
+array-borrow-prefix-height : tie.Need-slice_bounds-height-end
+array-borrow-prefix-height c = c.requires.lists.in_limit
 
-slice-aggregate-heights : tie.Need-slice-aggregate-heights
-slice-aggregate-heights c = sym (length-take-le _ _ c.before.before.before.requires.lists.in_limit)
+slice-aggregate-heights : tie.Need-slice_bounds-heights-end
+slice-aggregate-heights c = sym (length-take-le _ _ c.requires.lists.in_limit)
 
 heights-requires : tie.Need-heights-requires
-heights-requires c κs = let a = c.before.before.before.requires.lists in (a.few, rw (length-take-le _ _ a.in_limit) a.in_limit)
+heights-requires c κs = let a = c.requires.lists in (a.few, rw (length-take-le _ _ a.in_limit) a.in_limit)
 
-array-share-prefix-height : tie.Need-array-share-prefix-height
+array-share-prefix-height : tie.Need-slice_bounds-height-end-2
 array-share-prefix-height c = rw length-append (omega (arith, long c.before.before))
 
-slice-aggregate-put-vertices : tie.Need-slice-aggregate-put-vertices
+slice-aggregate-put-vertices : tie.Need-slice_bounds-put_vertices-end
 slice-aggregate-put-vertices c = rw (take_at _ _ _ (long c.before.before.before)) (sym (long c.before.before.before))
 
-put-vertices-requires : tie.Need-put-vertices-requires
+put-vertices-requires : tie.Need-put_vertices-requires
 put-vertices-requires c κs =
     let l = c.before.before.before in
-    rw (take_at _ _ _ (long l)) (vertices-room l.before.before.before.before.requires l.heights.new.1.1.0 (long l) l.heights.ensures)
+    rw (take_at _ _ _ (long l)) (vertices-room l.requires l.heights.new.out (long l) l.heights.ensures)
 
 returns : tie.Need-returns
 returns c =
     let l = c.before.before.before.before.before.before in
-    rw (lines_same l.before.before.before.before.requires l.heights.new.1.1.0 (long l) l.heights.ensures) at (rw (take_at _ _ _ (long l)) at c.before.before.put-vertices.ensures)
+    rw (lines_same l.requires l.heights.new.out (long l) l.heights.ensures) at (rw (take_at _ _ _ (long l)) at c.put_vertices.ensures)
 
-pub put-at-lines-spec : {M : Type 1} → statement M
-put-at-lines-spec =
+pub put_at_lines_spec : {M : Type 1} → statement M
+put_at_lines_spec =
     tie.close
     (tie.spec array-borrow-prefix-height slice-aggregate-heights heights-requires array-share-prefix-height
     slice-aggregate-put-vertices put-vertices-requires (λ c. search rules) returns)

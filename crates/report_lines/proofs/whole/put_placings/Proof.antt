@@ -13,34 +13,34 @@ use borrow.Author.Rules.{rules}
 use Rattle.report_lines.proofs.whole.put_placings.Statement.{statement}
 use Rattle.report_lines.proofs.whole.put_placings.Tie as tie
 
-abbrev invariant-loop : tie.invariant-loop
+abbrev invariant-loop : tie.invariant-loop-k
 invariant-loop out₀ from passes levels counts vertices positions at₀ start₀ k₀ out at start k = (k ≤ length passes) × (length out ≡ length out₀) × (start + sum (drop k counts) ≡ sum counts)
     × Partly (place_lines (placings_from passes levels counts vertices positions)) (left_from passes levels counts vertices positions k start) out₀ from at out
 
-abbrev decreases-loop : tie.decreases-loop
+abbrev decreases-loop : tie.decreases-loop-k
 decreases-loop out₀ from passes levels counts vertices positions at₀ start₀ k₀ out at start k = length passes - k
 
-loop-holds : tie.Need-loop-init invariant-loop decreases-loop
-loop-holds c = let a = c.before.before.before.before.before.args in (omega arith, refl, omega arith, nothing_yet (place_lines (placings_from a.passes.now a.levels.now a.counts.now a.vertices.now a.positions.now)) a.out.now a.from)
+loop-holds : tie.Need-loop-k-init invariant-loop decreases-loop
+loop-holds c = let a = c.args in (omega arith, refl, omega arith, nothing_yet (place_lines (placings_from a.passes.now a.levels.now a.counts.now a.vertices.now a.positions.now)) a.out.now a.from)
 
-put-listed-requires : tie.Need-put-listed-requires invariant-loop decreases-loop
-put-listed-requires c κs = placing-room c.before.before.before.before.before.before.before.before.requires c.before.before.loop.k c.before.before.loop.start c.before.loop-test.true c.before.before.loop.invariant.2 c.before.before.loop.invariant.3
+put-listed-requires : tie.Need-put_listed-at-requires invariant-loop decreases-loop
+put-listed-requires c κs = placing-room c.requires c.loop-k.k c.loop-k.start c.loop-k-test.true c.loop-k.invariant.2 c.loop-k.invariant.3
 
-shared-slice-read-wide : tie.Need-shared-slice-read-wide invariant-loop decreases-loop
-shared-slice-read-wide c = omega (arith, c.before.before.before.before.before.before.before.before.before.before.before.before.requires.of_counts, c.before.before.before.before.before.loop-test.true)
+shared-slice-read-wide : tie.Need-bounds-counts-k invariant-loop decreases-loop
+shared-slice-read-wide c = omega (arith, c.requires.of_counts, c.loop-k-test.true)
 
-add_start : tie.Need-overflow-add-start invariant-loop decreases-loop
-add_start c = omega (arith, boxes-inside c.before.before.before.before.before.before.before.before.before.before.before.before.before.requires c.before.before.before.before.before.before.before.loop.k c.before.before.before.before.before.before.before.loop.start c.before.before.before.before.before.before.loop-test.true c.before.before.before.before.before.before.before.loop.invariant.2 c.before.before.before.before.before.before.before.loop.invariant.3, c.before.before.before.before.before.before.before.before.before.before.before.before.before.requires.of_vertices)
+add_start : tie.Need-overflow_add-start invariant-loop decreases-loop
+add_start c = omega (arith, boxes-inside c.requires c.loop-k.k c.loop-k.start c.loop-k-test.true c.loop-k.invariant.2 c.loop-k.invariant.3, c.requires.of_vertices)
 
-loop-again : tie.Need-loop-preserved invariant-loop decreases-loop
-loop-again c = let h = placing-written c.before.before.before.before.before.before.before.before.before.before.before.before.before.requires c.before.before.before.before.before.before.before.loop.k c.before.before.before.before.before.before.before.loop.start c.before.before.before.before.before.before.loop-test.true c.before.before.before.before.before.before.before.loop.invariant.2 c.before.before.before.before.before.before.before.loop.invariant.3 c.before.before.before.before.put-listed.ensures in
-    rw c.wide.ensures (omega arith, c.before.before.before.before.put-listed.auto.0 ∙ c.before.before.before.before.before.before.before.loop.invariant.1, boxes-inside c.before.before.before.before.before.before.before.before.before.before.before.before.before.requires c.before.before.before.before.before.before.before.loop.k c.before.before.before.before.before.before.before.loop.start c.before.before.before.before.before.before.loop-test.true c.before.before.before.before.before.before.before.loop.invariant.2 c.before.before.before.before.before.before.before.loop.invariant.3, h)
+loop-again : tie.Need-loop-k-preserved invariant-loop decreases-loop
+loop-again c = let h = placing-written c.requires c.loop-k.k c.loop-k.start c.loop-k-test.true c.loop-k.invariant.2 c.loop-k.invariant.3 c.put_listed-at.ensures in
+    rw c.wide-start.ensures (omega arith, c.put_listed-at.auto.out ∙ c.loop-k.invariant.1, boxes-inside c.requires c.loop-k.k c.loop-k.start c.loop-k-test.true c.loop-k.invariant.2 c.loop-k.invariant.3, h)
 
 returns : tie.Need-returns invariant-loop decreases-loop
-returns c = let a = c.before.before.before.before.before.before.before.args in all-written (no-placing a.passes.now a.levels.now a.counts.now a.vertices.now a.positions.now c.before.loop.k c.before.loop.start c.loop-test.false) c.before.loop.invariant.3
+returns c = let a = c.args in all-written (no-placing a.passes.now a.levels.now a.counts.now a.vertices.now a.positions.now c.loop-k.k c.loop-k.start c.loop-k-test.false) c.loop-k.invariant.3
 
-pub put-placings-spec : {M : Type 1} → statement M
-put-placings-spec =
+pub put_placings_spec : {M : Type 1} → statement M
+put_placings_spec =
     tie.close
     (tie.spec invariant-loop decreases-loop loop-holds put-listed-requires (λ c. search rules) shared-slice-read-wide (λ c κs. search rules)
     add_start (λ c. search rules) (λ c. search rules) loop-again (λ c. search rules) returns)

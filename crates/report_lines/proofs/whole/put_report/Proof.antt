@@ -5,23 +5,22 @@ use borrow.Author.Rules.{rules}
 use Rattle.report_lines.proofs.whole.put_report.Statement.{statement}
 use Rattle.report_lines.proofs.whole.put_report.Tie as tie
 
-put-drawing-requires : tie.Need-put-drawing-requires
-put-drawing-requires c κs = drawing-room c.before.before.before.before.before.before.before.requires
+put-drawing-requires : tie.Need-put_drawing-at_lines-requires
+put-drawing-requires c κs = drawing-room c.requires
 
-put-at-lines-requires : tie.Need-put-at-lines-requires
-put-at-lines-requires c κs = at_room c.before.before.before.before.before.before.before.before.before.before.before.requires c.before.before.before.put-drawing.ensures
+put-at-lines-requires : tie.Need-put_at_lines-place_lines-requires
+put-at-lines-requires c κs = at_room c.requires c.put_drawing-at_lines.ensures
 
-put-placings-requires : tie.Need-put-placings-requires
-put-placings-requires c κs = place-room c.before.before.before.before.before.before.before.before.before.before.before.before.before.before.before.requires c.before.before.before.before.before.before.before.put-drawing.ensures c.before.before.before.put-at-lines.ensures
+put-placings-requires : tie.Need-put_placings-end-requires
+put-placings-requires c κs = place-room c.requires c.put_drawing-at_lines.ensures c.put_at_lines-place_lines.ensures
 
-put-word-requires : tie.Need-put-word-requires
-put-word-requires c κs = end-room c.before.before.before.before.before.before.before.before.before.before.before.before.before.before.before.before.before.before.before.before.requires c.before.before.before.before.before.before.before.before.before.before.before.before.put-drawing.ensures c.before.before.before.before.before.before.before.before.put-at-lines.ensures c.before.before.before.before.put-placings.ensures
+put-word-requires : tie.Need-put_word-requires
+put-word-requires c κs = end-room c.requires c.put_drawing-at_lines.ensures c.put_at_lines-place_lines.ensures c.put_placings-end.ensures
 
 returns : tie.Need-returns
-returns c = report-fronts c.before.before.before.before.before.before.before.before.before.before.before.before.before.before.before.before.before.before.before.before.before.before.before.requires c.before.before.before.before.before.before.before.before.before.before.before.before.before.before.before.put-drawing.ensures c.before.before.before.before.before.before.before.before.before.before.before.put-at-lines.ensures c.before.before.before.before.before.before.before.put-placings.ensures c.before.before.put_word.ensures
+returns c = report-fronts c.requires c.put_drawing-at_lines.ensures c.put_at_lines-place_lines.ensures c.put_placings-end.ensures c.put_word.ensures
 
-pub put-report-spec : {M : Type 1} → statement M
-put-report-spec =
+pub put_report_spec : {M : Type 1} → statement M
+put_report_spec =
     tie.close
-    (tie.spec put-drawing-requires put-at-lines-requires put-placings-requires (λ c. refl) put-word-requires (λ c. search rules)
-    returns)
+    (tie.spec put-drawing-requires put-at-lines-requires put-placings-requires put-word-requires (λ c. search rules) returns)

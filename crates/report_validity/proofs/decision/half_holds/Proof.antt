@@ -3,12 +3,12 @@ use borrow.Author.Rules.{rules}
 use Rattle.report_validity.proofs.decision.half_holds.Statement.{statement}
 use Rattle.report_validity.proofs.decision.half_holds.Tie as tie
 
-returns : tie.Need-returns
-returns c = rw c.if1.true
+returns : tie.Need-returns-then-via
+returns c = rw c.if-via.true
 
-returns-2 : tie.Need-returns-2
-returns-2 c = rw c.before.if1.false c.half-width-fits.ensures
+returns-2 : tie.Need-returns-else-via
+returns-2 c = rw c.if-via.false c.half_width_fits.ensures
 
-pub half-holds-spec : {M : Type 1} → statement M
-half-holds-spec = tie.close
+pub half_holds_spec : {M : Type 1} → statement M
+half_holds_spec = tie.close
     (tie.spec (λ c κs. search rules) returns returns-2)

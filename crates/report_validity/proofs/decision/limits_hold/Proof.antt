@@ -9,49 +9,49 @@ use borrow.Author.Rules.{rules}
 use Rattle.report_validity.proofs.decision.limits_hold.Statement.{statement}
 use Rattle.report_validity.proofs.decision.limits_hold.Tie as tie
 
-returns : tie.Need-returns
-returns c = sym (limits-not _ (λ l. never (sym (not-true _ c.if1.true) ∙ c.before.numbers_fit.ensures ∙ (l.levels and l.gap and l.spacing))))
+returns : tie.Need-returns-then-not-numbers_fit
+returns c = sym (limits-not _ (λ l. never (sym (not-true _ c.if-not-numbers_fit.true-raw) ∙ c.numbers_fit.ensures ∙ (l.levels and l.gap and l.spacing))))
 
-returns-2 : tie.Need-returns-2
-returns-2 c = sym (limits-not _ (λ l. c.if2.true (l.counted ∙ sym c.before.wide.ensures)))
+returns-2 : tie.Need-returns-then-sizes-wide
+returns-2 c = sym (limits-not _ (λ l. c.if-sizes-wide.true (l.counted ∙ sym c.wide.ensures)))
 
-returns-3 : tie.Need-returns-3
-returns-3 c = sym (limits-not _ (λ l. never (sym (not-true _ c.if3.true) ∙ c.before.sizes-hold.ensures ∙ l.sizes)))
+returns-3 : tie.Need-returns-then-not-sizes_hold
+returns-3 c = sym (limits-not _ (λ l. never (sym (not-true _ c.if-not-sizes_hold.true-raw) ∙ c.sizes_hold.ensures ∙ l.sizes)))
 
 total-requires : tie.Need-total-requires
-total-requires c κs = let a = c.before.before.before.before.before.before.before.before.before.before.before.before.args in omega (arith, few_levels a.levels a.gap a.spacing (sym c.before.before.before.before.before.numbers_fit.ensures ∙ not-false _ c.before.before.before.before.if1.false), c.before.before.if2.false, c.before.before.before.wide.ensures)
+total-requires c κs = let a = c.args in omega (arith, few_levels a.levels a.gap a.spacing (sym c.numbers_fit.ensures ∙ not-false _ c.if-not-numbers_fit.false-raw), c.if-sizes-wide.false, c.wide.ensures)
 
-returns-4 : tie.Need-returns-4
-returns-4 c = sym (limits-not _ (λ l. c.if4.true (c.before.total.ensures ∙ l.summed)))
+returns-4 : tie.Need-returns-then-total-vias
+returns-4 c = sym (limits-not _ (λ l. c.if-total-vias.true (c.total.ensures ∙ l.summed)))
 
-returns-5 : tie.Need-returns-5
-returns-5 c = sym (limits-not _ (λ l. never (sym (not-true _ c.if5.true) ∙ c.before.halves-hold.ensures ∙ l.halves)))
+returns-5 : tie.Need-returns-then-not-halves_hold
+returns-5 c = sym (limits-not _ (λ l. never (sym (not-true _ c.if-not-halves_hold.true-raw) ∙ c.halves_hold.ensures ∙ l.halves)))
 
-returns-6 : tie.Need-returns-6
-returns-6 c = sym (limits-not _ (λ l. c.if6.true l.ends))
+returns-6 : tie.Need-returns-then-lowers-uppers
+returns-6 c = sym (limits-not _ (λ l. c.if-lowers-uppers.true l.ends))
 
-returns-7 : tie.Need-returns-7
-returns-7 c = sym (limits-not _ (λ l. c.if7.true l.rated))
+returns-7 : tie.Need-returns-then-ratings-uppers
+returns-7 c = sym (limits-not _ (λ l. c.if-ratings-uppers.true l.rated))
 
-returns-8 : tie.Need-returns-8
-returns-8 c = sym (limits-not _ (λ l. never (sym (not-true _ c.if8.true) ∙ c.before.ratings-hold.ensures ∙ l.ratings)))
+returns-8 : tie.Need-returns-then-not-ratings_hold
+returns-8 c = sym (limits-not _ (λ l. never (sym (not-true _ c.if-not-ratings_hold.true-raw) ∙ c.ratings_hold.ensures ∙ l.ratings)))
 
-returns-9 : tie.Need-returns-9
+returns-9 : tie.Need-returns-then-vias-le-MAX_VERTICES
 returns-9 c =
-    let c4 = c.before.before.before.before in
-    let c7 = c4.before.before.before in
-    let c10 = c7.before.before.before in
-    let c13 = c10.before.before.before in
-    limits-last _ (sym c13.before.numbers_fit.ensures ∙ not-false _ c13.if1.false)
-    (c10.before.if2.false ∙ c10.before.before.wide.ensures) (sym c10.sizes-hold.ensures ∙ not-false _ c7.before.before.if3.false)
-    (sym c7.before.total.ensures ∙ c7.if4.false) (sym c4.before.before.halves-hold.ensures ∙ not-false _ c4.before.if5.false)
-    c4.if6.false c.before.before.before.if7.false (sym c.before.before.ratings-hold.ensures ∙ not-false _ c.before.if8.false) c.if9.true
+    let c4 = c in
+    let c7 = c4 in
+    let c10 = c7 in
+    let c13 = c10 in
+    limits-last _ (sym c13.numbers_fit.ensures ∙ not-false _ c13.if-not-numbers_fit.false-raw)
+    (c10.if-sizes-wide.false ∙ c10.wide.ensures) (sym c10.sizes_hold.ensures ∙ not-false _ c7.if-not-sizes_hold.false-raw)
+    (sym c7.total.ensures ∙ c7.if-total-vias.false) (sym c4.halves_hold.ensures ∙ not-false _ c4.if-not-halves_hold.false-raw)
+    c4.if-lowers-uppers.false c.if-ratings-uppers.false (sym c.ratings_hold.ensures ∙ not-false _ c.if-not-ratings_hold.false-raw) c.if-vias-le-MAX_VERTICES.true
 
-returns-10 : tie.Need-returns-10
-returns-10 c = limits-many _ c.if9.false
+returns-10 : tie.Need-returns-else-vias-le-MAX_VERTICES
+returns-10 c = limits-many _ c.if-vias-le-MAX_VERTICES.false
 
-pub limits-hold-spec : {M : Type 1} → statement M
-limits-hold-spec =
+pub limits_hold_spec : {M : Type 1} → statement M
+limits_hold_spec =
     tie.close
     (tie.spec (λ c κs. search rules) returns (λ c κs. search rules) returns-2 (λ c κs. search rules) returns-3 total-requires
     returns-4 (λ c κs. search rules) returns-5 returns-6 returns-7 (λ c κs. search rules) returns-8 returns-9 returns-10)

@@ -10,26 +10,26 @@ use borrow.Author.Rules.{rules}
 use Rattle.report_validity.proofs.decision.ratings_hold.Statement.{statement}
 use Rattle.report_validity.proofs.decision.ratings_hold.Tie as tie
 
-abbrev invariant-loop : tie.invariant-loop
+abbrev invariant-loop : tie.invariant-loop-i
 invariant-loop ratings i₀ i = (i ≤ length ratings) × (all_ratings (drop i ratings) ≡ all_ratings ratings)
 
-abbrev decreases-loop : tie.decreases-loop
+abbrev decreases-loop : tie.decreases-loop-i
 decreases-loop ratings i₀ i = length ratings - i
 
-loop-holds : tie.Need-loop-init invariant-loop decreases-loop
+loop-holds : tie.Need-loop-i-init invariant-loop decreases-loop
 loop-holds c = (omega arith, refl)
 
-returns : tie.Need-returns invariant-loop decreases-loop
-returns c = sym (ratings-stop c.before.before.before.before.before.before.args.ratings.now c.before.before.before.before.loop.i c.before.before.before.loop-test.true (sym c.before.rating-fits.ensures ∙ not-true _ c.if1.true)) ∙ c.before.before.before.before.loop.invariant.1
+returns : tie.Need-returns-then-not-rating_fits invariant-loop decreases-loop
+returns c = sym (ratings-stop c.args.ratings.now c.loop-i.i c.loop-i-test.true (sym c.rating_fits.ensures ∙ not-true _ c.if-not-rating_fits.true-raw)) ∙ c.loop-i.invariant.1
 
-loop-again : tie.Need-loop-preserved invariant-loop decreases-loop
-loop-again c = (omega arith, sym (ratings-on c.before.before.before.before.before.before.args.ratings.now c.before.before.before.before.loop.i c.before.before.before.loop-test.true (sym c.before.rating-fits.ensures ∙ not-false _ c.if1.false)) ∙ c.before.before.before.before.loop.invariant.1)
+loop-again : tie.Need-loop-i-preserved invariant-loop decreases-loop
+loop-again c = (omega arith, sym (ratings-on c.args.ratings.now c.loop-i.i c.loop-i-test.true (sym c.rating_fits.ensures ∙ not-false _ c.if-not-rating_fits.false-raw)) ∙ c.loop-i.invariant.1)
 
-returns-2 : tie.Need-returns-2 invariant-loop decreases-loop
-returns-2 c = sym (ratings-end c.before.before.before.args.ratings.now c.before.loop.i (omega arith)) ∙ c.before.loop.invariant.1
+returns-2 : tie.Need-returns invariant-loop decreases-loop
+returns-2 c = sym (ratings-end c.args.ratings.now c.loop-i.i (omega arith)) ∙ c.loop-i.invariant.1
 
-pub ratings-hold-spec : {M : Type 1} → statement M
-ratings-hold-spec =
+pub ratings_hold_spec : {M : Type 1} → statement M
+ratings_hold_spec =
     tie.close
     (tie.spec invariant-loop decreases-loop loop-holds (λ c. search rules) (λ c. search rules) (λ c κs. search rules) returns
     (λ c. search rules) (λ c. omega arith) loop-again returns-2)

@@ -13,69 +13,69 @@ use borrow.Author.Rules.{rules}
 use Rattle.report_validity.proofs.runs.is_run.Statement.{statement}
 use Rattle.report_validity.proofs.runs.is_run.Tie as tie
 
-returns : tie.Need-returns
-returns c = let a = c.before.before.before.before.args in λ p o. sym (no-boxes o a.level a.boxes.now c.if1.true)
+returns : tie.Need-returns-then-boxes-eq0
+returns c = let a = c.args in λ p o. sym (no-boxes o a.level a.boxes.now c.if-boxes-eq0.true)
 
-returns-2 : tie.Need-returns-2
-returns-2 c = let a = c.before.before.before.before.before.args in λ p o. sym (no-level o a.level a.boxes.now c.if2.true)
+returns-2 : tie.Need-returns-then-level-eq0
+returns-2 c = let a = c.args in λ p o. sym (no-level o a.level a.boxes.now c.if-level-eq0.true)
 
-returns-3 : tie.Need-returns-3
-returns-3 c = let a = c.before.before.before.before.before.before.args in λ p o. sym (past-levels o a.level a.boxes.now c.if3.true)
+returns-3 : tie.Need-returns-then-sizes-level
+returns-3 c = let a = c.args in λ p o. sym (past-levels o a.level a.boxes.now c.if-sizes-level.true)
 
 -- the level lies within the vertices
-to-within : (c : tie.After-wide) → c.before.before.vertices-before.result + c.wide.result ≤ length c.before.before.before.before.before.before.before.before.before.args.vias.now
+to-within : (c : tie.After-wide) → c.vertices_before-start.result + c.wide.result ≤ length c.args.vias.now
 to-within c =
-    let s = c.before.before.before.before.before.before.before.before.before in
+    let s = c in
     let a = s.args in
     omega (
       arith,
-      c.before.before.vertices-before.ensures,
+      c.vertices_before-start.ensures,
       c.wide.ensures,
       sum-parts (a.level - 1) a.sizes.now,
       sum-on a.sizes.now (a.level - 1) (omega arith),
       s.requires.total,
     )
 
-add-to : tie.Need-overflow-add-to
-add-to c = omega (arith, to-within c, c.before.before.before.before.before.before.before.before.before.requires.few)
+add-to : tie.Need-overflow_add-to
+add-to c = omega (arith, to-within c, c.requires.few)
 
-is-whole-requires : tie.Need-is-whole-requires
+is-whole-requires : tie.Need-is_whole-requires
 is-whole-requires c κs = to-within c.before.before
 
-returns-4 : tie.Need-returns-4
+returns-4 : tie.Need-returns-then-not-is_whole
 returns-4 c =
-    let a = c.before.before.before.before.before.before.before.before.before.before.before.before.before.args in
-    let start = c.before.before.before.before.before.before.vertices-before in
-    let size = c.before.before.before.before.wide in
-    let first = c.before.before.wide2 in
+    let a = c.args in
+    let start = c.vertices_before-start in
+    let size = c.wide in
+    let first = c.wide-first in
     λ p o. sym (not-whole o a.level a.boxes.now start.result (start.result + size.result) first.result start.ensures (omega (arith, size.ensures)) first.ensures
-    (sym c.before.is_whole.ensures ∙ not-true _ c.if4.true))
+    (sym c.is_whole.ensures ∙ not-true _ c.if-not-is_whole.true-raw))
 
-is-stretch-requires : tie.Need-is-stretch-requires
+is-stretch-requires : tie.Need-is_stretch-requires
 is-stretch-requires c κs =
-    let s = c.before.before.before.before.before.before.before.before.before.before.before.before.before in
-    let start = c.before.before.before.before.before.before.vertices-before.result in
-    let size = c.before.before.before.before.wide.result in
-    let first = c.before.before.wide2.result in
+    let s = c in
+    let start = c.vertices_before-start.result in
+    let size = c.wide.result in
+    let first = c.wide-first.result in
     omega (
       arith,
-      whole-within s.args.vias.now start (start + size) first (length s.args.boxes.now) (sym c.before.is_whole.ensures ∙ not-false _ c.if4.false),
+      whole-within s.args.vias.now start (start + size) first (length s.args.boxes.now) (sym c.is_whole.ensures ∙ not-false _ c.if-not-is_whole.false-raw),
       to-within c.before.before.before.before,
       s.requires.few,
     )
 
-returns-5 : tie.Need-returns-5
+returns-5 : tie.Need-returns
 returns-5 c =
-    let a = c.before.before.before.before.before.before.before.before.before.before.before.before.before.before.args in
-    let start = c.before.before.before.before.before.before.before.vertices-before in
-    let size = c.before.before.before.before.before.wide in
-    let first = c.before.before.before.wide2 in
-    λ p o. c.is-stretch.ensures
+    let a = c.args in
+    let start = c.vertices_before-start in
+    let size = c.wide in
+    let first = c.wide-first in
+    λ p o. c.is_stretch.ensures
     ∙ whole_is o a.level a.boxes.now start.result (start.result + size.result) first.result start.ensures (omega (arith, size.ensures)) first.ensures
-    (omega arith) (omega arith) (omega arith) (sym c.before.before.is_whole.ensures ∙ not-false _ c.before.if4.false)
+    (omega arith) (omega arith) (omega arith) (sym c.is_whole.ensures ∙ not-false _ c.if-not-is_whole.false-raw)
 
-pub is-run-spec : {M : Type 1} → statement M
-is-run-spec =
+pub is_run_spec : {M : Type 1} → statement M
+is_run_spec =
     tie.close
     (tie.spec returns returns-2 returns-3 (λ c. search rules) (λ c κs. search rules) (λ c. search rules) (λ c. search rules)
     (λ c. search rules) (λ c κs. search rules) add-to (λ c. search rules) (λ c κs. search rules) is-whole-requires returns-4

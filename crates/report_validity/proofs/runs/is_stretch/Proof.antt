@@ -10,39 +10,39 @@ use borrow.Author.Rules.{rules}
 use Rattle.report_validity.proofs.runs.is_stretch.Statement.{statement}
 use Rattle.report_validity.proofs.runs.is_stretch.Tie as tie
 
-abbrev invariant-loop : tie.invariant-loop
+abbrev invariant-loop : tie.invariant-loop-i
 invariant-loop boxes first i₀ i = (i ≤ length boxes) × (same_numbers (drop i boxes) (numbers (first + i) (length boxes - i)) ≡ same_numbers boxes (numbers first (length boxes)))
 
-abbrev decreases-loop : tie.decreases-loop
+abbrev decreases-loop : tie.decreases-loop-i
 decreases-loop boxes first i₀ i = length boxes - i
 
-loop-holds : tie.Need-loop-init invariant-loop decreases-loop
+loop-holds : tie.Need-loop-i-init invariant-loop decreases-loop
 loop-holds c =
-    let a = c.before.args in
+    let a = c.args in
     let e : a.first + 0 ≡ a.first = omega arith in
     let n : length a.boxes.now - 0 ≡ length a.boxes.now = omega arith in
     (omega arith, rw (e, n))
 
-returns : tie.Need-returns invariant-loop decreases-loop
+returns : tie.Need-returns-then-wide-first invariant-loop decreases-loop
 returns c =
-    let a = c.before.before.before.before.before.before.args in
-    let l = c.before.before.before.before.loop in
-    sym (stretch-stop a.boxes.now a.first l.i (length a.boxes.now - l.i) (omega arith) (λ e. c.if1.true (c.before.wide.ensures ∙ e)) (omega arith)) ∙ l.invariant.1
+    let a = c.args in
+    let l = c.loop-i in
+    sym (stretch-stop a.boxes.now a.first l.i (length a.boxes.now - l.i) (omega arith) (λ e. c.if-wide-first.true (c.wide.ensures ∙ e)) (omega arith)) ∙ l.invariant.1
 
-loop-again : tie.Need-loop-preserved invariant-loop decreases-loop
+loop-again : tie.Need-loop-i-preserved invariant-loop decreases-loop
 loop-again c =
-    let a = c.before.before.before.before.before.before.args in
-    let l = c.before.before.before.before.loop in
-    (omega arith, sym (stretch-on a.boxes.now a.first l.i (length a.boxes.now - l.i) (omega arith) (sym c.before.wide.ensures ∙ c.if1.false) (omega arith)) ∙ l.invariant.1)
+    let a = c.args in
+    let l = c.loop-i in
+    (omega arith, sym (stretch-on a.boxes.now a.first l.i (length a.boxes.now - l.i) (omega arith) (sym c.wide.ensures ∙ c.if-wide-first.false) (omega arith)) ∙ l.invariant.1)
 
-returns-2 : tie.Need-returns-2 invariant-loop decreases-loop
+returns-2 : tie.Need-returns invariant-loop decreases-loop
 returns-2 c =
-    let a = c.before.before.before.args in
-    let l = c.before.loop in
+    let a = c.args in
+    let l = c.loop-i in
     sym (stretch-end a.boxes.now a.first l.i (length a.boxes.now - l.i) (omega arith) (omega arith)) ∙ l.invariant.1
 
-pub is-stretch-spec : {M : Type 1} → statement M
-is-stretch-spec =
+pub is_stretch_spec : {M : Type 1} → statement M
+is_stretch_spec =
     tie.close
     (tie.spec invariant-loop decreases-loop loop-holds (λ c. search rules) (λ c. search rules) (λ c κs. search rules) (λ c. search rules)
     returns (λ c. search rules) (λ c. search rules) loop-again returns-2)

@@ -4,12 +4,12 @@ use borrow.Author.Rules.{rules}
 use Rattle.report_validity.proofs.runs.starts_run.Statement.{statement}
 use Rattle.report_validity.proofs.runs.starts_run.Tie as tie
 
-returns : tie.Need-returns
-returns c = rw (eq-eqb _ _ c.if1.true)
+returns : tie.Need-returns-then-first-start
+returns c = rw (eq-eqb _ _ c.if-first-start.true)
 
-returns-2 : tie.Need-returns-2
-returns-2 c = rw (ne_eqb _ _ c.before.if1.false)
+returns-2 : tie.Need-returns
+returns-2 c = rw (ne_eqb _ _ c.if-first-start.false)
 
-pub starts-run-spec : {M : Type 1} → statement M
-starts-run-spec = tie.close
+pub starts_run_spec : {M : Type 1} → statement M
+starts_run_spec = tie.close
     (tie.spec returns (λ c. search rules) (λ c. search rules) returns-2)

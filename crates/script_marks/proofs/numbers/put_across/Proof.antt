@@ -5,36 +5,37 @@ use Rattle.text.specs.Bytes.{bytes}
 use Rattle.text_write.proofs.Written.{and_then, room-first, room-then}
 use Rattle.script_marks.specs.Marks.{half_steps}
 use Rattle.script_marks.specs.inner.Floats.{whole_in}
+use borrow.Author.Rules.{rules}
 use Rattle.script_marks.proofs.ByCase.{across-minus, across-plus}
 use Rattle.script_marks.proofs.numbers.put_across.Statement.{statement}
 use Rattle.script_marks.proofs.numbers.put_across.Tie as tie
 
-put-word-requires : tie.Need-put-word-requires
+put-word-requires : tie.Need-put_word-next-requires
 unfolding of_bits
 put-word-requires c κs =
-    let s = c.before.before.before.before in let a = s.args in
-    room-first (bytes "-") (half_steps (whole_in (mul binary64 a.x (fin true 1 (pos 1))))) a.out.now a.at (rw (across-minus a.x c.before.before.if1.true) at s.requires)
+    let s = c in let a = s.args in
+    room-first (bytes "-") (half_steps (whole_in (mul binary64 a.x (fin true 1 (pos 1))))) a.out.now a.at (rw (across-minus a.x c.if-x.true) at s.requires)
 
-put-half-steps-requires : tie.Need-put-half-steps-requires
+put-half-steps-requires : tie.Need-put_half_steps-requires
 unfolding of_bits neg
 put-half-steps-requires c κs =
-    let s = c.before.before.before.before.before.before.before.before.before in let a = s.args in
-    rw c.whole.ensures (room-then (half_steps (whole_in (mul binary64 a.x (fin true 1 (pos 1))))) c.before.before.before.before.put_word.ensures (rw (across-minus a.x c.before.before.before.before.before.before.before.if1.true) at s.requires))
+    let s = c in let a = s.args in
+    rw c.whole.ensures (room-then (half_steps (whole_in (mul binary64 a.x (fin true 1 (pos 1))))) c.put_word-next.ensures (rw (across-minus a.x c.if-x.true) at s.requires))
 
-returns : tie.Need-returns
+returns : tie.Need-returns-then-x
 unfolding of_bits neg
 returns c =
-    rw (across-minus c.before.before.before.before.before.before.before.before.before.before.before.before.args.x c.before.before.before.before.before.before.before.before.before.before.if1.true) (and_then c.before.before.before.before.before.before.before.put_word.ensures (rw c.before.before.before.whole.ensures at c.before.before.put-half-steps.ensures))
+    rw (across-minus c.args.x c.if-x.true) (and_then c.put_word-next.ensures (rw c.whole.ensures at c.put_half_steps.ensures))
 
-put-half-steps-requires-2 : tie.Need-put-half-steps-requires-2
+put-half-steps-requires-2 : tie.Need-put_half_steps-requires-2
 unfolding of_bits
-put-half-steps-requires-2 c κs = rw c.whole2.ensures (rw (across-plus c.before.before.before.before.args.x c.before.before.if1.false) at c.before.before.before.before.requires)
+put-half-steps-requires-2 c κs = rw c.whole-2.ensures (rw (across-plus c.args.x c.if-x.false) at c.requires)
 
-returns-2 : tie.Need-returns-2
+returns-2 : tie.Need-returns
 unfolding of_bits
-returns-2 c = rw (across-plus c.before.before.before.before.before.before.before.args.x c.before.before.before.before.before.if1.false) (rw c.before.before.before.whole2.ensures at c.before.before.put-half-steps2.ensures)
+returns-2 c = rw (across-plus c.args.x c.if-x.false) (rw c.whole-2.ensures at c.put_half_steps-2.ensures)
 
-pub put-across-spec : {M : Type 1} → statement M
-put-across-spec =
+pub put_across_spec : {M : Type 1} → statement M
+put_across_spec =
     tie.close
-    (tie.spec (λ c. search rules) put-word-requires (λ c κs. search rules) put-half-steps-requires (λ c. search rules) returns (λ c κs. search rules) put-half-steps-requires-2 (λ c. search rules) returns-2)
+    (tie.spec put-word-requires (λ c κs. search rules) put-half-steps-requires (λ c. search rules) returns (λ c κs. search rules) put-half-steps-requires-2 (λ c. search rules) returns-2)

@@ -29,56 +29,56 @@ of-plan c = in-plan c.args.plan c.args.drawing c.args.counts c.requires.0 (plan-
 of-drawing : (c : tie.Start) → DrawingCut c.args.drawing c.args.counts
 of-drawing c = in-drawing c.args.plan c.args.drawing c.args.counts c.requires.0 (plan-arrays c) (drawing-arrays c)
 
-array-share-prefix-sizes : tie.Need-array-share-prefix-sizes
-array-share-prefix-sizes c = omega (arith, (of-plan c.before.before.before.before.before.before.before).sizes, c.before.before.before.before.before.before.wide.ensures)
+array-share-prefix-sizes : tie.Need-slice_bounds-sizes-end
+array-share-prefix-sizes c = omega (arith, (of-plan c.before.before.before.before.before.before.before).sizes, c.wide-k.ensures)
 
-slice-aggregate-mark : tie.Need-slice-aggregate-mark
-slice-aggregate-mark c = sym (length-take-le _ _ (omega (arith, (of-plan c.before.before.before.before.before.before.before.before).sizes, c.before.before.before.before.before.before.before.wide.ensures)))
+slice-aggregate-mark : tie.Need-slice_bounds-mark-end
+slice-aggregate-mark c = sym (length-take-le _ _ (omega (arith, (of-plan c.before.before.before.before.before.before.before.before).sizes, c.wide-k.ensures)))
 
-array-share-prefix-vias : tie.Need-array-share-prefix-vias
+array-share-prefix-vias : tie.Need-slice_bounds-vias-end
 array-share-prefix-vias c = (of-plan c.before.before.before.before.before.before.before.before).vias
 
-slice-aggregate-mark-2 : tie.Need-slice-aggregate-mark-2
+slice-aggregate-mark-2 : tie.Need-slice_bounds-mark-end-2
 slice-aggregate-mark-2 c = sym (length-take-le _ _ (of-plan c.before.before.before.before.before.before.before.before.before).vias)
 
-array-share-prefix-halves : tie.Need-array-share-prefix-halves
+array-share-prefix-halves : tie.Need-slice_bounds-halves-end
 array-share-prefix-halves c = (of-plan c.before.before.before.before.before.before.before.before.before).halves
 
-slice-aggregate-mark-3 : tie.Need-slice-aggregate-mark-3
+slice-aggregate-mark-3 : tie.Need-slice_bounds-mark-end-3
 slice-aggregate-mark-3 c = sym (length-take-le _ _ (of-plan c.before.before.before.before.before.before.before.before.before.before).halves)
 
-array-share-prefix-uppers : tie.Need-array-share-prefix-uppers
+array-share-prefix-uppers : tie.Need-slice_bounds-uppers-end
 array-share-prefix-uppers c = (of-plan c.before.before.before.before.before.before.before.before.before.before).uppers
 
-slice-aggregate-mark-4 : tie.Need-slice-aggregate-mark-4
+slice-aggregate-mark-4 : tie.Need-slice_bounds-mark-end-4
 slice-aggregate-mark-4 c = sym (length-take-le _ _ (of-plan c.before.before.before.before.before.before.before.before.before.before.before).uppers)
 
-array-share-prefix-lowers : tie.Need-array-share-prefix-lowers
+array-share-prefix-lowers : tie.Need-slice_bounds-lowers-end
 array-share-prefix-lowers c = (of-plan c.before.before.before.before.before.before.before.before.before.before.before).lowers
 
-slice-aggregate-mark-5 : tie.Need-slice-aggregate-mark-5
+slice-aggregate-mark-5 : tie.Need-slice_bounds-mark-end-5
 slice-aggregate-mark-5 c = sym (length-take-le _ _ (of-plan c.before.before.before.before.before.before.before.before.before.before.before.before).lowers)
 
-array-share-prefix-finals : tie.Need-array-share-prefix-finals
+array-share-prefix-finals : tie.Need-slice_bounds-finals-end
 array-share-prefix-finals c = (of-drawing c.before.before.before.before.before.before.before.before.before.before.before.before).finals
 
-slice-aggregate-mark-6 : tie.Need-slice-aggregate-mark-6
+slice-aggregate-mark-6 : tie.Need-slice_bounds-mark-end-6
 slice-aggregate-mark-6 c = sym (length-take-le _ _ (of-drawing c.before.before.before.before.before.before.before.before.before.before.before.before.before).finals)
 
 mark-requires : tie.Need-mark-requires
 mark-requires c κs =
     let s = c.before.before.before.before.before.before.before.before.before.before.before.before.before in
     let a = s.args in
-    rw c.before.before.before.before.before.before.before.before.before.before.before.before.wide.ensures (mark-asked a.plan a.drawing a.counts s.requires.0 (plan-arrays s) (drawing-arrays s) a.n s.requires.1)
+    rw c.wide-k.ensures (mark-asked a.plan a.drawing a.counts s.requires.0 (plan-arrays s) (drawing-arrays s) a.n s.requires.1)
 
 returns : tie.Need-returns
 returns c =
-    let s = c.before.before.before.before.before.before.before.before.before.before.before.before.before.before in
+    let s = c in
     let a = s.args in
-    c.mark.ensures (plan_with a.plan a.counts) (rw c.before.before.before.before.before.before.before.before.before.before.before.before.before.wide.ensures (mark-data a.plan a.drawing a.counts s.requires.0))
+    c.mark.ensures (plan_with a.plan a.counts) (rw c.wide-k.ensures (mark-data a.plan a.drawing a.counts s.requires.0))
 
-pub mark-with-spec : {M : Type 1} → statement M
-mark-with-spec =
+pub mark_with_spec : {M : Type 1} → statement M
+mark_with_spec =
     tie.close
     (tie.spec (λ c κs. search rules) array-share-prefix-sizes slice-aggregate-mark array-share-prefix-vias
     slice-aggregate-mark-2 array-share-prefix-halves slice-aggregate-mark-3 array-share-prefix-uppers slice-aggregate-mark-4

@@ -32,74 +32,74 @@ of-plan c = in-plan c.args.plan c.args.drawing c.args.counts c.requires.0 (plan-
 of-drawing : (c : tie.Start) → DrawingCut c.args.drawing c.args.counts
 of-drawing c = in-drawing c.args.plan c.args.drawing c.args.counts c.requires.0 (plan-arrays c) (drawing-arrays c)
 
-numbers_long : (c : tie.Start) → length c.args.t2 ≡ max_vertices
+numbers_long : (c : tie.Start) → length c.args.remembered ≡ max_vertices
 numbers_long c = search rules
 
-array-share-prefix-remembered : tie.Need-array-share-prefix-remembered
+array-share-prefix-remembered : tie.Need-slice_bounds-remembered-end
 array-share-prefix-remembered c = omega (arith, (of-plan c.before.before.before.before.before.before.before.before.before.before).few, numbers_long c.before.before.before.before.before.before.before.before.before.before)
 
-slice-aggregate-put-line-by : tie.Need-slice-aggregate-put-line-by
+slice-aggregate-put-line-by : tie.Need-slice_bounds-put_line_by-end
 slice-aggregate-put-line-by c = sym (length-take-le _ _ (omega (arith, (of-plan c.before.before.before.before.before.before.before.before.before.before.before).few, numbers_long c.before.before.before.before.before.before.before.before.before.before.before)))
 
-array-share-prefix-sizes : tie.Need-array-share-prefix-sizes
-array-share-prefix-sizes c = omega (arith, (of-plan c.before.before.before.before.before.before.before.before.before.before.before).sizes, c.before.before.before.before.before.before.before.before.before.wide.ensures)
+array-share-prefix-sizes : tie.Need-slice_bounds-sizes-end
+array-share-prefix-sizes c = omega (arith, (of-plan c.before.before.before.before.before.before.before.before.before.before.before).sizes, c.wide-k.ensures)
 
-slice-aggregate-put-line-by-2 : tie.Need-slice-aggregate-put-line-by-2
-slice-aggregate-put-line-by-2 c = sym (length-take-le _ _ (omega (arith, (of-plan c.before.before.before.before.before.before.before.before.before.before.before.before).sizes, c.before.before.before.before.before.before.before.before.before.before.wide.ensures)))
+slice-aggregate-put-line-by-2 : tie.Need-slice_bounds-put_line_by-end-2
+slice-aggregate-put-line-by-2 c = sym (length-take-le _ _ (omega (arith, (of-plan c.before.before.before.before.before.before.before.before.before.before.before.before).sizes, c.wide-k.ensures)))
 
-array-share-prefix-preliminary : tie.Need-array-share-prefix-preliminary
+array-share-prefix-preliminary : tie.Need-slice_bounds-preliminary-end
 array-share-prefix-preliminary c = (of-drawing c.before.before.before.before.before.before.before.before.before.before.before.before).preliminary
 
-slice-aggregate-put-line-by-3 : tie.Need-slice-aggregate-put-line-by-3
+slice-aggregate-put-line-by-3 : tie.Need-slice_bounds-put_line_by-end-3
 slice-aggregate-put-line-by-3 c = sym (length-take-le _ _ (of-drawing c.before.before.before.before.before.before.before.before.before.before.before.before.before).preliminary)
 
-array-share-prefix-finals : tie.Need-array-share-prefix-finals
+array-share-prefix-finals : tie.Need-slice_bounds-finals-end
 array-share-prefix-finals c = (of-drawing c.before.before.before.before.before.before.before.before.before.before.before.before.before).finals
 
-slice-aggregate-put-line-by-4 : tie.Need-slice-aggregate-put-line-by-4
+slice-aggregate-put-line-by-4 : tie.Need-slice_bounds-put_line_by-end-4
 slice-aggregate-put-line-by-4 c = sym (length-take-le _ _ (of-drawing c.before.before.before.before.before.before.before.before.before.before.before.before.before.before).finals)
 
-array-share-prefix-passes : tie.Need-array-share-prefix-passes
+array-share-prefix-passes : tie.Need-slice_bounds-passes-end
 array-share-prefix-passes c = (of-drawing c.before.before.before.before.before.before.before.before.before.before.before.before.before.before).passes
 
-slice-aggregate-put-line-by-5 : tie.Need-slice-aggregate-put-line-by-5
+slice-aggregate-put-line-by-5 : tie.Need-slice_bounds-put_line_by-end-5
 slice-aggregate-put-line-by-5 c = sym (length-take-le _ _ (of-drawing c.before.before.before.before.before.before.before.before.before.before.before.before.before.before.before).passes)
 
-array-share-prefix-levels : tie.Need-array-share-prefix-levels
+array-share-prefix-levels : tie.Need-slice_bounds-levels-end
 array-share-prefix-levels c = (of-drawing c.before.before.before.before.before.before.before.before.before.before.before.before.before.before.before).levels
 
-slice-aggregate-put-line-by-6 : tie.Need-slice-aggregate-put-line-by-6
+slice-aggregate-put-line-by-6 : tie.Need-slice_bounds-put_line_by-end-6
 slice-aggregate-put-line-by-6 c = sym (length-take-le _ _ (of-drawing c.before.before.before.before.before.before.before.before.before.before.before.before.before.before.before.before).levels)
 
-array-share-prefix-boxes : tie.Need-array-share-prefix-boxes
+array-share-prefix-boxes : tie.Need-slice_bounds-boxes-end
 array-share-prefix-boxes c = (of-drawing c.before.before.before.before.before.before.before.before.before.before.before.before.before.before.before.before).counts
 
-slice-aggregate-put-line-by-7 : tie.Need-slice-aggregate-put-line-by-7
+slice-aggregate-put-line-by-7 : tie.Need-slice_bounds-put_line_by-end-7
 slice-aggregate-put-line-by-7 c = sym (length-take-le _ _ (of-drawing c.before.before.before.before.before.before.before.before.before.before.before.before.before.before.before.before.before).counts)
 
-slice-aggregate-put-line-by-8 : tie.Need-slice-aggregate-put-line-by-8
+slice-aggregate-put-line-by-8 : tie.Need-slice_bounds-put_line_by-end-8
 slice-aggregate-put-line-by-8 c = sym (drawing-arrays c.before.before.before.before.before.before.before.before.before.before.before.before.before.before.before.before.before.before).vertices
 
-slice-aggregate-put-line-by-9 : tie.Need-slice-aggregate-put-line-by-9
+slice-aggregate-put-line-by-9 : tie.Need-slice_bounds-put_line_by-end-9
 slice-aggregate-put-line-by-9 c = sym (drawing-arrays c.before.before.before.before.before.before.before.before.before.before.before.before.before.before.before.before.before.before.before).positions
 
-put-line-by-requires : tie.Need-put-line-by-requires
+put-line-by-requires : tie.Need-put_line_by-requires
 put-line-by-requires c κs =
     let s = c.before.before.before.before.before.before.before.before.before.before.before.before.before.before.before.before.before.before.before.before in
     let a = s.args in
-    rw c.before.before.before.before.before.before.before.before.before.before.before.before.before.before.before.before.before.before.wide.ensures (line-asked-by a.plan a.drawing a.counts s.requires.0 (plan-arrays s) (drawing-arrays s) (numbers_in a.t2 a.counts) s.requires.1 a.n s.requires.2 s.requires.3)
+    rw c.wide-k.ensures (line-asked-by a.plan a.drawing a.counts s.requires.0 (plan-arrays s) (drawing-arrays s) (numbers_in a.remembered a.counts) s.requires.1 a.n s.requires.2 s.requires.3)
 
-same_length : tie.Need-same-length
-same_length c = c.before.before.put-line-by.auto.1.1.1.1.1.1.1.1.1.1.1.0
+same_length : tie.Need-shape_of-out
+same_length c = c.put_line_by.auto.out
 
 returns : tie.Need-returns
 returns c =
     let s = c.before.before.before.before.before.before.before.before.before.before.before.before.before.before.before.before.before.before.before.before.before.before.before in
     let a = s.args in
-    line-fronts-by a.plan a.drawing a.counts s.requires.0 (plan-arrays s) (drawing-arrays s) (numbers_in a.t2 a.counts) s.requires.1 a.n (rw c.before.before.before.before.before.before.before.before.before.before.before.before.before.before.before.before.before.before.before.before.before.wide.ensures at c.before.before.put-line-by.ensures)
+    line-fronts-by a.plan a.drawing a.counts s.requires.0 (plan-arrays s) (drawing-arrays s) (numbers_in a.remembered a.counts) s.requires.1 a.n (rw c.wide-k.ensures at c.put_line_by.ensures)
 
-pub put-line-spec : {M : Type 1} → statement M
-put-line-spec =
+pub put_line_spec : {M : Type 1} → statement M
+put_line_spec =
     tie.close
     (tie.spec (λ c κs. search rules) array-share-prefix-remembered slice-aggregate-put-line-by array-share-prefix-sizes slice-aggregate-put-line-by-2 array-share-prefix-preliminary
     slice-aggregate-put-line-by-3 array-share-prefix-finals slice-aggregate-put-line-by-4 array-share-prefix-passes

@@ -8,22 +8,22 @@ use lib.Seq.{length-take-le}
 use Rattle.text_untangle.proofs.again.put_numbers.Statement.{statement}
 use Rattle.text_untangle.proofs.again.put_numbers.Tie as tie
 
-slice-aggregate-copy : tie.Need-slice-aggregate-copy
-slice-aggregate-copy c = sym (length-take-le _ _ c.before.before.before.requires.0)
+slice-aggregate-copy : tie.Need-slice_bounds-copy-end
+slice-aggregate-copy c = sym (length-take-le _ _ c.requires.0)
 
-slice-aggregate-copy-2 : tie.Need-slice-aggregate-copy-2
-slice-aggregate-copy-2 c = sym (length-take-le _ _ c.before.before.before.before.requires.1)
+slice-aggregate-copy-2 : tie.Need-slice_bounds-copy-end-3
+slice-aggregate-copy-2 c = sym (length-take-le _ _ c.requires.1)
 
 copy-requires : tie.Need-copy-requires
-copy-requires c κs = length-take-le _ _ c.before.before.before.before.requires.1 ∙ sym (length-take-le _ _ c.before.before.before.before.requires.0)
+copy-requires c κs = length-take-le _ _ c.requires.1 ∙ sym (length-take-le _ _ c.requires.0)
 
 returns : tie.Need-returns
 returns c =
-    let a = c.before.before.before.before.before.before.before.args in
-    ap (λ (l : List ℕ). l ++ drop a.n a.out.now) c.before.before.copy.ensures
-    ∙ ap (λ (k : ℕ). take a.n a.m.now ++ drop k a.out.now) (sym (length-take-le _ _ c.before.before.before.before.before.before.before.requires.0))
+    let a = c.args in
+    ap (λ (l : List ℕ). l ++ drop a.n a.out.now) c.copy.ensures
+    ∙ ap (λ (k : ℕ). take a.n a.m.now ++ drop k a.out.now) (sym (length-take-le _ _ c.requires.0))
 
-pub put-numbers-spec : {M : Type 1} → statement M
-put-numbers-spec =
+pub put_numbers_spec : {M : Type 1} → statement M
+put_numbers_spec =
     tie.close
     (tie.spec slice-aggregate-copy (λ c. search rules) slice-aggregate-copy-2 copy-requires (λ c. search rules) returns)

@@ -7,14 +7,14 @@ use Rattle.text_write.proofs.AgainLaws.{stored-limits}
 use Rattle.text_untangle.proofs.again.text_length.Statement.{statement}
 use Rattle.text_untangle.proofs.again.text_length.Tie as tie
 
-stored-text-requires : tie.Need-stored-text-requires
+stored-text-requires : tie.Need-stored_text-requires
 stored-text-requires c κs =
-    let s = c.before in
+    let s = c in
     (stored-limits s.requires, rw length-replicate (text-short (plan_data s.args.plan s.args.vertices s.args.segments) s.requires.plan))
 
 returns : tie.Need-returns
-returns c = c.before.stored-text.ensures.count
+returns c = c.stored_text.ensures.count
 
-pub text-length-spec : {M : Type 1} → statement M
-text-length-spec = tie.close
+pub text_length_spec : {M : Type 1} → statement M
+text_length_spec = tie.close
     (tie.spec (λ c. search rules) stored-text-requires returns)

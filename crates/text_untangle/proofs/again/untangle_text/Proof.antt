@@ -4,22 +4,22 @@ use Rattle.text_untangle.proofs.TextLaws.{answer-accepted, answer-refused, refus
 use Rattle.text_untangle.proofs.again.untangle_text.Statement.{statement}
 use Rattle.text_untangle.proofs.again.untangle_text.Tie as tie
 
-put-both-requires : tie.Need-put-both-requires
+put-both-requires : tie.Need-put_both-requires
 put-both-requires c κs =
-    (answer-accepted c.before.before.before.before.before.before.before.before.before.before.before.args.text.now c.before.before.before.before.before.before.before.read-tangled.result _ _ c.before.before.before.before.before.before.before.read-tangled.ensures c.before.before.before.before.answer.given.1).held
+    (answer-accepted c.args.text.now c.read_tangled-r.result _ _ c.read_tangled-r.ensures c.in-Accepted.is).held
 
-returns : tie.Need-returns
+returns : tie.Need-returns-in-Accepted
 returns c =
-    let a = answer-accepted c.before.before.before.before.before.before.before.before.before.before.before.before.before.before.before.before.args.text.now c.before.before.before.before.before.before.before.before.before.before.before.before.read-tangled.result _ _ c.before.before.before.before.before.before.before.before.before.before.before.before.read-tangled.ensures c.before.before.before.before.before.before.before.before.before.answer.given.1 in
-    rw a.read (c.before.before.before.before.put_both.ensures a.text_plan a.is_untangled)
+    let a = answer-accepted c.args.text.now c.read_tangled-r.result _ _ c.read_tangled-r.ensures c.in-Accepted.is in
+    rw a.read (c.put_both.ensures a.text_plan a.is_untangled)
 
-returns-2 : tie.Need-returns-2
+returns-2 : tie.Need-returns-in-Refused
 returns-2 c =
-    rw (answer-refused c.before.before.before.before.before.before.before.before.args.text.now c.before.before.before.before.read-tangled.result _ c.before.before.before.before.read-tangled.ensures c.before.answer2.given.1)
-    (refused-left _ c.before.before.before.before.before.before.before.before.args.out.now c.before.before.before.before.before.before.before.before.args.numbers.now)
+    rw (answer-refused c.args.text.now c.read_tangled-r.result _ c.read_tangled-r.ensures c.in-Refused.is)
+    (refused-left _ c.args.out.now c.args.numbers.now)
 
-pub untangle-text-spec : {M : Type 1} → statement M
-untangle-text-spec =
+pub untangle_text_spec : {M : Type 1} → statement M
+untangle_text_spec =
     tie.close
     (tie.spec (λ c κs. search rules) (λ c. search rules) (λ c. search rules) put-both-requires (λ c. search rules) (λ c. search rules) (λ c. search rules) returns
     returns-2)
