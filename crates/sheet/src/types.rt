@@ -21,7 +21,7 @@ pub struct Header {
     pub tangled: bool,
 }
 
-#[derive(Drop)]
+#[derive(Clone, Copy)]
 pub struct Sheet {
     pub header: Header,
     pub plan: Plan,

@@ -10,28 +10,28 @@ use Rattle.c_codes.proofs.again_code.Statement.{statement}
 use Rattle.c_codes.proofs.again_code.Tie as tie
 
 b-plus : (c : tie.After-plus) → to_z w64 (of_z w64 c.plus.result) ≡ c.plus.result
-b-plus c = back' c.plus.result c.plus.type-inv
+b-plus c = back' c.plus.result c.plus.type_inv
 
 b-minus : (c : tie.After-minus) → to_z w64 (of_z w64 c.minus.result) ≡ c.minus.result
-b-minus c = back' c.minus.result c.minus.type-inv
+b-minus c = back' c.minus.result c.minus.type_inv
 
-b-minus2 : (c : tie.After-minus2) → to_z w64 (of_z w64 c.minus2.result) ≡ c.minus2.result
-b-minus2 c = back' c.minus2.result c.minus2.type-inv
+b-minus2 : (c : tie.After-minus-in-Short) → to_z w64 (of_z w64 c.minus-in-Short.result) ≡ c.minus-in-Short.result
+b-minus2 c = back' c.minus-in-Short.result c.minus-in-Short.type_inv
 
 plus-requires : tie.Need-plus-requires
-plus-requires c κs = omega (arith, rw c.before.answer.given.1 at c.before.before.before.requires)
+plus-requires c κs = omega (arith, rw c.in-Written.is at c.requires)
 
-returns : tie.Need-returns
-returns c = b-plus c ∙ c.plus.ensures ∙ plain _ ∙ ap code_of (sym c.before.before.answer.given.1)
+returns : tie.Need-returns-in-Written
+returns c = b-plus c ∙ c.plus.ensures ∙ plain _ ∙ ap code_of (sym c.in-Written.is)
 
-returns-2 : tie.Need-returns-2
-returns-2 c = b-minus c ∙ c.minus.ensures ∙ ap code_of (sym c.before.before.answer2.given.1)
+returns-2 : tie.Need-returns-in-Refused
+returns-2 c = b-minus c ∙ c.minus.ensures ∙ ap code_of (sym c.in-Refused.is)
 
-returns-3 : tie.Need-returns-3
-returns-3 c = b-minus2 c ∙ c.minus2.ensures ∙ ap code_of (sym c.before.enum_told.given.1)
+returns-3 : tie.Need-returns-in-Short
+returns-3 c = b-minus2 c ∙ c.minus-in-Short.ensures ∙ ap code_of (sym c.in-Short.is)
 
-pub again-code-spec : {M : Type 1} → statement M
-again-code-spec =
+pub again_code_spec : {M : Type 1} → statement M
+again_code_spec =
     tie.close
     (tie.spec (λ c. search rules) plus-requires (λ c. search rules) (λ c. search rules) (λ c κs. search rules)
     (λ c. search rules) (λ c κs. search rules) returns returns-2 returns-3)

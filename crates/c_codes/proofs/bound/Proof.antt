@@ -5,12 +5,12 @@ use Rattle.ints.proofs.Laws.{back}
 use Rattle.c_codes.proofs.bound.Statement.{statement}
 use Rattle.c_codes.proofs.bound.Tie as tie
 
-returns : tie.Need-returns
-returns c = rw (eq-eqb c.before.args.flag 0 c.if1.true)
+returns : tie.Need-returns-then-flag-eq0
+returns c = rw (eq-eqb c.args.flag 0 c.if-flag-eq0.true)
 
-returns-2 : tie.Need-returns-2
-returns-2 c = rw (ne_eqb c.before.args.flag 0 c.if1.false) (simp (back c.before.ranges.value) refl)
+returns-2 : tie.Need-returns-else-flag-eq0
+returns-2 c = rw (ne_eqb c.args.flag 0 c.if-flag-eq0.false) (simp (back c.ranges.value) refl)
 
-pub bound-spec : {M : Type 1} → statement M
-bound-spec = tie.close
+pub bound_spec : {M : Type 1} → statement M
+bound_spec = tie.close
     (tie.spec returns returns-2)

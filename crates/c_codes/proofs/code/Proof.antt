@@ -11,21 +11,21 @@ use Rattle.c_codes.proofs.code.Statement.{statement}
 use Rattle.c_codes.proofs.code.Tie as tie
 
 b-plus : (c : tie.After-plus) → to_z w64 (of_z w64 c.plus.result) ≡ c.plus.result
-b-plus c = back' c.plus.result c.plus.type-inv
+b-plus c = back' c.plus.result c.plus.type_inv
 
 b-minus : (c : tie.After-minus) → to_z w64 (of_z w64 c.minus.result) ≡ c.minus.result
-b-minus c = back' c.minus.result c.minus.type-inv
+b-minus c = back' c.minus.result c.minus.type_inv
 
 plus-requires : tie.Need-plus-requires
-plus-requires c κs = omega (arith, rw c.before.answer.given.1 at c.before.before.before.requires)
+plus-requires c κs = omega (arith, rw c.in-Written.is at c.requires)
 
-returns : tie.Need-returns
-returns c = b-plus c ∙ c.plus.ensures ∙ plain _ ∙ ap (λ a. code_of (line_result_of a)) (sym c.before.before.answer.given.1)
+returns : tie.Need-returns-in-Written
+returns c = b-plus c ∙ c.plus.ensures ∙ plain _ ∙ ap (λ a. code_of (line_result_of a)) (sym c.in-Written.is)
 
-returns-2 : tie.Need-returns-2
-returns-2 c = b-minus c ∙ c.minus.ensures ∙ ap (λ a. code_of (line_result_of a)) (sym c.before.before.answer2.given.1)
+returns-2 : tie.Need-returns-in-Refused
+returns-2 c = b-minus c ∙ c.minus.ensures ∙ ap (λ a. code_of (line_result_of a)) (sym c.in-Refused.is)
 
-pub code-spec : {M : Type 1} → statement M
-code-spec =
+pub code_spec : {M : Type 1} → statement M
+code_spec =
     tie.close
     (tie.spec (λ c. search rules) plus-requires (λ c. search rules) (λ c. search rules) (λ c κs. search rules) returns returns-2)

@@ -9,15 +9,15 @@ use Rattle.pass_draw.proofs.MadeLaws.{room}
 use Rattle.pass_draw.proofs.draw.draw.Statement.{statement}
 use Rattle.pass_draw.proofs.draw.draw.Tie as tie
 
-make-drawing-requires : tie.Need-make-drawing-requires
-make-drawing-requires c κs = room c.before.before.before.before.before.before.before.before.before.before.before.before.before.before.before.before.before.requires
+make-drawing-requires : tie.Need-make_drawing-requires
+make-drawing-requires c κs = room c.requires
 
 returns : tie.Need-returns
-returns c = λ p l. (c.before.before.before.before.before.before.before.before.before.before.before.make-drawing.ensures p l).made
-    (omega (arith, c.before.before.before.before.before.before.before.before.before.before.before.make-drawing.auto.1.1.1.1.1.1.1.1.1.0, ap length c.before.before.before.before.before.before.before.before.before.before.before.before.before.before.before.before.before.before.before.before.before.before.before.before.before.before.before.before.before.requires.no_passes, length-replicate {A = ℕ} max_listed 0))
+returns c = λ p l. (c.make_drawing.ensures p l).made
+    (omega (arith, c.make_drawing.auto.passes, ap length c.requires.no_passes, length-replicate {A = ℕ} max_listed 0))
 
-pub draw-spec : {M : Type 1} → statement M
-draw-spec =
+pub draw_spec : {M : Type 1} → statement M
+draw_spec =
     tie.close
     (tie.spec make-drawing-requires (λ c. search rules) (λ c. search rules) (λ c. search rules) (λ c. search rules)
     (λ c. search rules) (λ c. search rules) (λ c. search rules) returns)

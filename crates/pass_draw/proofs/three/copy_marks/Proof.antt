@@ -9,29 +9,29 @@ use borrow.Author.Rules.{rules}
 use Rattle.pass_draw.proofs.three.copy_marks.Statement.{statement}
 use Rattle.pass_draw.proofs.three.copy_marks.Tie as tie
 
-abbrev invariant-loop : tie.invariant-loop
+abbrev invariant-loop : tie.invariant-loop-v
 invariant-loop marks had₀ v₀ had v = ((w : ℕ) → w < v → get_or had w false ≡ get_or marks w false) × (length had ≡ length had₀) × (v ≤ length marks)
 
-abbrev decreases-loop : tie.decreases-loop
+abbrev decreases-loop : tie.decreases-loop-v
 decreases-loop marks had₀ v₀ had v = length marks - v
 
-loop-holds : tie.Need-loop-init invariant-loop decreases-loop
+loop-holds : tie.Need-loop-v-init invariant-loop decreases-loop
 loop-holds c = ((λ w h. absurd (omega arith)), refl, omega arith)
 
-slice-write-had : tie.Need-slice-write-had invariant-loop decreases-loop
-slice-write-had c = omega (arith, c.before.loop-test, c.before.before.loop.invariant.1, c.before.before.before.requires)
+slice-write-had : tie.Need-bounds-had-v invariant-loop decreases-loop
+slice-write-had c = omega (arith, c.loop-v-test, c.loop-v.invariant.1, c.requires)
 
-loop-again : tie.Need-loop-preserved invariant-loop decreases-loop
-loop-again c = let l = c.before.before.loop in (copy_more c.before.before.before.args.marks.now l.had l.v (omega (arith, c.before.loop-test, l.invariant.1, c.before.before.before.requires)) l.invariant.0, length-set l.had l.v (get_or c.before.before.before.args.marks.now l.v false) ∙ l.invariant.1, omega (arith, c.before.loop-test))
+loop-again : tie.Need-loop-v-preserved invariant-loop decreases-loop
+loop-again c = let l = c.loop-v in (copy_more c.args.marks.now l.had l.v (omega (arith, c.loop-v-test, l.invariant.1, c.requires)) l.invariant.0, length-set l.had l.v (get_or c.args.marks.now l.v false) ∙ l.invariant.1, omega (arith, c.loop-v-test))
 
-same_length : tie.Need-same-length invariant-loop decreases-loop
-same_length c = c.before.loop.invariant.1
+same_length : tie.Need-shape_of-had invariant-loop decreases-loop
+same_length c = c.loop-v.invariant.1
 
 returns : tie.Need-returns invariant-loop decreases-loop
-returns c = record { each = λ v h. c.before.loop.invariant.0 v (omega (arith, c.loop-test, c.before.loop.invariant.2)) }
+returns c = record { each = λ v h. c.loop-v.invariant.0 v (omega (arith, c.loop-v-test, c.loop-v.invariant.2)) }
 
-pub copy-marks-spec : {M : Type 1} → statement M
-copy-marks-spec =
+pub copy_marks_spec : {M : Type 1} → statement M
+copy_marks_spec =
     tie.close
     (tie.spec invariant-loop decreases-loop loop-holds (λ c. search rules) slice-write-had (λ c. search rules) (λ c. search rules) loop-again
     same_length returns)

@@ -4,17 +4,17 @@ use native.Mathlib.Omega.{arith}
 use Rattle.pass_draw.proofs.three.list_wanted.Statement.{statement}
 use Rattle.pass_draw.proofs.three.list_wanted.Tie as tie
 
-returns : tie.Need-returns
-returns c = λ w. absurd (omega (arith, c.if1.true, w))
+returns : tie.Need-returns-then-passes-eq0
+returns c = λ w. absurd (omega (arith, c.if-passes-eq0.true, w))
 
-list-pass-requires : tie.Need-list-pass-requires
-list-pass-requires c κs = c.before.before.before.before.before.before.before.before.before.before.before.before.before.before.requires (omega (arith, c.before.before.before.before.before.if1.false))
+list-pass-requires : tie.Need-list_pass-requires
+list-pass-requires c κs = c.requires (omega (arith, c.if-passes-eq0.false))
 
-returns-2 : tie.Need-returns-2
-returns-2 c = λ w. c.before.before.before.before.before.before.before.before.before.list-pass.ensures
+returns-2 : tie.Need-returns
+returns-2 c = λ w. c.list_pass.ensures
 
-pub list-wanted-spec : {M : Type 1} → statement M
-list-wanted-spec =
+pub list_wanted_spec : {M : Type 1} → statement M
+list_wanted_spec =
     tie.close
     (tie.spec returns list-pass-requires (λ c. search rules) (λ c. search rules) (λ c. search rules) (λ c. search rules)
     (λ c. search rules) returns-2)

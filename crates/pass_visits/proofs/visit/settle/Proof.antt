@@ -6,14 +6,14 @@ use Rattle.pass_visits.proofs.VisitLaws.{settled-bounded, settled-first, settled
 use Rattle.pass_visits.proofs.visit.settle.Statement.{statement}
 use Rattle.pass_visits.proofs.visit.settle.Tie as tie
 
-returns : tie.Need-returns
-returns c = let a = c.before.before.args in settled-bounded a.start a.from a.end a.to a.marks.now c.before.if1.true (ltb-true a.end a.to c.if2.true)
+returns : tie.Need-returns-then-end-to
+returns c = let a = c.args in settled-bounded a.start a.from a.end a.to a.marks.now c.if-start-from.true (ltb-true a.end a.to c.if-end-to.true-raw)
 
-returns-2 : tie.Need-returns-2
-returns-2 c = let a = c.before.args in ⊎_elim
-    (λ h. settled-last a.start a.from a.end a.to a.marks.now (ltb-false a.end a.to h.1.left))
-    (λ h. settled-first a.start a.from a.end a.to a.marks.now h.left) c.if1.branch
+returns-2 : tie.Need-returns-else-start-from
+returns-2 c = let a = c.args in ⊎_elim
+    (λ h. settled-last a.start a.from a.end a.to a.marks.now (ltb-false a.end a.to h.if-end-to.false-raw))
+    (λ h. settled-first a.start a.from a.end a.to a.marks.now h.if-start-from.false) c.else-start-from.branch-raw
 
-pub settle-spec : {M : Type 1} → statement M
-settle-spec = tie.close
+pub settle_spec : {M : Type 1} → statement M
+settle_spec = tie.close
     (tie.spec (λ c. search rules) (λ c. search rules) (λ c. search rules) returns returns-2)

@@ -4,12 +4,12 @@ use Rattle.picture_fit.proofs.FitLaws.{fits_not, fits}
 use Rattle.picture_fit.proofs.fit.fit.Statement.{statement}
 use Rattle.picture_fit.proofs.fit.fit.Tie as tie
 
-returns : tie.Need-returns
+returns : tie.Need-returns-then-out-text
 returns c =
-    fits_not c.before.before.before.args.text.now c.before.before.before.args.out.now c.if1.true
+    fits_not c.args.text.now c.args.out.now c.if-out-text.true
 
-returns-2 : tie.Need-returns-2
-returns-2 c = fits c.before.before.before.before.if1.false c.before.before.put_word.ensures
+returns-2 : tie.Need-returns
+returns-2 c = fits c.if-out-text.false c.put_word.ensures
 
 pub fit_spec : {M : Type 1} → statement M
 fit_spec =

@@ -26,54 +26,54 @@ short c =
     asked-short (held_plan a.gap a.spacing a.sizes.now a.vias.now a.halves.now a.uppers.now a.lowers.now a.ratings.now) a.finals.now
     a.names.now a.starts.now a.ends.now c.requires.0 c.requires.1
 
-slice-aggregate-put-picture : tie.Need-slice-aggregate-put-picture
+slice-aggregate-put-picture : tie.Need-slice_bounds-put_picture-end
 slice-aggregate-put-picture c = search rules
 
-long : (c : tie.After-room) → length c.before.blank.result ≡ max_picture
+long : (c : tie.After-room-1) → length c.blank-room.result ≡ max_picture
 long c = sym (slice-aggregate-put-picture c)
 
-put-picture-requires : tie.Need-put-picture-requires
+put-picture-requires : tie.Need-put_picture-length-requires
 put-picture-requires c κs =
     let s = c.before.before.before.before.before.before.before.before.before.before.before.before.before in
-    (s.requires.0, enough (picture s) c.before.blank.result max_picture (short s) (long c))
+    (s.requires.0, enough (picture s) c.blank-room.result max_picture (short s) (long c))
 
-array-share-prefix-room : tie.Need-array-share-prefix-room
+array-share-prefix-room : tie.Need-slice_bounds-room-end
 array-share-prefix-room c =
     let c1 = c.before in
     let s = c1.before.before.before.before.before.before.before.before.before.before.before.before.before.before in
-    copied-long {w = picture s} c1.put-picture.ensures (short s) (long c1.before)
+    copied-long {w = picture s} c1.put_picture-length.ensures (short s) (long c1.before)
 
-slice-aggregate-fit : tie.Need-slice-aggregate-fit
+slice-aggregate-fit : tie.Need-slice_bounds-fit-end
 slice-aggregate-fit c =
     let c1 = c.before.before in
     let s = c1.before.before.before.before.before.before.before.before.before.before.before.before.before.before in
-    sym (length-take-le _ _ (copied-long {w = picture s} c1.put-picture.ensures (short s) (long c1.before)))
+    sym (length-take-le _ _ (copied-long {w = picture s} c1.put_picture-length.ensures (short s) (long c1.before)))
 
-same_length : tie.Need-same-length
-same_length c = c.before.before.fit.auto.1.0
+same_length : tie.Need-shape_of-out-then-out-lt-MAX_PICTURE
+same_length c = c.fit.auto.out
 
-returns : tie.Need-returns
+returns : tie.Need-returns-then-out-lt-MAX_PICTURE
 returns c =
     let c1 = c.before.before in
     let c2 = c1.before.before.before.before in
     let s = c2.before.before.before.before.before.before.before.before.before.before.before.before.before.before in
-    rw (copied_is {w = picture s} c2.put-picture.ensures (short s) (long c2.before)) at c1.fit.ensures
+    rw (copied_is {w = picture s} c2.put_picture-length.ensures (short s) (long c2.before)) at c1.fit.ensures
 
-put-picture-requires-2 : tie.Need-put-picture-requires-2
+put-picture-requires-2 : tie.Need-put_picture-requires
 put-picture-requires-2 c κs =
     let c1 = c.before in
     let s = c1.before.before.before.before.before.before.before.before.before.before.before in
-    (s.requires.0, omega (arith, short s, c1.if1.false))
+    (s.requires.0, omega (arith, short s, c1.if-out-lt-MAX_PICTURE.false))
 
-returns-2 : tie.Need-returns-2
+returns-2 : tie.Need-returns
 returns-2 c =
     let c1 = c.before.before in
     let c2 = c1.before.before in
     let s = c2.before.before.before.before.before.before.before.before.before.before.before in
-    fits (omega (arith, short s, c2.if1.false)) c1.put-picture2.ensures
+    fits (omega (arith, short s, c2.if-out-lt-MAX_PICTURE.false)) c1.put_picture.ensures
 
-pub fit-picture-spec : {M : Type 1} → statement M
-fit-picture-spec =
+pub fit_picture_spec : {M : Type 1} → statement M
+fit_picture_spec =
     tie.close
     (tie.spec (λ c κs. search rules) slice-aggregate-put-picture put-picture-requires array-share-prefix-room slice-aggregate-fit
     (λ c κs. search rules) same_length returns put-picture-requires-2 (λ c. search rules) returns-2)

@@ -11,22 +11,22 @@ use Rattle.picture_view.proofs.MeasureLaws.{stored_at}
 use Rattle.picture_marks.proofs.walks.put_boxed.Statement.{statement}
 use Rattle.picture_marks.proofs.walks.put_boxed.Tie as tie
 
-placed : (c : tie.After-wide2) →
-    let s = c.before.before.before.before.before.before.before.before.before.before.before.before.before in
+placed : (c : tie.After-wide-to) →
+    let s = c in
     let a = s.args in
-    (c.before.before.wide.result ≤ c.wide2.result) × (c.wide2.result ≤ length a.names.now)
+    (c.wide-from.result ≤ c.wide-to.result) × (c.wide-to.result ≤ length a.names.now)
 placed c =
-    let s = c.before.before.before.before.before.before.before.before.before.before.before.before.before in
+    let s = c in
     let a = s.args in
     let v = a.v in
-    (omega (arith, c.before.before.wide.ensures, c.wide2.ensures, s.requires.0.names.ordered v s.requires.1), omega (arith, c.wide2.ensures, s.requires.0.names.inside v s.requires.1))
+    (omega (arith, c.wide-from.ensures, c.wide-to.ensures, s.requires.0.names.ordered v s.requires.1), omega (arith, c.wide-to.ensures, s.requires.0.names.inside v s.requires.1))
 
-near : (c : tie.Else1) →
-    let s = c.before.before.before.before.before.before.before.before.before in
+near : (c : tie.Else-vias-v) →
+    let s = c in
     let a = s.args in
     NearBox a.measure a.v (position_of a.finals.now a.v) (get_or a.heights.now a.v 0) (get_or a.halves.now a.v 0)
 near c =
-    let s = c.before.before.before.before.before.before.before.before.before in
+    let s = c in
     let a = s.args in
     let v = a.v in
     let xs = a.finals.now in
@@ -36,46 +36,46 @@ near c =
     record {
       vertex = record { measure = b.measure; number = omega (arith, st.few, b.kinds, s.requires.1); point = (within-at xs v st.within, st.low v (omega (arith, b.kinds, s.requires.1))) };
       some = p.some;
-      wide = p.wide v s.requires.1 c.if1.false;
+      wide = p.wide v s.requires.1 c.if-vias-v.false;
       narrow = p.narrow v;
     }
 
-returns : tie.Need-returns
+returns : tie.Need-returns-then-vias-v
 returns c =
-    let s = c.before.before.before.before.before.before.before.before.before in
+    let s = c in
     let a = s.args in
-    rw c.if1.true (wrote_none a.out.now a.at)
+    rw c.if-vias-v.true (wrote_none a.out.now a.at)
 
-sub-put-box : tie.Need-overflow-sub-put-box
+sub-put-box : tie.Need-slice_bounds-put_box-count
 sub-put-box c = (placed c.before).0
 
-part-put-box-start : tie.Need-slice-bounds-put-box-start
+part-put-box-start : tie.Need-slice_bounds-put_box-start
 part-put-box-start c = (placed c.before).0
 
-part-put-box-end : tie.Need-slice-bounds-put-box-end
+part-put-box-end : tie.Need-slice_bounds-put_box-end
 part-put-box-end c = (placed c.before).1
 
-put-box-requires : tie.Need-put-box-requires
+put-box-requires : tie.Need-put_box-requires
 put-box-requires c κs =
     let c1 = c.before.before.before.before.before in
     let c2 = c1.before.before in
     let c3 = c2.before.before in
-    let s = c3.before.before.before.before.before.before.before.before.before in
+    let s = c3 in
     let a = s.args in
-    rw (stored_at a.finals.now a.v s.requires.0.boxes.bends.stands.within, c2.wide.ensures, c1.wide2.ensures) (near c3, rw c3.if1.false at s.requires.2)
+    rw (stored_at a.finals.now a.v s.requires.0.boxes.bends.stands.within, c2.wide-from.ensures, c1.wide-to.ensures) (near c3, rw c3.if-vias-v.false at s.requires.2)
 
-returns-2 : tie.Need-returns-2
+returns-2 : tie.Need-returns
 returns-2 c =
     let c1 = c.before.before in
     let c2 = c1.before.before.before.before.before.before in
     let c3 = c2.before.before in
     let c4 = c3.before.before in
-    let s = c4.before.before.before.before.before.before.before.before.before in
+    let s = c4 in
     let a = s.args in
-    rw c4.if1.false (rw (stored_at a.finals.now a.v s.requires.0.boxes.bends.stands.within, c3.wide.ensures, c2.wide2.ensures) at c1.put-box.ensures)
+    rw c4.if-vias-v.false (rw (stored_at a.finals.now a.v s.requires.0.boxes.bends.stands.within, c3.wide-from.ensures, c2.wide-to.ensures) at c1.put_box.ensures)
 
-pub put-boxed-spec : {M : Type 1} → statement M
-put-boxed-spec =
+pub put_boxed_spec : {M : Type 1} → statement M
+put_boxed_spec =
     tie.close
     (tie.spec (λ c. search rules) returns (λ c. search rules) (λ c. search rules) (λ c κs. search rules) (λ c. search rules)
     (λ c. search rules) (λ c κs. search rules) sub-put-box part-put-box-start part-put-box-end (λ c. search rules)

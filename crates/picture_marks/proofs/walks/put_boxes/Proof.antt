@@ -11,50 +11,50 @@ use Rattle.picture_marks.proofs.Walk.{walk_none, walk-room, walk_more, walked_al
 use Rattle.picture_marks.proofs.walks.put_boxes.Statement.{statement}
 use Rattle.picture_marks.proofs.walks.put_boxes.Tie as tie
 
-abbrev invariant-loop : tie.invariant-loop
+abbrev invariant-loop : tie.invariant-loop-v
 invariant-loop out₀ at measure heights vias halves finals names starts ends next₀ v₀ out next v =
     (v ≤ length vias) × Wrote (walked (vertex_box measure heights vias halves finals (name_at names starts ends)) v) out₀ at next out
 
-abbrev decreases-loop : tie.decreases-loop
+abbrev decreases-loop : tie.decreases-loop-v
 decreases-loop out₀ at measure heights vias halves finals names starts ends next₀ v₀ out next v = length vias - v
 
-loop-holds : tie.Need-loop-init invariant-loop decreases-loop
+loop-holds : tie.Need-loop-v-init invariant-loop decreases-loop
 loop-holds c =
-    let s = c.before.before.before.before.before.before.before in
+    let s = c in
     let a = s.args in
     (omega arith, walk_none (vertex_box a.measure a.heights.now a.vias.now a.halves.now a.finals.now (name_at a.names.now a.starts.now a.ends.now)) a.out.now a.at)
 
-put-boxed-requires : tie.Need-put-boxed-requires invariant-loop decreases-loop
+put-boxed-requires : tie.Need-put_boxed-next-requires invariant-loop decreases-loop
 put-boxed-requires c κs =
     let c1 = c.before in
     let c2 = c1.before in
-    let s = c2.before.before.before.before.before.before.before.before in
+    let s = c2 in
     let a = s.args in
     let f = vertex_box a.measure a.heights.now a.vias.now a.halves.now a.finals.now (name_at a.names.now a.starts.now a.ends.now) in
-    (s.requires.0, c1.loop-test.true, walk-room f c2.loop.v (length a.vias.now) c1.loop-test.true s.requires.1 c2.loop.invariant.1)
+    (s.requires.0, c1.loop-v-test.true, walk-room f c2.loop-v.v (length a.vias.now) c1.loop-v-test.true s.requires.1 c2.loop-v.invariant.1)
 
-loop-again : tie.Need-loop-preserved invariant-loop decreases-loop
+loop-again : tie.Need-loop-v-preserved invariant-loop decreases-loop
 loop-again c =
     let c1 = c.before.before in
     let c2 = c1.before.before.before in
-    let s = c2.before.before.before.before.before.before.before.before in
+    let s = c2 in
     let a = s.args in
     let f = vertex_box a.measure a.heights.now a.vias.now a.halves.now a.finals.now (name_at a.names.now a.starts.now a.ends.now) in
-    (omega arith, walk_more f c2.loop.v c2.loop.invariant.1 c1.put-boxed.ensures)
+    (omega arith, walk_more f c2.loop-v.v c2.loop-v.invariant.1 c1.put_boxed-next.ensures)
 
-same_length : tie.Need-same-length invariant-loop decreases-loop
-same_length c = wrote-long c.before.loop.invariant.1
+same_length : tie.Need-shape_of-out invariant-loop decreases-loop
+same_length c = wrote-long c.loop-v.invariant.1
 
 returns : tie.Need-returns invariant-loop decreases-loop
 returns c =
     let c1 = c.before in
-    let s = c1.before.before.before.before.before.before.before.before in
+    let s = c1 in
     let a = s.args in
     let f = vertex_box a.measure a.heights.now a.vias.now a.halves.now a.finals.now (name_at a.names.now a.starts.now a.ends.now) in
-    walked_all f c1.loop.invariant.0 c.loop-test.false c1.loop.invariant.1
+    walked_all f c1.loop-v.invariant.0 c.loop-v-test.false c1.loop-v.invariant.1
 
-pub put-boxes-spec : {M : Type 1} → statement M
-put-boxes-spec =
+pub put_boxes_spec : {M : Type 1} → statement M
+put_boxes_spec =
     tie.close
     (tie.spec invariant-loop decreases-loop loop-holds put-boxed-requires (λ c. search rules) (λ c. search rules) loop-again same_length
     returns)

@@ -5,9 +5,9 @@ use Rattle.picture_view.proofs.MeasureLaws.{stored_at}
 use Rattle.picture_marks.proofs.walks.put_segment.Statement.{statement}
 use Rattle.picture_marks.proofs.walks.put_segment.Tie as tie
 
-put-line-requires : tie.Need-put-line-requires
+put-line-requires : tie.Need-put_line-requires
 put-line-requires c κs =
-    let s = c.before.before.before.before.before.before.before in
+    let s = c in
     let a = s.args in
     let xs = a.finals.now in
     let v = a.a in
@@ -23,14 +23,14 @@ put-line-requires c κs =
 returns : tie.Need-returns
 returns c =
     let c1 = c.before.before in
-    let s = c1.before.before.before.before.before.before.before.before in
+    let s = c1 in
     let a = s.args in
     let xs = a.finals.now in
     let st = s.requires.1 in
-    rw (stored_at xs a.a st.within, stored_at xs a.b st.within) at c1.put-line.ensures
+    rw (stored_at xs a.a st.within, stored_at xs a.b st.within) at c1.put_line.ensures
 
-pub put-segment-spec : {M : Type 1} → statement M
-put-segment-spec =
+pub put_segment_spec : {M : Type 1} → statement M
+put_segment_spec =
     tie.close
     (tie.spec (λ c. search rules) (λ c. search rules) (λ c. search rules) (λ c. search rules) (λ c. search rules)
     (λ c. search rules) (λ c. search rules) (λ c. search rules) put-line-requires (λ c. search rules) returns)

@@ -4,15 +4,15 @@ use Rattle.script_answers.specs.Answers.{line_of}
 use Rattle.script_answers.proofs.answers.say_done.Statement.{statement}
 use Rattle.script_answers.proofs.answers.say_done.Tie as tie
 
-put-word-requires : tie.Need-put-word-requires
+put-word-requires : tie.Need-put_word-requires
 unfolding line_of
-put-word-requires c κs = c.before.before.before.requires
+put-word-requires c κs = c.requires
 
 returns : tie.Need-returns
 unfolding line_of
-returns c = c.before.before.put_word.ensures
+returns c = c.put_word.ensures
 
-pub say-done-spec : {M : Type 1} → statement M
-say-done-spec =
+pub say_done_spec : {M : Type 1} → statement M
+say_done_spec =
     tie.close
-    (tie.spec (λ c. search rules) put-word-requires (λ c. search rules) returns)
+    (tie.spec put-word-requires (λ c. search rules) returns)

@@ -9,32 +9,32 @@ use Rattle.script_answers.specs.inner.MarkLine.{mark_line_in}
 use Rattle.script_answers.proofs.answers.say_mark.Statement.{statement}
 use Rattle.script_answers.proofs.answers.say_mark.Tie as tie
 
-put-word-requires : tie.Need-put-word-requires
+put-word-requires : tie.Need-put_word-words-requires
 unfolding mark_line_in
 put-word-requires c κs =
-    let s = c.before.before.before in let a = s.args in
+    let s = c in let a = s.args in
     room_after (bytes "ok ") (mark_line_in a.mark) (wrote_none a.out.now a.at) s.requires (simp length-append (omega arith))
 
-put-mark-requires : tie.Need-put-mark-requires
+put-mark-requires : tie.Need-put_mark-end-requires
 unfolding mark_line_in
 put-mark-requires c κs =
-    let s = c.before.before.before.before.before.before.before in let a = s.args in
-    room_after (mark_in a.mark) (mark_line_in a.mark) c.before.before.before.put_word.ensures s.requires (simp length-append (omega arith))
+    let s = c in let a = s.args in
+    room_after (mark_in a.mark) (mark_line_in a.mark) c.put_word-words.ensures s.requires (simp length-append (omega arith))
 
-put-word-requires-2 : tie.Need-put-word-requires-2
+put-word-requires-2 : tie.Need-put_word-requires
 unfolding mark_line_in
 put-word-requires-2 c κs =
-    let s = c.before.before.before.before.before.before.before.before.before.before.before.before in let a = s.args in
-    room_after (bytes "\n") (mark_line_in a.mark) (and_then c.before.before.before.before.before.before.before.before.put_word.ensures c.before.before.before.before.put-mark.ensures) s.requires (simp length-append (omega arith))
+    let s = c in let a = s.args in
+    room_after (bytes "\n") (mark_line_in a.mark) (and_then c.put_word-words.ensures c.put_mark-end.ensures) s.requires (simp length-append (omega arith))
 
 returns : tie.Need-returns
 unfolding mark_line_in
 returns c =
-    and_then (and_then c.before.before.before.before.before.before.before.before.before.before.before.put_word.ensures
-    c.before.before.before.before.before.before.before.put-mark.ensures)
-    c.before.before.put-word2.ensures
+    and_then (and_then c.put_word-words.ensures
+    c.put_mark-end.ensures)
+    c.put_word.ensures
 
-pub say-mark-spec : {M : Type 1} → statement M
-say-mark-spec =
+pub say_mark_spec : {M : Type 1} → statement M
+say_mark_spec =
     tie.close
-    (tie.spec (λ c. search rules) put-word-requires put-mark-requires (λ c. search rules) put-word-requires-2 (λ c. search rules) returns)
+    (tie.spec put-word-requires put-mark-requires put-word-requires-2 (λ c. search rules) returns)

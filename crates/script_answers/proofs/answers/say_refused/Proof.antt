@@ -10,26 +10,26 @@ use Rattle.script_answers.specs.Answers.{refused, line_of}
 use Rattle.script_answers.proofs.answers.say_refused.Statement.{statement}
 use Rattle.script_answers.proofs.answers.say_refused.Tie as tie
 
-put-word-requires : tie.Need-put-word-requires
+put-word-requires : tie.Need-put_word-number-requires
 unfolding line_of
 put-word-requires c κs =
-    let s = c.before.before.before in let a = s.args in
+    let s = c in let a = s.args in
     room_after (bytes "refused ") (line_of (refused a.n)) (wrote_none a.out.now a.at) s.requires (simp length-append (omega arith))
 
-put-then-requires : tie.Need-put-then-requires
+put-then-requires : tie.Need-put_then-requires
 unfolding line_of
 put-then-requires c κs =
-    let s = c.before.before.before.before.before.before.before.before in let a = s.args in
-    room_after (decimal a.n ++ bytes "\n") (line_of (refused a.n)) c.before.before.before.before.put_word.ensures s.requires (simp length-append (omega arith))
+    let s = c in let a = s.args in
+    room_after (decimal a.n ++ bytes "\n") (line_of (refused a.n)) c.put_word-number.ensures s.requires (simp length-append (omega arith))
 
 returns : tie.Need-returns
 unfolding line_of
 returns c =
-    let a = c.before.before.before.before.before.before.before.before.before.before.before.args in
-    and_both (decimal a.n) (bytes "\n") c.before.before.before.before.before.before.before.put_word.ensures
-    c.before.before.put_then.ensures
+    let a = c.args in
+    and_both (decimal a.n) (bytes "\n") c.put_word-number.ensures
+    c.put_then.ensures
 
-pub say-refused-spec : {M : Type 1} → statement M
-say-refused-spec =
+pub say_refused_spec : {M : Type 1} → statement M
+say_refused_spec =
     tie.close
-    (tie.spec (λ c. search rules) put-word-requires (λ c. search rules) put-then-requires (λ c. search rules) returns)
+    (tie.spec put-word-requires put-then-requires (λ c. search rules) returns)

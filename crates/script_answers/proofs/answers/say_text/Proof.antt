@@ -10,33 +10,33 @@ use Rattle.script_answers.specs.Answers.{text, line_of}
 use Rattle.script_answers.proofs.answers.say_text.Statement.{statement}
 use Rattle.script_answers.proofs.answers.say_text.Tie as tie
 
-put-word-requires : tie.Need-put-word-requires
+put-word-requires : tie.Need-put_word-length-requires
 unfolding line_of
 put-word-requires c κs =
-    let s = c.before.before.before.before in let a = s.args in
+    let s = c in let a = s.args in
     room_after (bytes "ok ") (line_of (text a.line.now)) (wrote_none a.out.now a.at) s.requires (simp length-append (omega arith))
 
-put-then-requires : tie.Need-put-then-requires
+put-then-requires : tie.Need-put_then-words-requires
 unfolding line_of
 put-then-requires c κs =
-    let s = c.before.before.before.before.before.before.before.before.before in let a = s.args in
-    room_after (decimal (length a.line.now) ++ bytes " ") (line_of (text a.line.now)) c.before.before.before.before.put_word.ensures s.requires (simp length-append (omega arith))
+    let s = c in let a = s.args in
+    room_after (decimal (length a.line.now) ++ bytes " ") (line_of (text a.line.now)) c.put_word-length.ensures s.requires (simp length-append (omega arith))
 
-put-word-requires-2 : tie.Need-put-word-requires-2
+put-word-requires-2 : tie.Need-put_word-requires
 unfolding line_of
 put-word-requires-2 c κs =
-    let s = c.before.before.before.before.before.before.before.before.before.before.before.before.before in let a = s.args in
-    room_after a.line.now (line_of (text a.line.now)) (and_then c.before.before.before.before.before.before.before.before.put_word.ensures c.before.before.before.put_then.ensures) s.requires (simp length-append (omega arith))
+    let s = c in let a = s.args in
+    room_after a.line.now (line_of (text a.line.now)) (and_then c.put_word-length.ensures c.put_then-words.ensures) s.requires (simp length-append (omega arith))
 
 returns : tie.Need-returns
 unfolding line_of
 returns c =
-    let a = c.before.before.before.before.before.before.before.before.before.before.before.before.before.before.before.before.args in
-    and_then (and_both (decimal (length a.line.now)) (bytes " ") c.before.before.before.before.before.before.before.before.before.before.before.put_word.ensures
-    c.before.before.before.before.before.before.put_then.ensures)
-    c.before.before.put-word2.ensures
+    let a = c.args in
+    and_then (and_both (decimal (length a.line.now)) (bytes " ") c.put_word-length.ensures
+    c.put_then-words.ensures)
+    c.put_word.ensures
 
-pub say-text-spec : {M : Type 1} → statement M
-say-text-spec =
+pub say_text_spec : {M : Type 1} → statement M
+say_text_spec =
     tie.close
-    (tie.spec (λ c. search rules) put-word-requires (λ c. search rules) put-then-requires put-word-requires-2 (λ c. search rules) returns)
+    (tie.spec put-word-requires put-then-requires put-word-requires-2 (λ c. search rules) returns)

@@ -32,38 +32,38 @@ before z f h =
 b-x : (c : tie.Start) → to_z w64 (of_z w64 c.args.x) ≡ c.args.x
 b-x c = back c.ranges.x
 
-negative : (c : tie.Then1) → Before c.before.args.x
-negative c = before c.before.args.x c.before.ranges.x (simp b-x at c.if1.true)
+negative : (c : tie.Then-x-lt0) → Before c.args.x
+negative c = before c.args.x c.ranges.x (simp b-x at c.if-x-lt0.true)
 
-b_s : (c : tie.Then1) → to_z w64 (of_z w64 (negsuc 0 -ℤ c.before.args.x)) ≡ negsuc 0 -ℤ c.before.args.x
-b_s c = back (negative c).ranges
+b_s : (c : tie.Then-x-lt0) → to_z w64 (of_z w64 (negsuc 0 -ℤ c.args.x)) ≡ negsuc 0 -ℤ c.args.x
+b_s c = back (negative c).fits
 
 ruleset backs = (b-x, b_s)
 
-sub-result : tie.Need-overflow-sub-result
-sub-result c = simp b-x (negative c).ranges
+sub-result : tie.Need-overflow_sub-result
+sub-result c = simp b-x (negative c).fits
 
-cast-result : tie.Need-overflow-cast-result
+cast-result : tie.Need-overflow_cast-result
 cast-result c =
     let n = negative c in
-    simp backs (cast-make (negsuc 0 -ℤ c.before.args.x) (n.positive, omega (arith, n.size, n.small, abs (negsuc 0 -ℤ c.before.args.x))))
+    simp backs (cast-make (negsuc 0 -ℤ c.args.x) (n.positive, omega (arith, n.size, n.small, abs (negsuc 0 -ℤ c.args.x))))
 
-add-result : tie.Need-overflow-add-result
+add-result : tie.Need-overflow_add-result
 add-result c = let n = negative c in simp backs (omega (arith, n.size, n.small))
 
-returns : tie.Need-returns
+returns : tie.Need-returns-then-x-lt0
 returns c = simp backs (negative c).size
 
-cast-result-2 : tie.Need-overflow-cast-result-2
+cast-result-2 : tie.Need-overflow_cast-result-2
 cast-result-2 c =
-    let z = c.before.args.x in
-    let h = simp b-x at c.if1.false in
-    simp b-x (cast-make z (omega (arith, ints, apart z), omega (arith, fit-size c.before.ranges.x)))
+    let z = c.args.x in
+    let h = simp b-x at c.if-x-lt0.false in
+    simp b-x (cast-make z (omega (arith, ints, apart z), omega (arith, fit-size c.ranges.x)))
 
-returns-2 : tie.Need-returns-2
+returns-2 : tie.Need-returns
 returns-2 c = simp b-x
 
-pub magnitude-spec : {M : Type 1} → statement M
-magnitude-spec =
+pub magnitude_spec : {M : Type 1} → statement M
+magnitude_spec =
     tie.close
     (tie.spec sub-result cast-result add-result returns cast-result-2 returns-2)

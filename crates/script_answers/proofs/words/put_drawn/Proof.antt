@@ -21,43 +21,43 @@ short s = stage-short (Drawn s.args.vertices s.args.segments s.args.placings) (o
 room : (s : tie.Start) → Room (stage_words (Drawn s.args.vertices s.args.segments s.args.placings)) s.args.out.now s.args.at
 room s = omega (arith, s.requires, short s)
 
-put-word-requires : tie.Need-put-word-requires
+put-word-requires : tie.Need-put_word-v-requires
 unfolding stage_words
 put-word-requires c κs =
-    let s = c.before.before.before in let a = s.args in
+    let s = c.before.before.before.before in let a = s.args in
     room_after (bytes "drawn ") (stage_words (Drawn a.vertices a.segments a.placings)) (wrote_none a.out.now a.at) (room s) (simp length-append (omega arith))
 
-put-then-requires : tie.Need-put-then-requires
+put-then-requires : tie.Need-put_then-e-requires
 unfolding stage_words
 put-then-requires c κs =
-    let s = c.before.before.before.before.before.before.before.before in let a = s.args in
-    room_after (decimal a.vertices ++ bytes " ") (stage_words (Drawn a.vertices a.segments a.placings)) c.before.before.before.before.put_word.ensures (room s) (simp length-append (omega arith))
+    let s = c.before.before.before.before.before.before.before.before.before.before in let a = s.args in
+    room_after (decimal a.vertices ++ bytes " ") (stage_words (Drawn a.vertices a.segments a.placings)) c.put_word-v.ensures (room s) (simp length-append (omega arith))
 
-put-then-requires-2 : tie.Need-put-then-requires-2
+put-then-requires-2 : tie.Need-put_then-p-requires
 unfolding stage_words
 put-then-requires-2 c κs =
-    let s = c.before.before.before.before.before.before.before.before.before.before.before.before.before in let a = s.args in
-    room_after (decimal a.segments ++ bytes " ") (stage_words (Drawn a.vertices a.segments a.placings)) (and_then c.before.before.before.before.before.before.before.before.before.put_word.ensures c.before.before.before.before.put_then.ensures) (room s) (simp length-append (omega arith))
+    let s = c.before.before.before.before.before.before.before.before.before.before.before.before.before.before.before.before in let a = s.args in
+    room_after (decimal a.segments ++ bytes " ") (stage_words (Drawn a.vertices a.segments a.placings)) (and_then c.put_word-v.ensures c.put_then-e.ensures) (room s) (simp length-append (omega arith))
 
-put-decimal-requires : tie.Need-put-decimal-requires
+put-decimal-requires : tie.Need-put_decimal-requires
 unfolding stage_words
 put-decimal-requires c κs =
-    let s = c.before.before.before.before.before.before.before.before.before.before.before.before.before.before.before.before.before in let a = s.args in
-    room_after (decimal a.placings) (stage_words (Drawn a.vertices a.segments a.placings)) (and_then (and_then c.before.before.before.before.before.before.before.before.before.before.before.before.before.put_word.ensures c.before.before.before.before.before.before.before.before.put_then.ensures) c.before.before.before.put-then2.ensures) (room s) (simp length-append (omega arith))
+    let s = c.before.before.before.before.before.before.before.before.before.before.before.before.before.before.before.before.before.before.before.before in let a = s.args in
+    room_after (decimal a.placings) (stage_words (Drawn a.vertices a.segments a.placings)) (and_then (and_then c.put_word-v.ensures c.put_then-e.ensures) c.put_then-p.ensures) (room s) (simp length-append (omega arith))
 
 returns : tie.Need-returns
 unfolding stage_words
 returns c =
-    let a = c.before.before.before.before.before.before.before.before.before.before.before.before.before.before.before.before.before.before.before.before.args in
+    let a = c.args in
     record {
-      words = and_then (and_both (decimal a.segments) (bytes " ") (and_both (decimal a.vertices) (bytes " ") c.before.before.before.before.before.before.before.before.before.before.before.before.before.before.before.before.put_word.ensures
-          c.before.before.before.before.before.before.before.before.before.before.before.put_then.ensures)
-          c.before.before.before.before.before.before.put-then2.ensures)
-          c.before.before.put-decimal.ensures;
-      short = short c.before.before.before.before.before.before.before.before.before.before.before.before.before.before.before.before.before.before.before.before;
+      words = and_then (and_both (decimal a.segments) (bytes " ") (and_both (decimal a.vertices) (bytes " ") c.put_word-v.ensures
+          c.put_then-e.ensures)
+          c.put_then-p.ensures)
+          c.put_decimal.ensures;
+      short = short c.before.before.before.before.before.before.before.before.before.before.before.before.before.before.before.before.before.before.before.before.before.before.before;
     }
 
-pub put-drawn-spec : {M : Type 1} → statement M
-put-drawn-spec =
+pub put_drawn_spec : {M : Type 1} → statement M
+put_drawn_spec =
     tie.close
-    (tie.spec (λ c. search rules) put-word-requires (λ c. search rules) put-then-requires (λ c. search rules) put-then-requires-2 put-decimal-requires (λ c. search rules) returns)
+    (tie.spec put-word-requires put-then-requires put-then-requires-2 put-decimal-requires (λ c. search rules) returns)

@@ -21,36 +21,36 @@ short s = stage-short (Loaded s.args.vertices s.args.segments) (omega arith, ome
 room : (s : tie.Start) → Room (stage_words (Loaded s.args.vertices s.args.segments)) s.args.out.now s.args.at
 room s = omega (arith, s.requires, short s)
 
-put-word-requires : tie.Need-put-word-requires
+put-word-requires : tie.Need-put_word-v-requires
 unfolding stage_words
 put-word-requires c κs =
-    let s = c.before.before.before in let a = s.args in
+    let s = c.before.before.before.before in let a = s.args in
     room_after (bytes "loaded ") (stage_words (Loaded a.vertices a.segments)) (wrote_none a.out.now a.at) (room s) (simp length-append (omega arith))
 
-put-then-requires : tie.Need-put-then-requires
+put-then-requires : tie.Need-put_then-e-requires
 unfolding stage_words
 put-then-requires c κs =
-    let s = c.before.before.before.before.before.before.before.before in let a = s.args in
-    room_after (decimal a.vertices ++ bytes " ") (stage_words (Loaded a.vertices a.segments)) c.before.before.before.before.put_word.ensures (room s) (simp length-append (omega arith))
+    let s = c.before.before.before.before.before.before.before.before.before.before in let a = s.args in
+    room_after (decimal a.vertices ++ bytes " ") (stage_words (Loaded a.vertices a.segments)) c.put_word-v.ensures (room s) (simp length-append (omega arith))
 
-put-decimal-requires : tie.Need-put-decimal-requires
+put-decimal-requires : tie.Need-put_decimal-requires
 unfolding stage_words
 put-decimal-requires c κs =
-    let s = c.before.before.before.before.before.before.before.before.before.before.before.before in let a = s.args in
-    room_after (decimal a.segments) (stage_words (Loaded a.vertices a.segments)) (and_then c.before.before.before.before.before.before.before.before.put_word.ensures c.before.before.before.put_then.ensures) (room s) (simp length-append (omega arith))
+    let s = c.before.before.before.before.before.before.before.before.before.before.before.before.before.before in let a = s.args in
+    room_after (decimal a.segments) (stage_words (Loaded a.vertices a.segments)) (and_then c.put_word-v.ensures c.put_then-e.ensures) (room s) (simp length-append (omega arith))
 
 returns : tie.Need-returns
 unfolding stage_words
 returns c =
-    let a = c.before.before.before.before.before.before.before.before.before.before.before.before.before.before.before.args in
+    let a = c.args in
     record {
-      words = and_then (and_both (decimal a.vertices) (bytes " ") c.before.before.before.before.before.before.before.before.before.before.before.put_word.ensures
-          c.before.before.before.before.before.before.put_then.ensures)
-          c.before.before.put-decimal.ensures;
-      short = short c.before.before.before.before.before.before.before.before.before.before.before.before.before.before.before;
+      words = and_then (and_both (decimal a.vertices) (bytes " ") c.put_word-v.ensures
+          c.put_then-e.ensures)
+          c.put_decimal.ensures;
+      short = short c.before.before.before.before.before.before.before.before.before.before.before.before.before.before.before.before.before;
     }
 
-pub put-loaded-spec : {M : Type 1} → statement M
-put-loaded-spec =
+pub put_loaded_spec : {M : Type 1} → statement M
+put_loaded_spec =
     tie.close
-    (tie.spec (λ c. search rules) put-word-requires (λ c. search rules) put-then-requires put-decimal-requires (λ c. search rules) returns)
+    (tie.spec put-word-requires put-then-requires put-decimal-requires (λ c. search rules) returns)

@@ -13,17 +13,17 @@ use Rattle.script_answers.proofs.words.put_position.Tie as tie
 b-x : (c : tie.Start) → to_z w64 (of_z w64 c.args.x) ≡ c.args.x
 b-x c = back c.ranges.x
 
-put-marked-requires : tie.Need-put-marked-requires
+put-marked-requires : tie.Need-put_marked-requires
 put-marked-requires c κs =
-    let s = c.before.before.before.before.before.before.before.before in
-    rw c.magnitude.ensures (simp b-x (rw (signed_is s.args.x) at (room-then (signed s.args.x) c.before.before.before.before.put_word.ensures s.requires)))
+    let s = c in
+    rw c.magnitude.ensures (simp b-x (rw (signed_is s.args.x) at (room-then (signed s.args.x) c.put_word-next.ensures s.requires)))
 
 returns : tie.Need-returns
 returns c =
-    let x = c.before.before.before.before.before.before.before.before.before.before.before.args.x in
-    and_then c.before.before.before.before.before.before.before.put_word.ensures (rw (signed_is x) (simp b-x at (rw c.before.before.before.magnitude.ensures at c.before.before.put-marked.ensures)))
+    let x = c.args.x in
+    and_then c.put_word-next.ensures (rw (signed_is x) (simp b-x at (rw c.magnitude.ensures at c.put_marked.ensures)))
 
-pub put-position-spec : {M : Type 1} → statement M
-put-position-spec =
+pub put_position_spec : {M : Type 1} → statement M
+put_position_spec =
     tie.close
-    (tie.spec (λ c. search rules) (λ c κs. search rules) (λ c κs. search rules) put-marked-requires (λ c. search rules) returns)
+    (tie.spec (λ c κs. search rules) (λ c κs. search rules) put-marked-requires (λ c. search rules) returns)

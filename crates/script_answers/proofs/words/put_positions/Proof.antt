@@ -15,34 +15,34 @@ use Rattle.script_answers.proofs.ByCase.{words-next, words-end}
 use Rattle.script_answers.proofs.words.put_positions.Statement.{statement}
 use Rattle.script_answers.proofs.words.put_positions.Tie as tie
 
-abbrev invariant-loop : tie.invariant-loop
+abbrev invariant-loop : tie.invariant-loop-i
 invariant-loop out₀ from xs at₀ i₀ out at i = (i ≤ length xs) × (length out ≡ length out₀) × Partly (position_words xs) (position_words (drop i xs)) out₀ from at out
 
-abbrev decreases-loop : tie.decreases-loop
+abbrev decreases-loop : tie.decreases-loop-i
 decreases-loop out₀ from xs at₀ i₀ out at i = length xs - i
 
-loop-holds : tie.Need-loop-init invariant-loop decreases-loop
-loop-holds c = let a = c.before.args in (omega arith, refl, nothing_yet (position_words a.xs.now) a.out.now a.from)
+loop-holds : tie.Need-loop-i-init invariant-loop decreases-loop
+loop-holds c = let a = c.args in (omega arith, refl, nothing_yet (position_words a.xs.now) a.out.now a.from)
 
-put-position-requires : tie.Need-put-position-requires invariant-loop decreases-loop
+put-position-requires : tie.Need-put_position-at-requires invariant-loop decreases-loop
 put-position-requires c κs =
-    let s = c.before.before.before.before.before in let xs = s.args.xs.now in let l = c.before.before.before.loop in let x = get_or xs l.i (pos 0) in
-    rw (back' x c.put-position-arg2.given)
-    (next-room (bytes " " ++ signed x) (position_words (drop (l.i + 1) xs)) (words-next xs l.i c.before.before.loop-test.true) l.invariant.2 s.requires)
+    let s = c in let xs = s.args.xs.now in let l = c.loop-i in let x = get_or xs l.i (pos 0) in
+    rw (back' x c.put_position-arg-in-loop-i-1.given)
+    (next-room (bytes " " ++ signed x) (position_words (drop (l.i + 1) xs)) (words-next xs l.i c.loop-i-test.true) l.invariant.2 s.requires)
 
-loop-again : tie.Need-loop-preserved invariant-loop decreases-loop
+loop-again : tie.Need-loop-i-preserved invariant-loop decreases-loop
 loop-again c =
-    let xs = c.before.before.before.before.before.before.before.before.args.xs.now in let l = c.before.before.before.before.before.before.loop in let x = get_or xs l.i (pos 0) in
-    let put = rw (back' x c.before.before.before.put-position-arg2.given) at c.before.before.put-position.ensures in (
+    let xs = c.args.xs.now in let l = c.loop-i in let x = get_or xs l.i (pos 0) in
+    let put = rw (back' x c.put_position-arg-in-loop-i-1.given) at c.put_position-at.ensures in (
       omega arith,
-      c.before.before.put-position.auto.0 ∙ l.invariant.1,
-      next-written (bytes " " ++ signed x) (position_words (drop (l.i + 1) xs)) (words-next xs l.i c.before.before.before.before.before.loop-test.true) l.invariant.2 put,
+      c.put_position-at.auto.out ∙ l.invariant.1,
+      next-written (bytes " " ++ signed x) (position_words (drop (l.i + 1) xs)) (words-next xs l.i c.loop-i-test.true) l.invariant.2 put,
     )
 
 returns : tie.Need-returns invariant-loop decreases-loop
-returns c = let xs = c.before.before.before.args.xs.now in all-written (words-end xs c.before.loop.i c.loop-test.false) c.before.loop.invariant.2
+returns c = let xs = c.args.xs.now in all-written (words-end xs c.loop-i.i c.loop-i-test.false) c.loop-i.invariant.2
 
-pub put-positions-spec : {M : Type 1} → statement M
-put-positions-spec =
+pub put_positions_spec : {M : Type 1} → statement M
+put_positions_spec =
     tie.close
     (tie.spec invariant-loop decreases-loop loop-holds (λ c. search rules) (λ c. search rules) put-position-requires (λ c. search rules) (λ c. search rules) loop-again (λ c. search rules) returns)

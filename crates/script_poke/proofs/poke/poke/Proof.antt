@@ -5,78 +5,78 @@ use Rattle.script_poke.specs.Poked as spec
 use Rattle.script_poke.proofs.poke.poke.Statement.{statement}
 use Rattle.script_poke.proofs.poke.poke.Tie as tie
 
-returns : tie.Need-returns
+returns : tie.Need-returns-in-Empty
 unfolding spec.poke
-returns c = rw (c.before.enum_told.given.1, c.put-stage.ensures)
+returns c = rw (c.in-Empty.is, c.put_stage.ensures)
 
-returns-2 : tie.Need-returns-2
+returns-2 : tie.Need-returns-in-Loaded
 unfolding spec.poke
-returns-2 c = rw (c.before.before.poke.given.1, c.put-stage2.ensures)
+returns-2 c = rw (c.in-Loaded.is, c.put_stage-in-Loaded.ensures)
 
-returns-3 : tie.Need-returns-3
+returns-3 : tie.Need-returns-in-Drawn
 unfolding spec.poke
-returns-3 c = rw (c.before.before.poke2.given.1, c.put-stage3.ensures)
+returns-3 c = rw (c.in-Drawn.is, c.put_stage-in-Drawn.ensures)
 
-returns-4 : tie.Need-returns-4
+returns-4 : tie.Need-returns-in-Levels
 unfolding spec.poke
-returns-4 c = rw (c.before.before.poke3.given.1, c.put-levels.ensures)
+returns-4 c = rw (c.in-Levels.is, c.put_levels.ensures)
 
-returns-5 : tie.Need-returns-5
+returns-5 : tie.Need-returns-in-Gap
 unfolding spec.poke
-returns-5 c = rw (c.before.before.poke4.given.1, c.put-gap.ensures)
+returns-5 c = rw (c.in-Gap.is, c.put_gap.ensures)
 
-returns-6 : tie.Need-returns-6
+returns-6 : tie.Need-returns-in-Spacing
 unfolding spec.poke
-returns-6 c = rw (c.before.before.poke5.given.1, c.put-spacing.ensures)
+returns-6 c = rw (c.in-Spacing.is, c.put_spacing.ensures)
 
-returns-7 : tie.Need-returns-7
+returns-7 : tie.Need-returns-in-Size
 unfolding spec.poke
-returns-7 c = rw (c.before.before.before.poke6.given.1, c.put-size.ensures, c.before.in-16.ensures)
+returns-7 c = rw (c.in-Size.is, c.put_size.ensures, c.in_16.ensures)
 
-returns-8 : tie.Need-returns-8
+returns-8 : tie.Need-returns-in-Vertex
 unfolding spec.poke
-returns-8 c = rw (c.before.before.before.poke7.given.1, c.put-vertex.ensures, c.before.in-162.ensures)
+returns-8 c = rw (c.in-Vertex.is, c.put_vertex.ensures, c.in_16-in-Vertex.ensures)
 
-returns-9 : tie.Need-returns-9
+returns-9 : tie.Need-returns-in-Segment
 unfolding spec.poke
 returns-9 c = rw (
-  c.before.before.before.before.before.poke8.given.1,
-  c.put-segment.ensures,
-  c.before.before.before.in-32.ensures,
-  c.before.before.in-322.ensures,
-  c.before.in-323.ensures,
+  c.in-Segment.is,
+  c.put_segment.ensures,
+  c.in_32.ensures,
+  c.in_32-in-Segment.ensures,
+  c.in_32-in-Segment-2.ensures,
 )
 
-returns-10 : tie.Need-returns-10
+returns-10 : tie.Need-returns-in-Remembered
 unfolding spec.poke
-returns-10 c = rw (c.before.before.before.poke9.given.1, c.put-remembered.ensures, c.before.in-163.ensures)
+returns-10 c = rw (c.in-Remembered.is, c.put_remembered.ensures, c.in_16-in-Remembered.ensures)
 
-returns-11 : tie.Need-returns-11
+returns-11 : tie.Need-returns-in-Tangled
 unfolding spec.poke
-returns-11 c = rw (c.before.before.poke10.given.1, c.put-tangled.ensures)
+returns-11 c = rw (c.in-Tangled.is, c.put_tangled.ensures)
 
-returns-12 : tie.Need-returns-12
+returns-12 : tie.Need-returns-in-Preliminary
 unfolding spec.poke
-returns-12 c = rw (c.before.before.poke11.given.1, c.put-preliminary.ensures)
-    (simp (back' c.before.before.poke11.given.0.1.0 c.before.known-told11.given.1.0.1))
+returns-12 c = rw (c.in-Preliminary.is, c.put_preliminary.ensures)
+    (simp (back' c.in-Preliminary.x c.in-Preliminary.known_told-in-Preliminary-1-own.given.1.0.1))
 
-returns-13 : tie.Need-returns-13
+returns-13 : tie.Need-returns-in-Final
 unfolding spec.poke
-returns-13 c = rw (c.before.before.poke12.given.1, c.put-final.ensures)
-    (simp (back' c.before.before.poke12.given.0.1.0 c.before.known-told12.given.1.0.1))
+returns-13 c = rw (c.in-Final.is, c.put_final.ensures)
+    (simp (back' c.in-Final.x c.in-Final.known_told-in-Final-1-own.given.1.0.1))
 
-returns-14 : tie.Need-returns-14
+returns-14 : tie.Need-returns-in-Pass
 unfolding spec.poke
-returns-14 c = rw (c.before.before.before.poke13.given.1, c.put-pass.ensures, c.before.in-164.ensures)
+returns-14 c = rw (c.in-Pass.is, c.put_pass.ensures, c.in_16-in-Pass.ensures)
 
-returns-15 : tie.Need-returns-15
+returns-15 : tie.Need-returns-in-Level
 unfolding spec.poke
-returns-15 c = rw (c.before.before.before.poke14.given.1, c.put-level.ensures, c.before.in-165.ensures)
+returns-15 c = rw (c.in-Level.is, c.put_level.ensures, c.in_16-in-Level.ensures)
 
-returns-16 : tie.Need-returns-16
+returns-16 : tie.Need-returns-in-Listed
 unfolding spec.poke
-returns-16 c = rw (c.before.before.before.poke15.given.1, c.put-listed.ensures, c.before.in-166.ensures)
-    (simp (back' c.before.before.before.poke15.given.0.1.1.1.0 c.before.before.known-told15.given.1.1.1.0.1))
+returns-16 c = rw (c.in-Listed.is, c.put_listed.ensures, c.in_16-in-Listed.ensures)
+    (simp (back' c.in-Listed.x c.in-Listed.known_told-in-Listed-1-own.given.1.1.1.0.1))
 
 pub poke_spec : {M : Type 1} → statement M
 poke_spec =

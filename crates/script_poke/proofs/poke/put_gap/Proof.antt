@@ -4,9 +4,9 @@ use Rattle.script_poke.proofs.poke.put_gap.Statement.{statement}
 use Rattle.script_poke.proofs.poke.put_gap.Tie as tie
 
 returns : tie.Need-returns
-returns c = rw (c.with-plan.ensures, c.before.in-32.ensures)
+returns c = rw (c.with_plan.ensures, c.in_32.ensures)
 
-pub put-gap-spec : {M : Type 1} → statement M
-put-gap-spec =
+pub put_gap_spec : {M : Type 1} → statement M
+put_gap_spec =
     tie.close
     (tie.spec (λ c κs. search rules) (λ c κs. search rules) returns)

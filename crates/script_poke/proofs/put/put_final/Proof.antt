@@ -5,13 +5,13 @@ use Rattle.ints.proofs.Laws.{back}
 use Rattle.script_poke.proofs.put.put_final.Statement.{statement}
 use Rattle.script_poke.proofs.put.put_final.Tie as tie
 
-returns : tie.Need-returns
-returns c = rw (le-ltb _ _ c.if1.true)
+returns : tie.Need-returns-then-i-ge-MAX_VERTICES
+returns c = rw (le-ltb _ _ c.if-i-ge-MAX_VERTICES.true)
 
-returns-2 : tie.Need-returns-2
-returns-2 c = rw (c.with-drawing.ensures, lt-ltb _ _ c.before.before.if1.false) (simp (back c.before.before.before.ranges.x))
+returns-2 : tie.Need-returns
+returns-2 c = rw (c.with_drawing.ensures, lt-ltb _ _ c.if-i-ge-MAX_VERTICES.false) (simp (back c.ranges.x))
 
-pub put-final-spec : {M : Type 1} → statement M
-put-final-spec =
+pub put_final_spec : {M : Type 1} → statement M
+put_final_spec =
     tie.close
     (tie.spec returns (λ c. search rules) (λ c. search rules) (λ c κs. search rules) returns-2)

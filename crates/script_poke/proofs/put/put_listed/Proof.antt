@@ -5,20 +5,20 @@ use Rattle.script_poke.proofs.BoxLaws.{not-placed, placed}
 use Rattle.script_poke.proofs.put.put_listed.Statement.{statement}
 use Rattle.script_poke.proofs.put.put_listed.Tie as tie
 
-returns : tie.Need-returns
+returns : tie.Need-returns-then-at-ge-MAX_LISTED
 returns c =
-    let a = c.before.before.before.before.args in
-    rw (not-placed a.sheet.drawing.counts a.q a.b c.before.place_of.result c.before.place_of.ensures c.if1.true)
+    let a = c.args in
+    rw (not-placed a.sheet.drawing.counts a.q a.b c.place_of-at.result c.place_of-at.ensures c.if-at-ge-MAX_LISTED.true)
 
-returns-2 : tie.Need-returns-2
+returns-2 : tie.Need-returns
 returns-2 c =
-    let a = c.before.before.before.before.before.args in
-    let p = placed a.sheet.drawing.counts a.q a.b c.before.before.place_of.result c.before.before.place_of.ensures
-    c.before.if1.false in
-    rw (c.with-drawing.ensures, p.0, p.1) (simp (back c.before.before.before.before.before.ranges.x))
+    let a = c.args in
+    let p = placed a.sheet.drawing.counts a.q a.b c.place_of-at.result c.place_of-at.ensures
+    c.if-at-ge-MAX_LISTED.false in
+    rw (c.with_drawing.ensures, p.0, p.1) (simp (back c.ranges.x))
 
-pub put-listed-spec : {M : Type 1} → statement M
-put-listed-spec =
+pub put_listed_spec : {M : Type 1} → statement M
+put_listed_spec =
     tie.close
     (tie.spec (λ c κs. search rules) returns (λ c. search rules) (λ c. search rules) (λ c. search rules) (λ c. search rules) (λ c κs. search rules)
     returns-2)

@@ -4,13 +4,13 @@ use borrow.Author.Tests.{lt-ltb, le-ltb}
 use Rattle.script_poke.proofs.put.put_remembered.Statement.{statement}
 use Rattle.script_poke.proofs.put.put_remembered.Tie as tie
 
-returns : tie.Need-returns
-returns c = rw (le-ltb _ _ c.if1.true)
+returns : tie.Need-returns-then-i-ge-MAX_VERTICES
+returns c = rw (le-ltb _ _ c.if-i-ge-MAX_VERTICES.true)
 
-returns-2 : tie.Need-returns-2
-returns-2 c = rw (c.with-remembered.ensures, lt-ltb _ _ c.before.before.if1.false)
+returns-2 : tie.Need-returns
+returns-2 c = rw (c.with_remembered.ensures, lt-ltb _ _ c.if-i-ge-MAX_VERTICES.false)
 
-pub put-remembered-spec : {M : Type 1} → statement M
-put-remembered-spec =
+pub put_remembered_spec : {M : Type 1} → statement M
+put_remembered_spec =
     tie.close
     (tie.spec returns (λ c. search rules) (λ c. search rules) (λ c κs. search rules) returns-2)

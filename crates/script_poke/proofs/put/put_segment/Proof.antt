@@ -4,14 +4,14 @@ use borrow.Author.Tests.{lt-ltb, le-ltb}
 use Rattle.script_poke.proofs.put.put_segment.Statement.{statement}
 use Rattle.script_poke.proofs.put.put_segment.Tie as tie
 
-returns : tie.Need-returns
-returns c = rw (le-ltb _ _ c.if1.true)
+returns : tie.Need-returns-then-i-ge-MAX_SEGMENTS
+returns c = rw (le-ltb _ _ c.if-i-ge-MAX_SEGMENTS.true)
 
-returns-2 : tie.Need-returns-2
-returns-2 c = rw (c.with-plan.ensures, lt-ltb _ _ c.before.before.if1.false)
+returns-2 : tie.Need-returns
+returns-2 c = rw (c.with_plan.ensures, lt-ltb _ _ c.if-i-ge-MAX_SEGMENTS.false)
 
-pub put-segment-spec : {M : Type 1} → statement M
-put-segment-spec =
+pub put_segment_spec : {M : Type 1} → statement M
+put_segment_spec =
     tie.close
     (tie.spec returns (λ c. search rules) (λ c. search rules) (λ c. search rules) (λ c. search rules) (λ c. search rules) (λ c. search rules)
     (λ c κs. search rules) returns-2)

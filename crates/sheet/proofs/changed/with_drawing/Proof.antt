@@ -4,8 +4,8 @@ use Rattle.sheet.proofs.changed.with_drawing.Statement.{statement}
 use Rattle.sheet.proofs.changed.with_drawing.Tie as tie
 
 returns : tie.Need-returns
-returns c = rw c.before.before.before.counts-in.ensures
+returns c = rw c.counts_in-counts.ensures
 
-pub with-drawing-spec : {M : Type 1} → statement M
-with-drawing-spec = tie.close
+pub with_drawing_spec : {M : Type 1} → statement M
+with_drawing_spec = tie.close
     (tie.spec (λ c κs. search rules) returns)

@@ -3,16 +3,16 @@ use borrow.Author.Rules.{rules}
 use Rattle.sheet.proofs.refusals.counts_in.Statement.{statement}
 use Rattle.sheet.proofs.refusals.counts_in.Tie as tie
 
-returns : tie.Need-returns
-returns c = rw c.enum_told.given.1
+returns : tie.Need-returns-in-Empty
+returns c = rw c.in-Empty.is
 
-returns-2 : tie.Need-returns-2
-returns-2 c = rw c.before.stage.given.1
+returns-2 : tie.Need-returns-in-Loaded
+returns-2 c = rw c.in-Loaded.is
 
-returns-3 : tie.Need-returns-3
-returns-3 c = rw c.before.stage2.given.1
+returns-3 : tie.Need-returns-in-Drawn
+returns-3 c = rw c.in-Drawn.is
 
-pub counts-in-spec : {M : Type 1} → statement M
-counts-in-spec =
+pub counts_in_spec : {M : Type 1} → statement M
+counts_in_spec =
     tie.close
     (tie.spec (λ c. search rules) (λ c. search rules) (λ c. search rules) returns returns-2 returns-3)

@@ -6,25 +6,25 @@ use Rattle.sheet.proofs.DataLaws.{no-plan, no-numbers, both}
 use Rattle.sheet.proofs.refusals.plan_refusal.Statement.{statement}
 use Rattle.sheet.proofs.refusals.plan_refusal.Tie as tie
 
-returns : tie.Need-returns
+returns : tie.Need-returns-then-not-is_plan_of_text
 returns c =
-    let a = c.before.before.args in
-    no-plan a.plan a.remembered a.counts (sym c.before.is-plan-of-text.ensures ∙ not-true _ c.if1.true)
+    let a = c.args in
+    no-plan a.plan a.remembered a.counts (sym c.is_plan_of_text.ensures ∙ not-true _ c.if-not-is_plan_of_text.true-raw)
 
-are-own-requires : tie.Need-are-own-requires
-are-own-requires c κs = sym c.before.is-plan-of-text.ensures ∙ not-false _ c.if1.false
+are-own-requires : tie.Need-are_own-requires
+are-own-requires c κs = sym c.is_plan_of_text.ensures ∙ not-false _ c.if-not-is_plan_of_text.false-raw
 
-returns-2 : tie.Need-returns-2
+returns-2 : tie.Need-returns-then-not-are_own
 returns-2 c =
-    let a = c.before.before.before.before.args in
-    no-numbers a.plan a.remembered a.counts (sym c.before.before.before.is-plan-of-text.ensures ∙ not-false _ c.before.before.if1.false) (sym c.before.are-own.ensures ∙ not-true _ c.if2.true)
+    let a = c.args in
+    no-numbers a.plan a.remembered a.counts (sym c.is_plan_of_text.ensures ∙ not-false _ c.if-not-is_plan_of_text.false-raw) (sym c.are_own.ensures ∙ not-true _ c.if-not-are_own.true-raw)
 
-returns-3 : tie.Need-returns-3
+returns-3 : tie.Need-returns
 returns-3 c =
-    let a = c.before.before.before.before.args in
-    both a.plan a.remembered a.counts (sym c.before.before.before.is-plan-of-text.ensures ∙ not-false _ c.before.before.if1.false) (sym c.before.are-own.ensures ∙ not-false _ c.if2.false)
+    let a = c.args in
+    both a.plan a.remembered a.counts (sym c.is_plan_of_text.ensures ∙ not-false _ c.if-not-is_plan_of_text.false-raw) (sym c.are_own.ensures ∙ not-false _ c.if-not-are_own.false-raw)
 
-pub plan-refusal-spec : {M : Type 1} → statement M
-plan-refusal-spec =
+pub plan_refusal_spec : {M : Type 1} → statement M
+plan_refusal_spec =
     tie.close
     (tie.spec (λ c κs. search rules) returns are-own-requires returns-2 returns-3)

@@ -5,20 +5,20 @@ use Rattle.sheet.specs.inner.Refusals.{data_refusal, show_refusal}
 use Rattle.sheet.proofs.refusals.show_refusal.Statement.{statement}
 use Rattle.sheet.proofs.refusals.show_refusal.Tie as tie
 
-returns : tie.Need-returns
+returns : tie.Need-returns-in-Empty
 unfolding show_refusal first_refusal
-returns c = rw c.enum_told.given.1
+returns c = rw c.in-Empty.is
 
-returns-2 : tie.Need-returns-2
+returns-2 : tie.Need-returns-in-Loaded
 unfolding show_refusal first_refusal
-returns-2 c = rw c.enum-told2.given.1
+returns-2 c = rw c.in-Loaded.is
 
-returns-3 : tie.Need-returns-3
+returns-3 : tie.Need-returns-in-Drawn
 unfolding show_refusal data_refusal first_refusal
-returns-3 c = rw (c.data-refusal.ensures, c.before.counts-in.ensures, c.before.before.enum-told3.given.1)
+returns-3 c = rw (c.data_refusal.ensures, c.counts_in.ensures, c.in-Drawn.is)
 
-pub show-refusal-spec : {M : Type 1} → statement M
-show-refusal-spec =
+pub show_refusal_spec : {M : Type 1} → statement M
+show_refusal_spec =
     tie.close
     (tie.spec (λ c. search rules) (λ c. search rules) (λ c. search rules) (λ c κs. search rules) (λ c κs. search rules) returns
     returns-2 returns-3)

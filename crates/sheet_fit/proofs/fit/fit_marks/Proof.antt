@@ -10,16 +10,16 @@ use Rattle.sheet_fit.proofs.FitLaws.{fitted_short, fitted-long, writes}
 use Rattle.sheet_fit.proofs.fit.fit_marks.Statement.{statement}
 use Rattle.sheet_fit.proofs.fit.fit_marks.Tie as tie
 
-returns : tie.Need-returns
+returns : tie.Need-returns-then-out-n
 returns c = λ p d.
-    let a = c.before.before.before.before.before.before.before.args in
-    writes (fitted_short (mark_count p) (all_numbers p a.finals.now) a.out.now (omega (arith, c.if1.true, all-long p a.finals.now, count-is d))) (record { answered = refl; left = refl })
+    let a = c.args in
+    writes (fitted_short (mark_count p) (all_numbers p a.finals.now) a.out.now (omega (arith, c.if-out-n.true, all-long p a.finals.now, count-is d))) (record { answered = refl; left = refl })
 
-returns-2 : tie.Need-returns-2
+returns-2 : tie.Need-returns
 returns-2 c = λ p d.
-    let a = c.before.before.before.before.before.before.before.before.before.before.before.args in
-    writes (fitted-long (mark_count p) (all_numbers p a.finals.now) a.out.now (omega (arith, c.before.before.before.before.if1.false, all-long p a.finals.now, count-is d))) (record { answered = ap gives (sym (count-is d)); left = c.before.before.put-marks.ensures p d })
+    let a = c.args in
+    writes (fitted-long (mark_count p) (all_numbers p a.finals.now) a.out.now (omega (arith, c.if-out-n.false, all-long p a.finals.now, count-is d))) (record { answered = ap gives (sym (count-is d)); left = c.put_marks.ensures p d })
 
-pub fit-marks-spec : {M : Type 1} → statement M
-fit-marks-spec = tie.close
+pub fit_marks_spec : {M : Type 1} → statement M
+fit_marks_spec = tie.close
     (tie.spec (λ c. search rules) (λ c. search rules) returns (λ c κs. search rules) (λ c. search rules) returns-2)

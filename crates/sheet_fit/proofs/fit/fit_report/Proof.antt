@@ -8,32 +8,32 @@ use Rattle.sheet_fit.proofs.FitLaws.{front_long, front-is, wrote-all}
 use Rattle.sheet_fit.proofs.fit.fit_report.Statement.{statement}
 use Rattle.sheet_fit.proofs.fit.fit_report.Tie as tie
 
-slice-aggregate-put-report : tie.Need-slice-aggregate-put-report
+slice-aggregate-put-report : tie.Need-slice_bounds-put_report-end
 slice-aggregate-put-report c = search rules
 
-put-report-requires : tie.Need-put-report-requires
-put-report-requires c κs = c.before.before.before.before.before.before.before.before.before.requires c.before.blank.result (omega (arith, slice-aggregate-put-report c))
+put-report-requires : tie.Need-put_report-length-requires
+put-report-requires c κs = c.requires c.blank-room.result (omega (arith, slice-aggregate-put-report c))
 
-array-share-prefix-room : tie.Need-array-share-prefix-room
-array-share-prefix-room c = front_long c.before.put-report.ensures
+array-share-prefix-room : tie.Need-slice_bounds-room-end
+array-share-prefix-room c = front_long c.put_report-length.ensures
 
-slice-aggregate-fit : tie.Need-slice-aggregate-fit
-slice-aggregate-fit c = sym (length-take-le _ _ (front_long c.before.before.put-report.ensures))
+slice-aggregate-fit : tie.Need-slice_bounds-fit-end
+slice-aggregate-fit c = sym (length-take-le _ _ (front_long c.put_report-length.ensures))
 
-returns : tie.Need-returns
-returns c = rw (front-is c.before.before.before.before.before.before.put-report.ensures) at c.before.before.fit.ensures
+returns : tie.Need-returns-then-out-lt-MAX_REPORT
+returns c = rw (front-is c.put_report-length.ensures) at c.fit.ensures
 
-put-report-requires-2 : tie.Need-put-report-requires-2
-put-report-requires-2 c κs = c.before.before.before.before.before.before.before.before.requires c.before.before.before.before.before.before.before.before.args.out.now c.before.if1.false
+put-report-requires-2 : tie.Need-put_report-requires
+put-report-requires-2 c κs = c.requires c.args.out.now c.if-out-lt-MAX_REPORT.false
 
-same-length-2 : tie.Need-same-length-2
+same-length-2 : tie.Need-shape_of-out
 same-length-2 c = search rules
 
-returns-2 : tie.Need-returns-2
-returns-2 c = wrote-all c.before.before.put-report2.ensures (same-length-2 c)
+returns-2 : tie.Need-returns
+returns-2 c = wrote-all c.put_report.ensures (same-length-2 c)
 
-pub fit-report-spec : {M : Type 1} → statement M
-fit-report-spec =
+pub fit_report_spec : {M : Type 1} → statement M
+fit_report_spec =
     tie.close
     (tie.spec (λ c κs. search rules) slice-aggregate-put-report put-report-requires array-share-prefix-room slice-aggregate-fit
     (λ c κs. search rules) (λ c. search rules) returns put-report-requires-2 same-length-2 returns-2)

@@ -9,18 +9,18 @@ use Rattle.sheet_load.proofs.load.load.Tie as tie
 
 own-requires : tie.Need-own-requires
 own-requires c κs =
-    let a = c.before.before.before.before.before.before.before.args in
-    (read-accepted a.text.now c.before.before.before.before.before.read.result _ _ c.before.before.before.before.before.read.ensures c.before.before.answer.given.1).stored.vertices
+    let a = c.args in
+    (read-accepted a.text.now c.read-r.result _ _ c.read-r.ensures c.in-Accepted.is).stored.vertices
 
-returns : tie.Need-returns
+returns : tie.Need-returns-in-Accepted
 returns c =
-    let a = c.before.before.before.before.before.before.before.before.args in
-    leaves _ (load-accepted a.sheet a.text.now c.before.before.before.before.before.before.read.result c.before.before.before.before.before.before.read.ensures _ _ c.before.before.before.answer.given.1) (rw (c.before.empty.ensures, c.own.ensures))
+    let a = c.args in
+    leaves _ (load-accepted a.sheet a.text.now c.read-r.result c.read-r.ensures _ _ c.in-Accepted.is) (rw (c.empty.ensures, c.own.ensures))
 
-returns-2 : tie.Need-returns-2
+returns-2 : tie.Need-returns-in-Refused
 returns-2 c =
-    let a = c.before.before.before.before.before.before.args in
-    leaves _ (load-refused a.sheet a.text.now c.before.before.before.before.read.result c.before.before.before.before.read.ensures _ c.before.answer2.given.1) refl
+    let a = c.args in
+    leaves _ (load-refused a.sheet a.text.now c.read-r.result c.read-r.ensures _ c.in-Refused.is) refl
 
 pub load_spec : {M : Type 1} → statement M
 load_spec =

@@ -6,16 +6,16 @@ use Rattle.sheet_load.proofs.LoadLaws.{own-few, own-array}
 use Rattle.sheet_load.proofs.load.own.Statement.{statement}
 use Rattle.sheet_load.proofs.load.own.Tie as tie
 
-slice-aggregate-count-up : tie.Need-slice-aggregate-count-up
-slice-aggregate-count-up c = sym (length-take-le _ _ c.before.requires)
+slice-aggregate-count-up : tie.Need-slice_bounds-count_up-end
+slice-aggregate-count-up c = sym (length-take-le _ _ c.requires)
 
-count-up-requires : tie.Need-count-up-requires
-count-up-requires c κs = own-few _ _ c.before.requires c.before.requires
+count-up-requires : tie.Need-count_up-requires
+count-up-requires c κs = own-few _ _ c.requires c.requires
 
 returns : tie.Need-returns
-returns c = own-array _ c.before.before.before.args.v c.before.before.before.requires c.before.count-up.ensures
+returns c = own-array _ c.args.v c.requires c.count_up.ensures
 
-pub own-spec : {M : Type 1} → statement M
-own-spec =
+pub own_spec : {M : Type 1} → statement M
+own_spec =
     tie.close
     (tie.spec (λ c. search rules) slice-aggregate-count-up count-up-requires returns)

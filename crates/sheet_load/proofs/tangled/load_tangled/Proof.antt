@@ -6,17 +6,17 @@ use Rattle.sheet_load.proofs.LoadLaws.{tangled-accepted, tangled-refused}
 use Rattle.sheet_load.proofs.tangled.load_tangled.Statement.{statement}
 use Rattle.sheet_load.proofs.tangled.load_tangled.Tie as tie
 
-returns : tie.Need-returns
+returns : tie.Need-returns-in-Accepted
 returns c =
-    let a = c.before.before.before.before.before.before.before.before.args in
-    leaves _ (tangled-accepted a.sheet a.text.now c.before.before.before.before.before.before.read-tangled.result c.before.before.before.before.before.before.read-tangled.ensures _ _ c.before.before.answer.given.1) (rw c.empty.ensures)
+    let a = c.args in
+    leaves _ (tangled-accepted a.sheet a.text.now c.read_tangled-r.result c.read_tangled-r.ensures _ _ c.in-Accepted.is) (rw c.empty.ensures)
 
-returns-2 : tie.Need-returns-2
+returns-2 : tie.Need-returns-in-Refused
 returns-2 c =
-    let a = c.before.before.before.before.before.before.before.args in
-    leaves _ (tangled-refused a.sheet a.text.now c.before.before.before.before.before.read-tangled.result c.before.before.before.before.before.read-tangled.ensures _ c.before.answer2.given.1) refl
+    let a = c.args in
+    leaves _ (tangled-refused a.sheet a.text.now c.read_tangled-r.result c.read_tangled-r.ensures _ c.in-Refused.is) refl
 
-pub load-tangled-spec : {M : Type 1} → statement M
-load-tangled-spec =
+pub load_tangled_spec : {M : Type 1} → statement M
+load_tangled_spec =
     tie.close
     (tie.spec (λ c κs. search rules) (λ c. search rules) (λ c κs. search rules) (λ c. search rules) returns returns-2)

@@ -11,23 +11,23 @@ use Rattle.sheet_show.proofs.all_marks.marks.Tie as tie
 plan-arrays : (c : tie.Start) → PlanArrays c.args.sheet.plan
 plan-arrays c = record { sizes = search rules; vias = search rules; halves = search rules; uppers = search rules; lowers = search rules; ratings = search rules }
 
-returns : tie.Need-returns
+returns : tie.Need-returns-then-refused-ne0
 returns c =
-    let a = c.before.before.before.before.before.before.before.args in
+    let a = c.args in
     writes-marks a.sheet a.out.now (plan-arrays c.before.before.before.before.before.before.before)
-    (writes (marks-refused a.sheet c.before.show-refusal.result c.before.show-refusal.ensures c.if1.true a.out.now) (record { answered = refl; left = refl }))
+    (writes (marks-refused a.sheet c.show_refusal-refused.result c.show_refusal-refused.ensures c.if-refused-ne0.true a.out.now) (record { answered = refl; left = refl }))
 
-marks-of-requires : tie.Need-marks-of-requires
+marks-of-requires : tie.Need-marks_of-requires
 marks-of-requires c κs =
-    rw c.before.counts-in.ensures (holds c.before.before.before.before.before.before.before.before.before.args.sheet c.before.before.before.show-refusal.result c.before.before.before.show-refusal.ensures c.before.before.if1.false)
+    rw c.counts_in.ensures (holds c.args.sheet c.show_refusal-refused.result c.show_refusal-refused.ensures c.if-refused-ne0.false)
 
-returns-2 : tie.Need-returns-2
+returns-2 : tie.Need-returns
 returns-2 c =
-    let a = c.before.before.before.before.before.before.before.before.before.before.before.before.args in
+    let a = c.args in
     writes-marks a.sheet a.out.now (plan-arrays c.before.before.before.before.before.before.before.before.before.before.before.before)
-    (writes (marks-shown a.sheet c.before.before.before.before.before.before.show-refusal.result c.before.before.before.before.before.before.show-refusal.ensures c.before.before.before.before.before.if1.false a.out.now) (rw c.before.before.before.before.counts-in.ensures at c.before.before.marks-of.ensures))
+    (writes (marks-shown a.sheet c.show_refusal-refused.result c.show_refusal-refused.ensures c.if-refused-ne0.false a.out.now) (rw c.counts_in.ensures at c.marks_of.ensures))
 
-pub marks-spec : {M : Type 1} → statement M
-marks-spec =
+pub marks_spec : {M : Type 1} → statement M
+marks_spec =
     tie.close
     (tie.spec (λ c κs. search rules) returns (λ c κs. search rules) marks-of-requires (λ c. search rules) returns-2)

@@ -29,56 +29,56 @@ of-plan c = in-plan c.args.plan c.args.drawing c.args.counts c.requires (plan-ar
 of-drawing : (c : tie.Start) → DrawingCut c.args.drawing c.args.counts
 of-drawing c = in-drawing c.args.plan c.args.drawing c.args.counts c.requires (plan-arrays c) (drawing-arrays c)
 
-array-share-prefix-sizes : tie.Need-array-share-prefix-sizes
-array-share-prefix-sizes c = omega (arith, (of-plan c.before.before.before.before.before.before.before.before).sizes, c.before.before.before.before.before.before.wide.ensures)
+array-share-prefix-sizes : tie.Need-slice_bounds-sizes-end
+array-share-prefix-sizes c = omega (arith, (of-plan c.before.before.before.before.before.before.before.before).sizes, c.wide-k.ensures)
 
-slice-aggregate-fit-marks : tie.Need-slice-aggregate-fit-marks
-slice-aggregate-fit-marks c = sym (length-take-le _ _ (omega (arith, (of-plan c.before.before.before.before.before.before.before.before.before).sizes, c.before.before.before.before.before.before.before.wide.ensures)))
+slice-aggregate-fit-marks : tie.Need-slice_bounds-fit_marks-end
+slice-aggregate-fit-marks c = sym (length-take-le _ _ (omega (arith, (of-plan c.before.before.before.before.before.before.before.before.before).sizes, c.wide-k.ensures)))
 
-array-share-prefix-vias : tie.Need-array-share-prefix-vias
+array-share-prefix-vias : tie.Need-slice_bounds-vias-end
 array-share-prefix-vias c = (of-plan c.before.before.before.before.before.before.before.before.before).vias
 
-slice-aggregate-fit-marks-2 : tie.Need-slice-aggregate-fit-marks-2
+slice-aggregate-fit-marks-2 : tie.Need-slice_bounds-fit_marks-end-2
 slice-aggregate-fit-marks-2 c = sym (length-take-le _ _ (of-plan c.before.before.before.before.before.before.before.before.before.before).vias)
 
-array-share-prefix-halves : tie.Need-array-share-prefix-halves
+array-share-prefix-halves : tie.Need-slice_bounds-halves-end
 array-share-prefix-halves c = (of-plan c.before.before.before.before.before.before.before.before.before.before).halves
 
-slice-aggregate-fit-marks-3 : tie.Need-slice-aggregate-fit-marks-3
+slice-aggregate-fit-marks-3 : tie.Need-slice_bounds-fit_marks-end-3
 slice-aggregate-fit-marks-3 c = sym (length-take-le _ _ (of-plan c.before.before.before.before.before.before.before.before.before.before.before).halves)
 
-array-share-prefix-uppers : tie.Need-array-share-prefix-uppers
+array-share-prefix-uppers : tie.Need-slice_bounds-uppers-end
 array-share-prefix-uppers c = (of-plan c.before.before.before.before.before.before.before.before.before.before.before).uppers
 
-slice-aggregate-fit-marks-4 : tie.Need-slice-aggregate-fit-marks-4
+slice-aggregate-fit-marks-4 : tie.Need-slice_bounds-fit_marks-end-4
 slice-aggregate-fit-marks-4 c = sym (length-take-le _ _ (of-plan c.before.before.before.before.before.before.before.before.before.before.before.before).uppers)
 
-array-share-prefix-lowers : tie.Need-array-share-prefix-lowers
+array-share-prefix-lowers : tie.Need-slice_bounds-lowers-end
 array-share-prefix-lowers c = (of-plan c.before.before.before.before.before.before.before.before.before.before.before.before).lowers
 
-slice-aggregate-fit-marks-5 : tie.Need-slice-aggregate-fit-marks-5
+slice-aggregate-fit-marks-5 : tie.Need-slice_bounds-fit_marks-end-5
 slice-aggregate-fit-marks-5 c = sym (length-take-le _ _ (of-plan c.before.before.before.before.before.before.before.before.before.before.before.before.before).lowers)
 
-array-share-prefix-finals : tie.Need-array-share-prefix-finals
+array-share-prefix-finals : tie.Need-slice_bounds-finals-end
 array-share-prefix-finals c = (of-drawing c.before.before.before.before.before.before.before.before.before.before.before.before.before).finals
 
-slice-aggregate-fit-marks-6 : tie.Need-slice-aggregate-fit-marks-6
+slice-aggregate-fit-marks-6 : tie.Need-slice_bounds-fit_marks-end-6
 slice-aggregate-fit-marks-6 c = sym (length-take-le _ _ (of-drawing c.before.before.before.before.before.before.before.before.before.before.before.before.before.before).finals)
 
-fit-marks-requires : tie.Need-fit-marks-requires
+fit-marks-requires : tie.Need-fit_marks-requires
 fit-marks-requires c κs =
     let s = c.before.before.before.before.before.before.before.before.before.before.before.before.before.before.before in
     let a = s.args in
-    rw c.before.before.before.before.before.before.before.before.before.before.before.before.before.wide.ensures (marks-asked a.plan a.drawing a.counts s.requires (plan-arrays s) (drawing-arrays s))
+    rw c.wide-k.ensures (marks-asked a.plan a.drawing a.counts s.requires (plan-arrays s) (drawing-arrays s))
 
 returns : tie.Need-returns
 returns c =
     let s = c.before.before.before.before.before.before.before.before.before.before.before.before.before.before.before.before.before.before in
     let a = s.args in
-    rw (← marks-are a.plan a.counts s.requires.plan (plan-arrays s)) (c.before.before.fit-marks.ensures (plan_with a.plan a.counts) (rw c.before.before.before.before.before.before.before.before.before.before.before.before.before.before.before.before.wide.ensures (mark-data a.plan a.drawing a.counts s.requires)))
+    rw (← marks-are a.plan a.counts s.requires.plan (plan-arrays s)) (c.fit_marks.ensures (plan_with a.plan a.counts) (rw c.wide-k.ensures (mark-data a.plan a.drawing a.counts s.requires)))
 
-pub marks-of-spec : {M : Type 1} → statement M
-marks-of-spec =
+pub marks_of_spec : {M : Type 1} → statement M
+marks_of_spec =
     tie.close
     (tie.spec (λ c κs. search rules) array-share-prefix-sizes slice-aggregate-fit-marks array-share-prefix-vias
     slice-aggregate-fit-marks-2 array-share-prefix-halves slice-aggregate-fit-marks-3 array-share-prefix-uppers

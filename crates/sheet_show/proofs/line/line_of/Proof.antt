@@ -14,30 +14,30 @@ use Rattle.sheet_show.proofs.line.line_of.Tie as tie
 counts : (c : tie.Start) → Few c.args.plan c.args.drawing c.args.counts c.requires.0
 counts c = few c.args.plan c.args.drawing c.args.counts c.requires.0
 
-add-if1 : tie.Need-overflow-add-if1
+add-if1 : tie.Need-overflow_add-counts
 add-if1 c = let f = counts c.before.before in omega arith
 
-add-if1-2 : tie.Need-overflow-add-if1-2
+add-if1-2 : tie.Need-overflow_add-counts-2
 add-if1-2 c = let f = counts c.before.before in omega arith
 
-returns : tie.Need-returns
+returns : tie.Need-returns-then-n-counts
 returns c =
-    let a = c.before.before.before.args in
-    writes (no_line a.plan a.drawing a.counts a.n a.remembered a.out.now c.if1.true) (record { answered = refl; left = refl })
+    let a = c.args in
+    writes (no_line a.plan a.drawing a.counts a.n a.remembered a.out.now c.if-n-counts.true) (record { answered = refl; left = refl })
 
-array-share-prefix-room : tie.Need-array-share-prefix-room
-array-share-prefix-room c = front_long c.before.put-line.ensures
+array-share-prefix-room : tie.Need-slice_bounds-room-end
+array-share-prefix-room c = front_long c.put_line-length.ensures
 
-slice-aggregate-fit : tie.Need-slice-aggregate-fit
-slice-aggregate-fit c = sym (length-take-le _ _ (front_long c.before.before.put-line.ensures))
+slice-aggregate-fit : tie.Need-slice_bounds-fit-end
+slice-aggregate-fit c = sym (length-take-le _ _ (front_long c.put_line-length.ensures))
 
-returns-2 : tie.Need-returns-2
+returns-2 : tie.Need-returns
 returns-2 c =
-    let a = c.before.before.before.before.before.before.before.before.before.before.before.args in
-    writes (a-line a.plan a.drawing a.counts a.n a.remembered a.out.now c.before.before.before.before.before.before.before.before.if1.false) (rw (front-is {w = line_with a.plan a.remembered a.drawing a.counts a.n} c.before.before.before.before.before.before.put-line.ensures) at c.before.before.fit.ensures)
+    let a = c.args in
+    writes (a-line a.plan a.drawing a.counts a.n a.remembered a.out.now c.if-n-counts.false) (rw (front-is {w = line_with a.plan a.remembered a.drawing a.counts a.n} c.put_line-length.ensures) at c.fit.ensures)
 
-pub line-of-spec : {M : Type 1} → statement M
-line-of-spec =
+pub line_of_spec : {M : Type 1} → statement M
+line_of_spec =
     tie.close
     (tie.spec add-if1 add-if1-2 returns (λ c. search rules) (λ c κs. search rules) array-share-prefix-room slice-aggregate-fit
     (λ c κs. search rules) (λ c. search rules) returns-2)

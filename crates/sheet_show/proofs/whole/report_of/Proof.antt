@@ -34,74 +34,74 @@ of-plan c = in-plan c.args.plan c.args.drawing c.args.counts c.requires.0 (plan-
 of-drawing : (c : tie.Start) → DrawingCut c.args.drawing c.args.counts
 of-drawing c = in-drawing c.args.plan c.args.drawing c.args.counts c.requires.0 (plan-arrays c) (drawing-arrays c)
 
-numbers_long : (c : tie.Start) → length c.args.t2 ≡ max_vertices
+numbers_long : (c : tie.Start) → length c.args.remembered ≡ max_vertices
 numbers_long c = search rules
 
-array-share-prefix-remembered : tie.Need-array-share-prefix-remembered
+array-share-prefix-remembered : tie.Need-slice_bounds-remembered-end
 array-share-prefix-remembered c = omega (arith, (of-plan c.before.before.before.before.before.before.before.before.before.before).few, numbers_long c.before.before.before.before.before.before.before.before.before.before)
 
-slice-aggregate-fit-report-by : tie.Need-slice-aggregate-fit-report-by
+slice-aggregate-fit-report-by : tie.Need-slice_bounds-fit_report_by-end
 slice-aggregate-fit-report-by c = sym (length-take-le _ _ (omega (arith, (of-plan c.before.before.before.before.before.before.before.before.before.before.before).few, numbers_long c.before.before.before.before.before.before.before.before.before.before.before)))
 
-array-share-prefix-sizes : tie.Need-array-share-prefix-sizes
-array-share-prefix-sizes c = omega (arith, (of-plan c.before.before.before.before.before.before.before.before.before.before.before).sizes, c.before.before.before.before.before.before.before.before.before.wide.ensures)
+array-share-prefix-sizes : tie.Need-slice_bounds-sizes-end
+array-share-prefix-sizes c = omega (arith, (of-plan c.before.before.before.before.before.before.before.before.before.before.before).sizes, c.wide-k.ensures)
 
-slice-aggregate-fit-report-by-2 : tie.Need-slice-aggregate-fit-report-by-2
-slice-aggregate-fit-report-by-2 c = sym (length-take-le _ _ (omega (arith, (of-plan c.before.before.before.before.before.before.before.before.before.before.before.before).sizes, c.before.before.before.before.before.before.before.before.before.before.wide.ensures)))
+slice-aggregate-fit-report-by-2 : tie.Need-slice_bounds-fit_report_by-end-2
+slice-aggregate-fit-report-by-2 c = sym (length-take-le _ _ (omega (arith, (of-plan c.before.before.before.before.before.before.before.before.before.before.before.before).sizes, c.wide-k.ensures)))
 
-array-share-prefix-preliminary : tie.Need-array-share-prefix-preliminary
+array-share-prefix-preliminary : tie.Need-slice_bounds-preliminary-end
 array-share-prefix-preliminary c = (of-drawing c.before.before.before.before.before.before.before.before.before.before.before.before).preliminary
 
-slice-aggregate-fit-report-by-3 : tie.Need-slice-aggregate-fit-report-by-3
+slice-aggregate-fit-report-by-3 : tie.Need-slice_bounds-fit_report_by-end-3
 slice-aggregate-fit-report-by-3 c = sym (length-take-le _ _ (of-drawing c.before.before.before.before.before.before.before.before.before.before.before.before.before).preliminary)
 
-array-share-prefix-finals : tie.Need-array-share-prefix-finals
+array-share-prefix-finals : tie.Need-slice_bounds-finals-end
 array-share-prefix-finals c = (of-drawing c.before.before.before.before.before.before.before.before.before.before.before.before.before).finals
 
-slice-aggregate-fit-report-by-4 : tie.Need-slice-aggregate-fit-report-by-4
+slice-aggregate-fit-report-by-4 : tie.Need-slice_bounds-fit_report_by-end-4
 slice-aggregate-fit-report-by-4 c = sym (length-take-le _ _ (of-drawing c.before.before.before.before.before.before.before.before.before.before.before.before.before.before).finals)
 
-array-share-prefix-passes : tie.Need-array-share-prefix-passes
+array-share-prefix-passes : tie.Need-slice_bounds-passes-end
 array-share-prefix-passes c = (of-drawing c.before.before.before.before.before.before.before.before.before.before.before.before.before.before).passes
 
-slice-aggregate-fit-report-by-5 : tie.Need-slice-aggregate-fit-report-by-5
+slice-aggregate-fit-report-by-5 : tie.Need-slice_bounds-fit_report_by-end-5
 slice-aggregate-fit-report-by-5 c = sym (length-take-le _ _ (of-drawing c.before.before.before.before.before.before.before.before.before.before.before.before.before.before.before).passes)
 
-array-share-prefix-levels : tie.Need-array-share-prefix-levels
+array-share-prefix-levels : tie.Need-slice_bounds-levels-end
 array-share-prefix-levels c = (of-drawing c.before.before.before.before.before.before.before.before.before.before.before.before.before.before.before).levels
 
-slice-aggregate-fit-report-by-6 : tie.Need-slice-aggregate-fit-report-by-6
+slice-aggregate-fit-report-by-6 : tie.Need-slice_bounds-fit_report_by-end-6
 slice-aggregate-fit-report-by-6 c = sym (length-take-le _ _ (of-drawing c.before.before.before.before.before.before.before.before.before.before.before.before.before.before.before.before).levels)
 
-array-share-prefix-boxes : tie.Need-array-share-prefix-boxes
+array-share-prefix-boxes : tie.Need-slice_bounds-boxes-end
 array-share-prefix-boxes c = (of-drawing c.before.before.before.before.before.before.before.before.before.before.before.before.before.before.before.before).counts
 
-slice-aggregate-fit-report-by-7 : tie.Need-slice-aggregate-fit-report-by-7
+slice-aggregate-fit-report-by-7 : tie.Need-slice_bounds-fit_report_by-end-7
 slice-aggregate-fit-report-by-7 c = sym (length-take-le _ _ (of-drawing c.before.before.before.before.before.before.before.before.before.before.before.before.before.before.before.before.before).counts)
 
-slice-aggregate-fit-report-by-8 : tie.Need-slice-aggregate-fit-report-by-8
+slice-aggregate-fit-report-by-8 : tie.Need-slice_bounds-fit_report_by-end-8
 slice-aggregate-fit-report-by-8 c = sym (drawing-arrays c.before.before.before.before.before.before.before.before.before.before.before.before.before.before.before.before.before.before).vertices
 
-slice-aggregate-fit-report-by-9 : tie.Need-slice-aggregate-fit-report-by-9
+slice-aggregate-fit-report-by-9 : tie.Need-slice_bounds-fit_report_by-end-9
 slice-aggregate-fit-report-by-9 c = sym (drawing-arrays c.before.before.before.before.before.before.before.before.before.before.before.before.before.before.before.before.before.before.before).positions
 
-fit-report-by-requires : tie.Need-fit-report-by-requires
+fit-report-by-requires : tie.Need-fit_report_by-requires
 fit-report-by-requires c κs =
     let s = c.before.before.before.before.before.before.before.before.before.before.before.before.before.before.before.before.before.before.before.before in
     let a = s.args in
-    rw c.before.before.before.before.before.before.before.before.before.before.before.before.before.before.before.before.before.before.wide.ensures (λ o k. report-asked-by a.plan a.drawing a.counts s.requires.0 (plan-arrays s) (drawing-arrays s) (numbers_in a.t2 a.counts) s.requires.1 k)
+    rw c.wide-k.ensures (λ o k. report-asked-by a.plan a.drawing a.counts s.requires.0 (plan-arrays s) (drawing-arrays s) (numbers_in a.remembered a.counts) s.requires.1 k)
 
-same_length : tie.Need-same-length
-same_length c = c.before.before.fit-report-by.auto.1.1.1.1.1.1.1.1.1.1.0
+same_length : tie.Need-shape_of-out
+same_length c = c.fit_report_by.auto.out
 
 returns : tie.Need-returns
 returns c =
     let s = c.before.before.before.before.before.before.before.before.before.before.before.before.before.before.before.before.before.before.before.before.before.before.before in
     let a = s.args in
-    writes (ap (λ w. fitted_text w a.out.now) (report-same-by a.plan a.drawing a.counts s.requires.0 (plan-arrays s) (drawing-arrays s) (numbers_in a.t2 a.counts) s.requires.1)) (rw c.before.before.before.before.before.before.before.before.before.before.before.before.before.before.before.before.before.before.before.before.before.wide.ensures at c.before.before.fit-report-by.ensures)
+    writes (ap (λ w. fitted_text w a.out.now) (report-same-by a.plan a.drawing a.counts s.requires.0 (plan-arrays s) (drawing-arrays s) (numbers_in a.remembered a.counts) s.requires.1)) (rw c.wide-k.ensures at c.fit_report_by.ensures)
 
-pub report-of-spec : {M : Type 1} → statement M
-report-of-spec =
+pub report_of_spec : {M : Type 1} → statement M
+report_of_spec =
     tie.close
     (tie.spec (λ c κs. search rules) array-share-prefix-remembered slice-aggregate-fit-report-by array-share-prefix-sizes slice-aggregate-fit-report-by-2 array-share-prefix-preliminary
     slice-aggregate-fit-report-by-3 array-share-prefix-finals slice-aggregate-fit-report-by-4 array-share-prefix-passes

@@ -6,23 +6,23 @@ use Rattle.sheet_text.proofs.TextLaws.{holds, line_refused, line-shown}
 use Rattle.sheet_text.proofs.line.text_line.Statement.{statement}
 use Rattle.sheet_text.proofs.line.text_line.Tie as tie
 
-returns : tie.Need-returns
+returns : tie.Need-returns-then-refused-ne0
 returns c =
-    let a = c.before.before.before.before.before.before.args in
-    writes (line_refused a.sheet c.before.text-refusal.result c.before.text-refusal.ensures c.if1.true a.n a.out.now) (record { answered = refl; left = refl })
+    let a = c.args in
+    writes (line_refused a.sheet c.text_refusal-refused.result c.text_refusal-refused.ensures c.if-refused-ne0.true a.n a.out.now) (record { answered = refl; left = refl })
 
-text-line-of-requires : tie.Need-text-line-of-requires
+text-line-of-requires : tie.Need-text_line_of-requires
 text-line-of-requires c κs =
-    let r = c.before.before.before.text-refusal in
-    rw c.before.counts-in.ensures (holds c.before.before.before.before.before.before.before.before.args.sheet r.result r.ensures c.before.before.if1.false)
+    let r = c.text_refusal-refused in
+    rw c.counts_in.ensures (holds c.args.sheet r.result r.ensures c.if-refused-ne0.false)
 
-returns-2 : tie.Need-returns-2
+returns-2 : tie.Need-returns
 returns-2 c =
-    let a = c.before.before.before.before.before.before.before.before.before.before.before.args in
-    let r = c.before.before.before.before.before.before.text-refusal in
-    writes (line-shown a.sheet r.result r.ensures c.before.before.before.before.before.if1.false a.n a.out.now) (rw c.before.before.before.before.counts-in.ensures at c.before.before.text-line-of.ensures)
+    let a = c.args in
+    let r = c.text_refusal-refused in
+    writes (line-shown a.sheet r.result r.ensures c.if-refused-ne0.false a.n a.out.now) (rw c.counts_in.ensures at c.text_line_of.ensures)
 
-pub text-line-spec : {M : Type 1} → statement M
-text-line-spec =
+pub text_line_spec : {M : Type 1} → statement M
+text_line_spec =
     tie.close
     (tie.spec (λ c κs. search rules) returns (λ c κs. search rules) text-line-of-requires (λ c. search rules) returns-2)

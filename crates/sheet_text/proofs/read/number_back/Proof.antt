@@ -16,47 +16,47 @@ use Rattle.sheet_text.proofs.read.number_back.Tie as tie
 abbrev beyond : tie.Start → List ℕ
 beyond s = drop (length s.args.remembered.now) (replicate max_vertices 0)
 
-slice-aggregate-invert : tie.Need-slice-aggregate-invert
-slice-aggregate-invert c = sym (length-take-le _ _ c.before.before.before.before.before.before.before.requires.few)
+slice-aggregate-invert : tie.Need-slice_bounds-invert-end
+slice-aggregate-invert c = sym (length-take-le _ _ c.requires.few)
 
 invert-requires : tie.Need-invert-requires
-invert-requires c κs = let n = c.before.before.before.before.before.before.before.requires in record { few = n.few; long = length-take-le _ _ n.few; once = n.once }
+invert-requires c κs = let n = c.requires in record { few = n.few; long = length-take-le _ _ n.few; once = n.once }
 
-array-share-prefix-m : tie.Need-array-share-prefix-m
+array-share-prefix-m : tie.Need-slice_bounds-m-end-2
 array-share-prefix-m c =
-    front-reach c.before.invert.new.1.0 (beyond c.before.before.before.before.before.before.before.before.before) _ (inverse-many c.before.before.before.before.before.before.before.before.before.requires c.before.invert.ensures)
+    front-reach c.invert.new.places (beyond c.before.before.before.before.before.before.before.before.before) _ (inverse-many c.requires c.invert.ensures)
 
-slice-aggregate-renumber : tie.Need-slice-aggregate-renumber
+slice-aggregate-renumber : tie.Need-slice_bounds-renumber-end
 slice-aggregate-renumber c =
-    front-many c.before.before.invert.new.1.0 (beyond c.before.before.before.before.before.before.before.before.before.before) _ (inverse-many c.before.before.before.before.before.before.before.before.before.before.requires c.before.before.invert.ensures)
+    front-many c.invert.new.places (beyond c.before.before.before.before.before.before.before.before.before.before) _ (inverse-many c.requires c.invert.ensures)
 
-slice-aggregate-renumber-2 : tie.Need-slice-aggregate-renumber-2
-slice-aggregate-renumber-2 c = sym (length-take-le _ _ c.before.before.before.before.before.before.before.before.before.before.before.before.before.before.before.before.requires.few)
+slice-aggregate-renumber-2 : tie.Need-slice_bounds-renumber-end-2
+slice-aggregate-renumber-2 c = sym (length-take-le _ _ c.requires.few)
 
-slice-aggregate-renumber-3 : tie.Need-slice-aggregate-renumber-3
-slice-aggregate-renumber-3 c = sym (length-take-le _ _ c.before.before.before.before.before.before.before.before.before.before.before.before.before.before.before.before.before.requires.few)
+slice-aggregate-renumber-3 : tie.Need-slice_bounds-renumber-end-3
+slice-aggregate-renumber-3 c = sym (length-take-le _ _ c.requires.few)
 
-slice-aggregate-renumber-4 : tie.Need-slice-aggregate-renumber-4
-slice-aggregate-renumber-4 c = sym (length-take-le _ _ c.before.before.before.before.before.before.before.before.before.before.before.before.before.before.before.before.before.before.requires.few)
+slice-aggregate-renumber-4 : tie.Need-slice_bounds-renumber-end-4
+slice-aggregate-renumber-4 c = sym (length-take-le _ _ c.requires.few)
 
-slice-aggregate-renumber-5 : tie.Need-slice-aggregate-renumber-5
-slice-aggregate-renumber-5 c = sym (length-take-le _ _ c.before.before.before.before.before.before.before.before.before.before.before.before.before.before.before.before.before.before.before.requires.segments)
+slice-aggregate-renumber-5 : tie.Need-slice_bounds-renumber-end-5
+slice-aggregate-renumber-5 c = sym (length-take-le _ _ c.requires.segments)
 
 renumber-requires : tie.Need-renumber-requires
 renumber-requires c κs =
-    let n = c.before.before.before.before.before.before.before.before.before.before.before.before.before.before.before.before.before.before.before.requires in
-    let inverted = c.before.before.before.before.before.before.before.before.before.before.before.invert.ensures in
+    let n = c.requires in
+    let inverted = c.invert.ensures in
     renumberable n (length-take-le _ _ n.few) (length-take-le _ _ n.few) (length-take-le _ _ n.few) (length-take-le _ _ n.segments) _
     (take_at _ _ _ (inverse-many n inverted) ∙ inverted)
 
 returns : tie.Need-returns
 returns c p l =
-    let inverted = c.before.before.before.before.before.before.before.before.before.before.before.before.before.before.before.before.before.before.before.before.before.before.before.before.before.before.invert.ensures in
-    let out = c.before.before.before.before.before.before.before.before.before.before.before.before.before.before.renumber.new.1 in
-    by_front (λ m. Lists (renumbered p m) out.0 out.1.0 out.1.1.0 out.1.1.1.0 out.1.1.1.1.0) (beyond c.before.before.before.before.before.before.before.before.before.before.before.before.before.before.before.before.before.before.before.before.before.before.before.before.before.before.before.before.before.before.before.before.before.before) (inverse-many c.before.before.before.before.before.before.before.before.before.before.before.before.before.before.before.before.before.before.before.before.before.before.before.before.before.before.before.before.before.before.before.before.before.before.requires inverted) inverted (c.before.before.before.before.before.before.before.before.before.before.before.before.before.before.renumber.ensures p l)
+    let inverted = c.invert.ensures in
+    let out = c.renumber.new in
+    by_front (λ m. Lists (renumbered p m) out.vias out.halves out.uppers out.lowers out.ratings) (beyond c.before.before.before.before.before.before.before.before.before.before.before.before.before.before.before.before.before.before.before.before.before.before.before.before.before.before.before.before.before.before.before.before.before.before) (inverse-many c.requires inverted) inverted (c.renumber.ensures p l)
 
-pub number-back-spec : {M : Type 1} → statement M
-number-back-spec =
+pub number_back_spec : {M : Type 1} → statement M
+number_back_spec =
     tie.close
     (tie.spec (λ c. search rules) slice-aggregate-invert invert-requires array-share-prefix-m slice-aggregate-renumber (λ c. search rules)
     slice-aggregate-renumber-2 (λ c. search rules) slice-aggregate-renumber-3 (λ c. search rules) slice-aggregate-renumber-4

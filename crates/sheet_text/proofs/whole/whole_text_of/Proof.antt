@@ -13,24 +13,24 @@ use Rattle.sheet_text.proofs.whole.whole_text_of.Tie as tie
 
 returns : tie.Need-returns
 returns c =
-    let r = c.before.before.before.before.before.before.before.before.as_read in
-    let text = front-is {w = text_of (plan_with r.result c.before.before.before.before.before.before.before.before.before.before.args.counts)} c.before.before.before.before.before.before.stored-text.ensures ∙ ap text_of r.ensures.is in
-    rw text at c.before.before.fit.ensures
+    let r = c.as_read-read in
+    let text = front-is {w = text_of (plan_with r.result c.args.counts)} c.stored_text-length.ensures ∙ ap text_of r.ensures.is in
+    rw text at c.fit.ensures
 
-stored-text-requires : tie.Need-stored-text-requires
+stored-text-requires : tie.Need-stored_text-length-requires
 stored-text-requires c κs =
-    let r = c.before.as_read in
+    let r = c.as_read-read in
     let is = r.ensures in
-    (is.limits, rw length-replicate (limits-short (plan_with r.result c.before.before.before.args.counts) is.limits.plan is.three))
+    (is.limits, rw length-replicate (limits-short (plan_with r.result c.args.counts) is.limits.plan is.three))
 
-array-share-prefix-room : tie.Need-array-share-prefix-room
-array-share-prefix-room c = front_long c.before.stored-text.ensures
+array-share-prefix-room : tie.Need-slice_bounds-room-end
+array-share-prefix-room c = front_long c.stored_text-length.ensures
 
-slice-aggregate-fit : tie.Need-slice-aggregate-fit
-slice-aggregate-fit c = sym (length-take-le _ _ (front_long c.before.before.stored-text.ensures))
+slice-aggregate-fit : tie.Need-slice_bounds-fit-end
+slice-aggregate-fit c = sym (length-take-le _ _ (front_long c.stored_text-length.ensures))
 
-pub whole-text-of-spec : {M : Type 1} → statement M
-whole-text-of-spec =
+pub whole_text_of_spec : {M : Type 1} → statement M
+whole_text_of_spec =
     tie.close
     (tie.spec (λ c κs. search rules) (λ c. search rules) stored-text-requires array-share-prefix-room slice-aggregate-fit (λ c κs. search rules)
     (λ c. search rules) returns)

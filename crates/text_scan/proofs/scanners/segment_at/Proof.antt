@@ -45,7 +45,6 @@ returns-4 c =
       onward = never;
     }
 
-
 returns-5 : tie.Need-returns
 returns-5 c =
     let a = c.args in

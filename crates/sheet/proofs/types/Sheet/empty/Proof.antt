@@ -6,8 +6,8 @@ use Rattle.sheet.proofs.types.Sheet.empty.Tie as tie
 
 returns : tie.Need-returns
 unfolding empty_sheet
-returns c = rw (c.before.empty.ensures, c.empty2.ensures)
+returns c = rw (c.empty.ensures, c.empty-2.ensures)
 
-pub empty-spec : {M : Type 1} → statement M
-empty-spec = tie.close
+pub empty_spec : {M : Type 1} → statement M
+empty_spec = tie.close
     (tie.spec (λ c κs. search rules) (λ c κs. search rules) returns)
