@@ -5,33 +5,33 @@ use Rattle.script_calls.proofs.ReplyLines.{fitted, done-room, text-room, mark-ro
 use Rattle.script_calls.proofs.reply.say_reply.Statement.{statement}
 use Rattle.script_calls.proofs.reply.say_reply.Tie as tie
 
-say-done-requires : tie.Need-say-done-requires
-say-done-requires c κs = done-room c.before.before.before.before.before.requires
+say-done-requires : tie.Need-say_done-requires
+say-done-requires c κs = done-room c.requires
 
-say-front-requires : tie.Need-say-front-requires
-say-front-requires c κs = text-room c.before.before.before.before.before.before.requires c.before.before.reply.given.0.0
+say-front-requires : tie.Need-say_front-requires
+say-front-requires c κs = text-room c.requires c.in-Written.n
 
-say-mark-requires : tie.Need-say-mark-requires
-say-mark-requires c κs = mark-room c.before.before.before.before.before.before.requires _
+say-mark-requires : tie.Need-say_mark-requires
+say-mark-requires c κs = mark-room c.requires _
 
-say-refused-requires : tie.Need-say-refused-requires
-say-refused-requires c κs = refused-room c.before.before.before.before.before.before.requires c.before.before.reply3.given.0.0 (omega (arith, c.before.known-told3.given))
+say-refused-requires : tie.Need-say_refused-requires
+say-refused-requires c κs = refused-room c.requires c.in-Refused.n (omega (arith, c.in-Refused.known_told-in-Refused-1-own.given))
 
-returns : tie.Need-returns
-returns c = rw c.before.before.before.before.enum_told.given.1 (fitted (done-room c.before.before.before.before.before.before.before.before.requires) c.before.before.say-done.ensures)
+returns : tie.Need-returns-in-Done
+returns c = rw c.in-Done.is (fitted (done-room c.requires) c.say_done.ensures)
 
-returns-2 : tie.Need-returns-2
-returns-2 c = rw c.before.before.before.before.before.reply.given.1 (fitted (text-room c.before.before.before.before.before.before.before.before.before.requires c.before.before.before.before.before.reply.given.0.0) c.before.before.say-front.ensures)
+returns-2 : tie.Need-returns-in-Written
+returns-2 c = rw c.in-Written.is (fitted (text-room c.requires c.in-Written.n) c.say_front.ensures)
 
-returns-3 : tie.Need-returns-3
-returns-3 c = rw c.before.before.before.before.before.reply2.given.1 (fitted (mark-room c.before.before.before.before.before.before.before.before.before.requires _) c.before.before.say-mark.ensures)
+returns-3 : tie.Need-returns-in-Given
+returns-3 c = rw c.in-Given.is (fitted (mark-room c.requires _) c.say_mark.ensures)
 
-returns-4 : tie.Need-returns-4
+returns-4 : tie.Need-returns-in-Refused
 returns-4 c =
-    rw c.before.before.before.before.before.reply3.given.1
-    (fitted (refused-room c.before.before.before.before.before.before.before.before.before.requires c.before.before.before.before.before.reply3.given.0.0 (omega (arith, c.before.before.before.before.known-told3.given))) c.before.before.say-refused.ensures)
+    rw c.in-Refused.is
+    (fitted (refused-room c.requires c.in-Refused.n (omega (arith, c.in-Refused.known_told-in-Refused-1-own.given))) c.say_refused.ensures)
 
-pub say-reply-spec : {M : Type 1} → statement M
-say-reply-spec =
+pub say_reply_spec : {M : Type 1} → statement M
+say_reply_spec =
     tie.close
     (tie.spec (λ c. search rules) say-done-requires (λ c. search rules) say-front-requires (λ c. search rules) say-mark-requires (λ c. search rules) say-refused-requires (λ c. search rules) returns (λ c. search rules) returns-2 (λ c. search rules) returns-3 (λ c. search rules) returns-4)

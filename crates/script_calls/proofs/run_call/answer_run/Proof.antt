@@ -5,27 +5,27 @@ use Rattle.script_calls.proofs.RunLines.{positions-room, refused-room, placed-sa
 use Rattle.script_calls.proofs.run_call.answer_run.Statement.{statement}
 use Rattle.script_calls.proofs.run_call.answer_run.Tie as tie
 
-say-positions-requires : tie.Need-say-positions-requires
+say-positions-requires : tie.Need-say_positions-requires
 say-positions-requires c κs =
-    let s = c.before.before.before.before.before.before.before.before.before.before.before in let p = c.before.before.before.before.before.place-run in
-    positions-room _ s.args.answer.now s.args.out.now s.args.at c.before.before.enum_told.given.1 p.ensures p.auto.1.1.1.1.1.1.1.1.0 s.requires
+    let s = c in let p = c.place_run-outcome in
+    positions-room _ s.args.answer.now s.args.out.now s.args.at c.in-Accepted.is p.ensures p.auto.answer s.requires
 
-say-refused-requires : tie.Need-say-refused-requires
-say-refused-requires c κs = refused-room c.before.before.before.before.before.before.before.before.before.before.args.out.now c.before.before.before.before.before.before.before.before.before.before.args.at c.before.before.before.before.before.before.before.before.before.before.requires
+say-refused-requires : tie.Need-say_refused-requires
+say-refused-requires c κs = refused-room c.args.out.now c.args.at c.requires
 
-returns : tie.Need-returns
+returns : tie.Need-returns-in-Accepted
 returns c =
-    let s = c.before.before.before.before.before.before.before.before.before.before.before.before.before.before in let p = c.before.before.before.before.before.before.before.before.place-run in let e = c.before.before.before.before.before.enum_told.given.1 in
-    let room = positions-room _ s.args.answer.now s.args.out.now s.args.at e p.ensures p.auto.1.1.1.1.1.1.1.1.0 s.requires in
-    placed-said e p.ensures (fitted room c.before.before.say-positions.ensures)
+    let s = c in let p = c.place_run-outcome in let e = c.in-Accepted.is in
+    let room = positions-room _ s.args.answer.now s.args.out.now s.args.at e p.ensures p.auto.answer s.requires in
+    placed-said e p.ensures (fitted room c.say_positions.ensures)
 
-returns-2 : tie.Need-returns-2
+returns-2 : tie.Need-returns-in-Refused
 returns-2 c =
-    let s = c.before.before.before.before.before.before.before.before.before.before.before.before.before in
-    refused-said c.before.before.before.before.enum-told2.given.1 c.before.before.before.before.before.before.before.place-run.ensures
-    (fitted (refused-room s.args.out.now s.args.at s.requires) c.before.before.say-refused.ensures)
+    let s = c in
+    refused-said c.in-Refused.is c.place_run-outcome.ensures
+    (fitted (refused-room s.args.out.now s.args.at s.requires) c.say_refused.ensures)
 
-pub answer-run-spec : {M : Type 1} → statement M
-answer-run-spec =
+pub answer_run_spec : {M : Type 1} → statement M
+answer_run_spec =
     tie.close
     (tie.spec (λ c κs. search rules) (λ c. search rules) say-positions-requires (λ c. search rules) say-refused-requires (λ c. search rules) (λ c. search rules) returns (λ c. search rules) (λ c. search rules) returns-2)

@@ -7,32 +7,32 @@ use Rattle.script_told.proofs.Single.{fits}
 use Rattle.script_told.proofs.other.tell_stage.Statement.{statement}
 use Rattle.script_told.proofs.other.tell_stage.Tie as tie
 
-say-stage-requires : tie.Need-say-stage-requires
+say-stage-requires : tie.Need-say_stage-requires
 say-stage-requires c κs = omega arith
 
-say-stage-requires-2 : tie.Need-say-stage-requires-2
+say-stage-requires-2 : tie.Need-say_stage-requires-in-Loaded
 say-stage-requires-2 c κs = omega arith
 
-say-stage-requires-3 : tie.Need-say-stage-requires-3
+say-stage-requires-3 : tie.Need-say_stage-requires-in-Drawn
 say-stage-requires-3 c κs = omega arith
 
-returns : tie.Need-returns
-returns c = rw c.before.before.before.before.enum_told.given.1 (fits (stage Empty) c.before.before.before.before.before.before.before.args.out.now tt c.before.before.before.before.before.before.before.requires c.before.before.say-stage.ensures)
+returns : tie.Need-returns-in-Empty
+returns c = rw c.in-Empty.is (fits (stage Empty) c.args.out.now tt c.requires c.say_stage.ensures)
 
-returns-2 : tie.Need-returns-2
+returns-2 : tie.Need-returns-in-Loaded
 returns-2 c =
-    let v = c.before.before.before.before.before.stage.given.0 in
-    rw c.before.before.before.before.before.stage.given.1
-    (fits (stage (Loaded v.0 v.1.0)) c.before.before.before.before.before.before.before.before.args.out.now (omega arith, omega arith) c.before.before.before.before.before.before.before.before.requires c.before.before.say-stage2.ensures)
+    let v = c.in-Loaded in
+    rw c.in-Loaded.is
+    (fits (stage (Loaded v.v v.e)) c.args.out.now (omega arith, omega arith) c.requires c.say_stage-in-Loaded.ensures)
 
-returns-3 : tie.Need-returns-3
+returns-3 : tie.Need-returns-in-Drawn
 returns-3 c =
-    let v = c.before.before.before.before.before.stage2.given.0 in
-    rw c.before.before.before.before.before.stage2.given.1
-    (fits (stage (Drawn v.0 v.1.0 v.1.1.0)) c.before.before.before.before.before.before.before.before.args.out.now (omega arith, omega arith, omega arith) c.before.before.before.before.before.before.before.before.requires c.before.before.say-stage3.ensures)
+    let v = c.in-Drawn in
+    rw c.in-Drawn.is
+    (fits (stage (Drawn v.v v.e v.p)) c.args.out.now (omega arith, omega arith, omega arith) c.requires c.say_stage-in-Drawn.ensures)
 
-pub tell-stage-spec : {M : Type 1} → statement M
-tell-stage-spec =
+pub tell_stage_spec : {M : Type 1} → statement M
+tell_stage_spec =
     tie.close
     (tie.spec (λ c. search rules) say-stage-requires (λ c. search rules) say-stage-requires-2 (λ c. search rules)
     say-stage-requires-3 (λ c. search rules) returns (λ c. search rules) returns-2 (λ c. search rules) returns-3)

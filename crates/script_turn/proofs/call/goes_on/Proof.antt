@@ -3,9 +3,9 @@ use borrow.Author.Rules.{rules}
 use Rattle.script_turn.proofs.call.goes_on.Statement.{statement}
 use Rattle.script_turn.proofs.call.goes_on.Tie as tie
 
-returns-2 : tie.Need-returns-2
-returns-2 c = rw c.if1.false
+returns-2 : tie.Need-returns
+returns-2 c = rw c.if-refused.false
 
-pub goes-on-spec : {M : Type 1} → statement M
-goes-on-spec = tie.close
+pub goes_on_spec : {M : Type 1} → statement M
+goes_on_spec = tie.close
     (tie.spec (λ c. search rules) (λ c. search rules) returns-2)

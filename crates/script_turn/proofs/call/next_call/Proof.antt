@@ -10,14 +10,14 @@ use Rattle.script_turn.proofs.call.next_call.Tie as tie
 
 returns : tie.Need-returns
 returns c =
-    let t = c.before.before.before.before.ask.ensures in
+    let t = c.ask-answered.ensures in
     record {
       wrote = t.wrote;
       left = t.left;
-      further = c.goes_on.ensures ∙ ap (λ (b : Bool). cond b false (ltb (c.before.before.before.before.before.before.before.before.args.n + 1) most_answers)) t.ends;
+      further = c.goes_on.ensures ∙ ap (λ (b : Bool). cond b false (ltb (c.args.n + 1) most_answers)) t.ends;
     }
 
-pub next-call-spec : {M : Type 1} → statement M
-next-call-spec =
+pub next_call_spec : {M : Type 1} → statement M
+next_call_spec =
     tie.close
-    (tie.spec (λ c. search rules) (λ c κs. search rules) (λ c κs. search rules) (λ c. search rules) returns)
+    (tie.spec (λ c κs. search rules) (λ c κs. search rules) (λ c. search rules) returns)

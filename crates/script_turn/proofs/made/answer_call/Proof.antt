@@ -5,9 +5,9 @@ use Rattle.script_turn.proofs.made.answer_call.Statement.{statement}
 use Rattle.script_turn.proofs.made.answer_call.Tie as tie
 
 returns : tie.Need-returns
-returns c = rw c.is-refused.ensures (answers-call _ _ _ c.before.before.before.before.before.before.before.before.before.before.before.step.ensures c.before.before.before.say-reply.ensures)
+returns c = rw c.is_refused.ensures (answers-call _ _ _ c.step-after.ensures c.say_reply-next.ensures)
 
-pub answer-call-spec : {M : Type 1} → statement M
-answer-call-spec =
+pub answer_call_spec : {M : Type 1} → statement M
+answer_call_spec =
     tie.close
     (tie.spec (λ c κs. search rules) (λ c κs. search rules) (λ c κs. search rules) (λ c. search rules) (λ c. search rules) (λ c. search rules) returns)

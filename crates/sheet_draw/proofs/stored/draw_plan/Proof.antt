@@ -21,19 +21,19 @@ of-plan c = plan-cut (plan-arrays c) c.args.counts c.requires
 zeros : (c : tie.Start) → length (take c.args.counts.vertices (replicate 1024 (pos 0))) ≡ c.args.counts.vertices
 zeros c = length-take-le c.args.counts.vertices (replicate 1024 (pos 0)) (of-plan c).few
 
-array-borrow-prefix-preliminary : tie.Need-array-borrow-prefix-preliminary
+array-borrow-prefix-preliminary : tie.Need-slice_bounds-preliminary-end
 array-borrow-prefix-preliminary c = (of-plan c).few
 
-slice-aggregate-draw-into : tie.Need-slice-aggregate-draw-into
+slice-aggregate-draw-into : tie.Need-slice_bounds-draw_into-end
 slice-aggregate-draw-into c = sym (zeros c.before)
 
-array-borrow-prefix-finals : tie.Need-array-borrow-prefix-finals
+array-borrow-prefix-finals : tie.Need-slice_bounds-finals-end
 array-borrow-prefix-finals c = (of-plan c.before).few
 
-slice-aggregate-draw-into-2 : tie.Need-slice-aggregate-draw-into-2
+slice-aggregate-draw-into-2 : tie.Need-slice_bounds-draw_into-end-2
 slice-aggregate-draw-into-2 c = sym (zeros c.before.before)
 
-draw-into-requires : tie.Need-draw-into-requires
+draw-into-requires : tie.Need-draw_into-placings-requires
 draw-into-requires c κs =
     let s = c.before.before.before.before.before.before.before in
     record {
@@ -53,10 +53,10 @@ returns c =
     let a = s.args in
     draws a.plan (plan-arrays s) a.counts s.requires _
     (new_is (plan_with a.plan a.counts) a.counts.vertices _ _ _ _ _ _ _ _ (of-plan s).few (preliminary-of a.plan (plan-arrays s) a.counts.vertices a.counts.segments s.requires) (final-of a.plan (plan-arrays s) a.counts.vertices a.counts.segments s.requires)
-    c.before.before.before.before.before.before.before.draw-into.ensures)
+    c.draw_into-placings.ensures)
 
-pub draw-plan-spec : {M : Type 1} → statement M
-draw-plan-spec =
+pub draw_plan_spec : {M : Type 1} → statement M
+draw_plan_spec =
     tie.close
     (tie.spec array-borrow-prefix-preliminary slice-aggregate-draw-into array-borrow-prefix-finals slice-aggregate-draw-into-2
     (λ c. search rules) (λ c. search rules) (λ c. search rules) (λ c. search rules) (λ c. search rules) draw-into-requires

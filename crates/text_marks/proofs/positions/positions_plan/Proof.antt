@@ -37,69 +37,69 @@ abbrev rest : ℕ → List ℤ
 rest n = drop n (replicate 1024 (pos 0))
 
 -- once it is drawn
-abbrev start : tie.After-draw-positions → tie.Start
+abbrev start : tie.After-draw_positions → tie.Start
 start c = c.before.before.before.before.before.before.before.before.before.before
 
-fit : (c : tie.After-draw-positions) → count (start c) + count (start c) ≤ length (start c).args.out.now
-fit c = c.before.before.before.if1.false
+fit : (c : tie.After-draw_positions) → count (start c) + count (start c) ≤ length (start c).args.out.now
+fit c = c.if-out-v.false
 
-abbrev firsts : tie.After-draw-positions → List ℤ
-firsts c = c.draw-positions.new.1.1.1.1.1.1.1.0
+abbrev firsts : tie.After-draw_positions → List ℤ
+firsts c = c.draw_positions.new.preliminary
 
-abbrev finals : tie.After-draw-positions → List ℤ
-finals c = c.draw-positions.new.1.1.1.1.1.1.1.1.0
+abbrev finals : tie.After-draw_positions → List ℤ
+finals c = c.draw_positions.new.finals
 
-firsts-long : (c : tie.After-draw-positions) → length (firsts c) ≡ count (start c)
-firsts-long c = c.draw-positions.auto.1.1.1.1.1.1.1.0 ∙ places (start c) (fit c)
+firsts-long : (c : tie.After-draw_positions) → length (firsts c) ≡ count (start c)
+firsts-long c = c.draw_positions.auto.preliminary ∙ places (start c) (fit c)
 
-finals-long : (c : tie.After-draw-positions) → length (finals c) ≡ count (start c)
-finals-long c = c.draw-positions.auto.1.1.1.1.1.1.1.1.0 ∙ zeros (start c)
+finals-long : (c : tie.After-draw_positions) → length (finals c) ≡ count (start c)
+finals-long c = c.draw_positions.auto.finals ∙ zeros (start c)
 
-returns : tie.Need-returns
+returns : tie.Need-returns-then-out-v
 returns c = λ p l.
-    let b = c.before.before.before.before.before.before.before.args.out.now in
-    writes (positions-of p b ∙ fitted_short (vertex_count p) (both_of p) b (omega (arith, both_long p l.lists.ok, ap length l.lists.vias_are, c.if1.true))) (record { answered = refl; left = refl })
+    let b = c.args.out.now in
+    writes (positions-of p b ∙ fitted_short (vertex_count p) (both_of p) b (omega (arith, both_long p l.lists.ok, ap length l.lists.vias_are, c.if-out-v.true))) (record { answered = refl; left = refl })
 
-slice-aggregate-draw-positions : tie.Need-slice-aggregate-draw-positions
-slice-aggregate-draw-positions c = sym (places c.before.before.before.before.before.before.before.before c.before.if1.false)
+slice-aggregate-draw-positions : tie.Need-slice_bounds-draw_positions-end-2
+slice-aggregate-draw-positions c = sym (places c.before.before.before.before.before.before.before.before c.if-out-v.false)
 
-array-borrow-prefix-finals : tie.Need-array-borrow-prefix-finals
+array-borrow-prefix-finals : tie.Need-slice_bounds-finals-end
 array-borrow-prefix-finals c = few c.before.before.before.before.before.before.before.before
 
-slice-aggregate-draw-positions-2 : tie.Need-slice-aggregate-draw-positions-2
+slice-aggregate-draw-positions-2 : tie.Need-slice_bounds-draw_positions-end-3
 slice-aggregate-draw-positions-2 c = sym (zeros c.before.before.before.before.before.before.before.before.before)
 
-draw-positions-requires : tie.Need-draw-positions-requires
+draw-positions-requires : tie.Need-draw_positions-requires
 draw-positions-requires c κs =
     let s = c.before.before.before.before.before.before.before.before.before in
-    record { some = s.requires; preliminary_room = places s c.before.before.if1.false; final_room = zeros s }
+    record { some = s.requires; preliminary_room = places s c.if-out-v.false; final_room = zeros s }
 
-array-share-prefix-finals : tie.Need-array-share-prefix-finals
+array-share-prefix-finals : tie.Need-slice_bounds-finals-end-2
 array-share-prefix-finals c = let d = c.before.before in let v = count (start d) in first-fit (finals d) (rest v) v (finals-long d)
 
-slice-aggregate-copy-positions : tie.Need-slice-aggregate-copy-positions
+slice-aggregate-copy-positions : tie.Need-slice_bounds-copy_positions-end
 slice-aggregate-copy-positions c = let d = c.before.before.before in let v = count (start d) in first_count (finals d) (rest v) v (finals-long d)
 
-copy-positions-requires : tie.Need-copy-positions-requires
+copy-positions-requires : tie.Need-copy_positions-requires
 copy-positions-requires c κs =
     let d = c.before.before.before.before in
     let v = count (start d) in
     second-long (firsts d) (start d).args.out.now v (firsts-long d) (fit d) ∙ first_count (finals d) (rest v) v (finals-long d)
 
-returns-2 : tie.Need-returns-2
+returns-2 : tie.Need-returns
 returns-2 c = λ p l.
     let d = c.before.before.before.before.before.before in
     let b = (start d).args.out.now in
     let v = count (start d) in
-    let m = d.draw-positions.ensures p l in
+    let m = d.draw_positions.ensures p l in
     writes (positions-of p b ∙ fitted-long (vertex_count p) (both_of p) b (omega (arith, both_long p l.lists.ok, ap length l.lists.vias_are, fit d))) (record {
       answered = ap gives (sym (ap length l.lists.vias_are));
-      left = two-written (firsts d) (finals d) c.before.copy-positions.new.1.0 b v p (firsts-long d) (finals-long d)
-          (c.before.copy-positions.ensures ∙ first-is (finals d) (rest v) v (finals-long d)) m.started m.ended;
+      left = two-written (firsts d) (finals d) c.copy_positions.new.to b v p (firsts-long d) (finals-long d)
+          (c.copy_positions.ensures ∙ first-is (finals d) (rest v) v (finals-long d)) m.started m.ended;
     })
 
-pub positions-plan-spec : {M : Type 1} → statement M
-positions-plan-spec =
+pub positions_plan_spec : {M : Type 1} → statement M
+positions_plan_spec =
     tie.close
     (tie.spec (λ c. search rules) returns (λ c. search rules) slice-aggregate-draw-positions array-borrow-prefix-finals
     slice-aggregate-draw-positions-2 draw-positions-requires array-share-prefix-finals slice-aggregate-copy-positions

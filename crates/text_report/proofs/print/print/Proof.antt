@@ -8,10 +8,10 @@ returns : tie.Need-returns
 returns c =
     let k = c.before.before in
     let t = k.before.before.before.before in
-    let s = t.before.before.before.before in
-    prints s.args.text.now s.args.out.now _ s.requires t.report-text.result t.report-text.ensures k.print-answer.ensures
+    let s = t in
+    prints s.args.text.now s.args.out.now _ s.requires t.report_text-answer.result t.report_text-answer.ensures k.print_answer.ensures
 
-pub print-spec : {M : Type 1} → statement M
-print-spec =
+pub print_spec : {M : Type 1} → statement M
+print_spec =
     tie.close
     (tie.spec (λ c κs. search rules) (λ c κs. search rules) (λ c. search rules) returns)
