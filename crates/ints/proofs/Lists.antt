@@ -1,6 +1,6 @@
 -- Laws of lists that the kit does not have: `over`, `sum`, `concat`, and `map` with a part, a store and a load. Assumes nothing.
--- Elsewhere: `length-map`, `List·getD-map` (lib.ListN), `map-append`, `map-map` (mathlib.Core.List), and of `over` itself,
--- which is an append, `take-append_seam`, `drop-append_seam`, `set-append_left` (lib.Seq), `List·getD-append` (lib.ListN).
+-- Elsewhere: `length-map`, `get_or-map` (lib.ListN), `map-append`, `map-map` (mathlib.Core.List), and of `over` itself,
+-- which is an append, `take-append_seam`, `drop-append_seam`, `set-append_left` (lib.Seq), `get_or-append` (lib.ListN).
 use Prim.Native.Nat.{ℕ, zero, suc, ◌+◌, ◌-◌, ◌<◌, ◌≤◌}
 use mathlib.Core.Path.{◌≡◌, refl, sym, ◌∙◌, ap}
 use mathlib.Core.List.{List, [], ◌∷◌, ◌++◌, map, append_assoc, append-nil, map-append}
@@ -25,10 +25,10 @@ module _ {A : Type 0} where
   over-all xs o h = rw (drop_of_length-le o h, append-nil)
 
 -- ---- an element that is there, whatever stands for one that is not
-pub get_d-either : {A : Type 0} (l : List A) (i : ℕ) (d e : A) → i < length l → get_or l i d ≡ get_or l i e
-get_d-either [] i d e h = absurd (omega arith)
-get_d-either (x ∷ l) zero d e h = refl
-get_d-either (x ∷ l) (suc i) d e h = get_d-either l i d e (omega arith)
+pub get_or-either : {A : Type 0} (l : List A) (i : ℕ) (d e : A) → i < length l → get_or l i d ≡ get_or l i e
+get_or-either [] i d e h = absurd (omega arith)
+get_or-either (x ∷ l) zero d e h = refl
+get_or-either (x ∷ l) (suc i) d e h = get_or-either l i d e (omega arith)
 
 -- ---- a part of a front
 module _ {A : Type 0} where
@@ -93,10 +93,10 @@ module _ {A B : Type 0} (f : A → B) where
   map-set (x ∷ xs) (suc i) a = ap (λ (r : List B). f x ∷ r) (map-set xs i a)
 
   -- within the list, whatever is read past its end
-  pub map-get_d : (l : List A) (i : ℕ) (d : A) (e : B) → i < length l → get_or (map f l) i e ≡ f (get_or l i d)
-  map-get_d [] i d e h = absurd (omega arith)
-  map-get_d (x ∷ xs) zero d e h = refl
-  map-get_d (x ∷ xs) (suc i) d e h = map-get_d xs i d e (omega arith)
+  pub map-get_or : (l : List A) (i : ℕ) (d : A) (e : B) → i < length l → get_or (map f l) i e ≡ f (get_or l i d)
+  map-get_or [] i d e h = absurd (omega arith)
+  map-get_or (x ∷ xs) zero d e h = refl
+  map-get_or (x ∷ xs) (suc i) d e h = map-get_or xs i d e (omega arith)
 
   -- what a loop has mapped, one more
   pub map_more : (l : List A) (i : ℕ) (d : A) → i < length l → map f (take (i + 1) l) ≡ map f (take i l) ++ f (get_or l i d) ∷ []

@@ -7,10 +7,10 @@ use native.Mathlib.Omega.{arith}
 use lib.ListN.{length, get_or}
 use Rattle.ints.specs.inner.Members.{Mem}
 
-pub get_d-mem : {A : Type 0} (xs : List A) (i : ℕ) (d : A) → i < length xs → Mem (get_or xs i d) xs
-get_d-mem [] i d h = absurd (omega arith)
-get_d-mem (x ∷ xs) zero d h = inl refl
-get_d-mem (x ∷ xs) (suc i) d h = inr (get_d-mem xs i d (omega arith))
+pub get_or-mem : {A : Type 0} (xs : List A) (i : ℕ) (d : A) → i < length xs → Mem (get_or xs i d) xs
+get_or-mem [] i d h = absurd (omega arith)
+get_or-mem (x ∷ xs) zero d h = inl refl
+get_or-mem (x ∷ xs) (suc i) d h = inr (get_or-mem xs i d (omega arith))
 
 module _ {A B : Type 0} (f : A → B) where
   pub mem-map : (xs : List A) (x : A) → Mem x xs → Mem (f x) (map f xs)

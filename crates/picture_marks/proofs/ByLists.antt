@@ -10,7 +10,7 @@ use borrow.Author.Tests.{lt-ltb, le-ltb}
 use lib.ListN.{length, get_or}
 use lib.IntN.{ℤ}
 use Rattle.ints.specs.Lists.{sum}
-use Rattle.ints.proofs.Lists.{get_d-either}
+use Rattle.ints.proofs.Lists.{get_or-either}
 use Rattle.ints.proofs.Ratings.{rating-most, ratings-get}
 use Rattle.plan.specs.Plan.{PlanData, vertex_count, is_via, half_width, level_of, height_of, numbers}
 use Rattle.plan.specs.Acceptable.{acceptable}
@@ -60,7 +60,7 @@ module _ (p : PlanData) (xs : List ℤ) where
   rating-is : (k : ℕ) → k < length p.ratings → rating_at p (vertex_count p + k) ≡ get_or p.ratings k 0
   rating-is k h =
       let e : vertex_count p + k - vertex_count p ≡ k = omega arith in
-      rw e (get_d-either p.ratings k 1 0 h)
+      rw e (get_or-either p.ratings k 1 0 h)
 
   later : (n : ℕ) → vertex_count p ≤ n → vertex_count p + (n - vertex_count p) ≡ n
   later n h = omega arith

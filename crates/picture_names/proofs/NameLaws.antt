@@ -10,7 +10,7 @@ use borrow.Author.Tests.{eq-eqb, ne_eqb, le-leb, lt-leb}
 use lib.Dec.{eqb}
 use lib.ListN.{length, get_or, set, take, drop, replicate, length-take, length-drop, length-set, length-replicate, get_or-replicate, get_or-eq_default}
 use lib.Seq.{drop-drop, get_or-set_same, get_or-set_other}
-use Rattle.ints.proofs.Lists.{get_d-either, drop-take}
+use Rattle.ints.proofs.Lists.{get_or-either, drop-take}
 use Rattle.ints.proofs.Tests.{and_left}
 use Rattle.text.specs.Bytes.{bytes}
 use Rattle.text.specs.Parser.{Got, got, nothing}
@@ -94,7 +94,7 @@ module _ (vias : List Bool) (v : ℕ) where
   box-none h = ap not (get_or-eq_default vias true h)
 
   pub box-is : (t : Bool) → v < length vias → get_or vias v false ≡ t → is_box vias v ≡ not t
-  box-is t h e = ap not (get_d-either vias v true false h ∙ e)
+  box-is t h e = ap not (get_or-either vias v true false h ∙ e)
 
 place-empty : (text : List ℕ) (s e : ℕ) → s ≤ e → e ≤ length text → is_empty (take (e - s) (drop s text)) ≡ eqb s e
 place-empty text s e h k = empty-long (take (e - s) (drop s text)) ∙ elim (ℕ_discrete s e) [

@@ -19,40 +19,40 @@ use Rattle.picture_names.proofs.CharLaws.{empty-not}
 use Rattle.picture_names.proofs.NameLaws.{with-long}
 
 -- ---- what a rule leaves is no longer than what it was given
-abbrev leaves : {A : Type 0} → Got A → ℕ → Type 0
-leaves (got a t) n = length t ≤ n
-leaves nothing n = Unit {0}
+abbrev Leaves : {A : Type 0} → Got A → ℕ → Type 0
+Leaves (got a t) n = length t ≤ n
+Leaves nothing n = Unit {0}
 
-digits-leave : (n v : ℕ) (s : List ℕ) (m : ℕ) → length s ≤ m → leaves (digits_after n v s) m
+digits-leave : (n v : ℕ) (s : List ℕ) (m : ℕ) → length s ≤ m → Leaves (digits_after n v s) m
 unfolding digits_after
 digits-leave zero v s m h = h
 digits-leave (suc n) v [] m h = h
 digits-leave (suc n) v (b ∷ s) m h =
-    if-ind (is_digit b) (digits_after n _ s) (got v (b ∷ s)) (λ g. leaves g m) (λ e. digits-leave n _ s m (omega arith)) (λ e. h)
+    if-ind (is_digit b) (digits_after n _ s) (got v (b ∷ s)) (λ g. Leaves g m) (λ e. digits-leave n _ s m (omega arith)) (λ e. h)
 
-number-leaves : (s : List ℕ) → leaves (number s) (length s)
+number-leaves : (s : List ℕ) → Leaves (number s) (length s)
 unfolding number
 number-leaves [] = tt
 number-leaves (b ∷ s) =
-    if-ind (is_digit b) _ nothing (λ g. leaves g (suc (length s)))
-    (λ e. if-ind (eqb b 48) (got 0 s) _ (λ g. leaves g (suc (length s))) (λ q. omega arith) (λ q. digits-leave 4 _ s (suc (length s)) (omega arith)))
+    if-ind (is_digit b) _ nothing (λ g. Leaves g (suc (length s)))
+    (λ e. if-ind (eqb b 48) (got 0 s) _ (λ g. Leaves g (suc (length s))) (λ q. omega arith) (λ q. digits-leave 4 _ s (suc (length s)) (omega arith)))
     (λ e. tt)
 
-word-leaves : (w s : List ℕ) (m : ℕ) → length s ≤ m → leaves (word w s) m
+word-leaves : (w s : List ℕ) (m : ℕ) → length s ≤ m → Leaves (word w s) m
 unfolding word
 word-leaves [] s m h = h
 word-leaves (a ∷ w) [] m h = tt
-word-leaves (a ∷ w) (b ∷ s) m h = if-ind (eqb a b) (word w s) nothing (λ g. leaves g m) (λ e. word-leaves w s m (omega arith)) (λ e. tt)
+word-leaves (a ∷ w) (b ∷ s) m h = if-ind (eqb a b) (word w s) nothing (λ g. Leaves g m) (λ e. word-leaves w s m (omega arith)) (λ e. tt)
 
-then-leaves : (g : Got ℕ) (m : ℕ) → leaves g m → leaves (then g (λ n t. then (word (bytes " ") t) (λ _ u. got n u))) m
+then-leaves : (g : Got ℕ) (m : ℕ) → Leaves g m → Leaves (then g (λ n t. then (word (bytes " ") t) (λ _ u. got n u))) m
 then-leaves nothing m h = tt
 then-leaves (got n t) m h = go (word (bytes " ") t) (word-leaves (bytes " ") t m h)
   where
-    go : (k : Got (Unit {0})) → leaves k m → leaves (then k (λ _ u. got n u)) m
+    go : (k : Got (Unit {0})) → Leaves k m → Leaves (then k (λ _ u. got n u)) m
     go nothing h = tt
     go (got x u) h = h
 
-line-leaves : (l : List ℕ) → leaves (number_of l) (length l)
+line-leaves : (l : List ℕ) → Leaves (number_of l) (length l)
 unfolding number_of
 line-leaves l = then-leaves (number l) (length l) (number-leaves l)
 
@@ -72,7 +72,7 @@ set_long ([] ∷ l) zero name e = omega arith
 set_long ((x ∷ y) ∷ l) zero name e = let z : ◌≡◌ {A = ℕ} 0 1 = cc in absurd (omega arith)
 set_long (x ∷ l) (suc v) name e = omega (arith, set_long l v name e)
 
-with-lengths : (vias : List Bool) (l : List (List ℕ)) (g : Got ℕ) (m : ℕ) → leaves g m → is_good vias l g ≡ true → lengths (with l g) ≤ lengths l + m
+with-lengths : (vias : List Bool) (l : List (List ℕ)) (g : Got ℕ) (m : ℕ) → Leaves g m → is_good vias l g ≡ true → lengths (with l g) ≤ lengths l + m
 with-lengths vias l nothing m h e = omega arith
 with-lengths vias l (got n name) m h e =
     omega (arith, set_long l n name (and_right (is_box vias n) (is_empty (get_or l n [])) (and_right (is_name name) (is_box vias n && is_empty (get_or l n [])) e)))

@@ -6,7 +6,7 @@ use mathlib.Core.List.{List, map, map-map}
 use native.Mathlib.Omega.{arith}
 use lib.ListN.{length, get_or, length-map}
 use lib.Seq.{ext_get_or}
-use Rattle.ints.proofs.Lists.{map-get_d}
+use Rattle.ints.proofs.Lists.{map-get_or}
 use Rattle.sorting.specs.inner.Words.{Rising}
 use Rattle.ints.specs.inner.Members.{Mem}
 use Rattle.ints.proofs.Members.{map-stays}
@@ -90,7 +90,7 @@ module _ (p : PlanData) (m : List ℕ) (o : Own p m) where
       let is : length (map f (inverse m)) ≡ n = length-map (inverse m) f ∙ inverse-long n m o.once in
       ext_get_or e (map f (inverse m)) xs (is ∙ sym long)
       (λ i j. let q : i < n = omega arith in
-      map-get_d f (inverse m) i 0 e (omega (arith, inverse-long n m o.once)) ∙ ap f (inverse-at n m o.once i q) ∙ h (place_in m i) (new-below n m o.once i q)
+      map-get_or f (inverse m) i 0 e (omega (arith, inverse-long n m o.once)) ∙ ap f (inverse-at n m o.once i q) ∙ h (place_in m i) (new-below n m o.once i q)
       ∙ ap g (old-new n m o.once i q) ∙ k i)
 
   back_one : (r : Rated) → Down p r.segment → moved_rated (inverse m) (moved_rated m r) ≡ r

@@ -7,7 +7,7 @@ use native.Mathlib.Omega.{arith}
 use borrow.Author.Tests.{lt-ltb, eq-eqb, eqb-true, ne_eqb, le-leb}
 use lib.Dec.{eqb}
 use lib.ListN.{length, get_or, length-map}
-use Rattle.ints.proofs.Lists.{map-get_d}
+use Rattle.ints.proofs.Lists.{map-get_or}
 use Rattle.ints.specs.Lists.{count_if}
 use Rattle.ints.specs.Ratings.{is_rating, all_ratings}
 use Rattle.ints.specs.inner.Members.{Mem}
@@ -94,11 +94,11 @@ module _ (p : PlanData) (m : List ℕ) where
 
   pub via-same : (i : ℕ) → i < length m → is_via (renumbered p m) i ≡ is_via p (get_or m i 0)
   unfolding renumbered
-  via-same i h = map-get_d (λ v. is_via p v) m i 0 false h
+  via-same i h = map-get_or (λ v. is_via p v) m i 0 false h
 
   pub half-same : (i : ℕ) → i < length m → half_width (renumbered p m) i ≡ half_width p (get_or m i 0)
   unfolding renumbered
-  half-same i h = map-get_d (λ v. half_width p v) m i 0 0 h
+  half-same i h = map-get_or (λ v. half_width p v) m i 0 0 h
 
   pub level-same : (v : ℕ) → level_of (renumbered p m) v ≡ level_of p v
   unfolding renumbered level_of

@@ -9,11 +9,11 @@ use lib.Dec.{eqb, ltb}
 use lib.ListN.{length, get_or}
 use Rattle.ints.specs.Lists.{sum}
 use Rattle.ints.proofs.Laws.{cases}
-use Rattle.ints.proofs.Lists.{map-get_d}
+use Rattle.ints.proofs.Lists.{map-get_or}
 use Rattle.ints.specs.Lists.{count_if}
 use Rattle.ints.specs.inner.Members.{Mem}
 use Rattle.sorting.specs.inner.Words.{Same}
-use Rattle.ints.proofs.Members.{get_d-mem}
+use Rattle.ints.proofs.Members.{get_or-mem}
 use Rattle.sorting.proofs.Counts.{same-sym, same_length, same-all}
 use Rattle.plan.specs.Plan.{PlanData, vertex_count, numbers, level_in, level_of}
 use Rattle.ints.specs.Lists.{count_of}
@@ -94,12 +94,12 @@ module _ (p : PlanData) (m : List ℕ) (s : Same m (numbers 0 (vertex_count p)))
       record {
         once = record {
           long = long;
-          below = λ i h. same-below (get_or m i 0) (get_d-mem m i 0 (omega arith));
+          below = λ i h. same-below (get_or m i 0) (get_or-mem m i 0 (omega arith));
           once = λ v h. count-is v m ∙ s.counts (λ x. eqb x v) ∙ sym (count-is v (numbers 0 n)) ∙ (numbers-once n).once v h;
         };
         level = λ i h.
-            sym (map-get_d (λ v. level_of p v) m i 0 0 (omega arith)) ∙ ap (λ (l : List ℕ). get_or l i 0) e
-            ∙ map-get_d (λ v. level_of p v) (numbers 0 n) i 0 0 (omega (arith, length-numbers 0 n)) ∙ ap (level_of p) (omega (arith, get-numbers 0 n i 0 h));
+            sym (map-get_or (λ v. level_of p v) m i 0 0 (omega arith)) ∙ ap (λ (l : List ℕ). get_or l i 0) e
+            ∙ map-get_or (λ v. level_of p v) (numbers 0 n) i 0 0 (omega (arith, length-numbers 0 n)) ∙ ap (level_of p) (omega (arith, get-numbers 0 n i 0 h));
       }
 
 -- the numbers themselves

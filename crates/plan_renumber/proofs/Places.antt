@@ -8,7 +8,7 @@ use borrow.Author.Tests.{eq-eqb, ne_eqb}
 use lib.ListN.{length, get_or, length-map}
 use lib.Seq.{ext_get_or}
 use Rattle.ints.proofs.Laws.{cases}
-use Rattle.ints.proofs.Lists.{map-get_d}
+use Rattle.ints.proofs.Lists.{map-get_or}
 use Rattle.plan.specs.Plan.{numbers}
 use Rattle.ints.specs.Lists.{count_of}
 use Rattle.plan.proofs.Levels.{length-numbers, get-numbers}
@@ -74,7 +74,7 @@ map_at xs d n e =
     let long : length (map (λ i. get_or xs i d) (numbers 0 n)) ≡ n = length-map (numbers 0 n) (λ i. get_or xs i d) ∙ length-numbers 0 n in
     ext_get_or d (map (λ i. get_or xs i d) (numbers 0 n)) xs (long ∙ sym e)
     (λ i h. let k : i < n = omega arith in
-    map-get_d (λ i. get_or xs i d) (numbers 0 n) i 0 d (omega (arith, length-numbers 0 n)) ∙ ap (λ (j : ℕ). get_or xs j d) (get-numbers 0 n i 0 k ∙ zero-add i))
+    map-get_or (λ i. get_or xs i d) (numbers 0 n) i 0 d (omega (arith, length-numbers 0 n)) ∙ ap (λ (j : ℕ). get_or xs j d) (get-numbers 0 n i 0 k ∙ zero-add i))
 
 -- ---- each number below n, once
 pub numbers-once : (n : ℕ) → Once n (numbers 0 n)
@@ -111,7 +111,7 @@ module _ (n : ℕ) (m : List ℕ) (o : Once n m) where
   pub inverse-at : (v : ℕ) → v < n → get_or (inverse m) v 0 ≡ place_in m v
   unfolding inverse
   inverse-at v h =
-      map-get_d (place_in m) (numbers 0 (length m)) v 0 0 (omega (arith, length-numbers 0 (length m), o.long))
+      map-get_or (place_in m) (numbers 0 (length m)) v 0 0 (omega (arith, length-numbers 0 (length m), o.long))
       ∙ ap (place_in m) (get-numbers 0 (length m) v 0 (omega (arith, o.long)) ∙ zero-add v)
 
   -- how often i is a new number, of the vertices from a on

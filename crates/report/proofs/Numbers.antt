@@ -12,7 +12,7 @@ use lib.ListN.{length, get_or, length-map}
 use lib.IntN.{ℤ, pos}
 use Rattle.ints.specs.Reach.{all_within}
 use Rattle.ints.proofs.Reach.{within-get, within-each}
-use Rattle.ints.proofs.Lists.{map-get_d}
+use Rattle.ints.proofs.Lists.{map-get_or}
 use Rattle.ints.proofs.Members.{map-stays}
 use Rattle.ints.proofs.Tests.{conj-at, ◌and◌}
 use Rattle.plan.specs.Plan.{PlanData, vertex_count, numbers, level_of, height_of}
@@ -55,7 +55,7 @@ boxes-many m qs = ap length (boxes-by m qs) ∙ length-map (boxes_listed qs) (bo
 -- the vertex of a number may be none: past the end stands 0
 pub positions-within : (m : List ℕ) (xs : List ℤ) → all_within xs ≡ true → all_within (positions_by m xs) ≡ true
 positions-within m xs e = within-each (positions_by m xs) (λ n h.
-    rw (map-get_d (position_of xs) (inverse m) n 0 (pos 0) (omega (arith, length-map (inverse m) (position_of xs)))) (within-get xs (get_or (inverse m) n 0) e))
+    rw (map-get_or (position_of xs) (inverse m) n 0 (pos 0) (omega (arith, length-map (inverse m) (position_of xs)))) (within-get xs (get_or (inverse m) n 0) e))
 
 pub numbers-within : (m : List ℕ) (d : Drawing) → drawing_within d ≡ true → drawing_within (in_numbers m d) ≡ true
 unfolding drawing_within
@@ -75,7 +75,7 @@ module _ {p : PlanData} {m : List ℕ} (o : Own p m) where
   position-by xs v h =
       let n = vertex_count p in
       let k = o.once.below v h in
-      map-get_d (position_of xs) (inverse m) (get_or m v 0) 0 (pos 0) (omega (arith, inverse-long n m o.once))
+      map-get_or (position_of xs) (inverse m) (get_or m v 0) 0 (pos 0) (omega (arith, inverse-long n m o.once))
       ∙ ap (position_of xs) (inverse-at n m o.once (get_or m v 0) k ∙ new-old n m o.once v h)
 
   pub at-line-by : (d : Drawing) (v : ℕ) → v < vertex_count p

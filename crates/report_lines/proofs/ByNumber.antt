@@ -8,7 +8,7 @@ use lib.ListN.{length, get_or, take, length-append, length-take, length-map, len
 use lib.Seq.{get_or-append-add}
 use lib.IntN.{ℤ}
 use Rattle.ints.specs.Lists.{sum}
-use Rattle.ints.proofs.Lists.{map-get_d}
+use Rattle.ints.proofs.Lists.{map-get_or}
 use Rattle.plan.specs.Plan.{PlanData, vertex_count, numbers, level_of, height_of}
 use Rattle.plan_checks.specs.inner.Heights.{height_at, HeightsOf}
 use Rattle.passes.specs.Drawing.{Drawing}
@@ -59,7 +59,7 @@ module _ (p : PlanData) (d : Drawing) where
   line-vertex : (n : ℕ) → n < vertex_count p → line_of p d (suc n) ≡ at_line_of p d n
   line-vertex n h =
       ap (λ (ls : List (List ℕ)). get_or ls (suc n) []) lines_from ∙ get_or-append at_lines (place_lines ++ end_line ∷ []) [] n (omega (arith, at-lines))
-      ∙ map-get_d (at_line_of p d) (numbers 0 (vertex_count p)) n 0 [] (omega (arith, length-numbers 0 (vertex_count p)))
+      ∙ map-get_or (at_line_of p d) (numbers 0 (vertex_count p)) n 0 [] (omega (arith, length-numbers 0 (vertex_count p)))
       ∙ ap (at_line_of p d) (get-numbers 0 (vertex_count p) n 0 h ∙ omega arith)
 
   after-vertices : (k : ℕ) → line_of p d (suc (vertex_count p + k)) ≡ get_or (place_lines ++ end_line ∷ []) k []
@@ -67,7 +67,7 @@ module _ (p : PlanData) (d : Drawing) where
 
   line-placing : (k : ℕ) → k < length d.placings → line_of p d (suc (vertex_count p + k)) ≡ place_line (get_or d.placings k no_placing)
   line-placing k h = after-vertices k ∙ get_or-append place_lines (end_line ∷ []) [] k (omega (arith, length-map d.placings place_line))
-      ∙ map-get_d place_line d.placings k no_placing [] h
+      ∙ map-get_or place_line d.placings k no_placing [] h
 
   line-end : (k : ℕ) → k ≡ length d.placings → line_of p d (suc (vertex_count p + k)) ≡ end_line
   line-end k e =

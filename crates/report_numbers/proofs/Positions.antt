@@ -7,7 +7,7 @@ use lib.ListN.{length, get_or, set, length-set}
 use lib.Seq.{ext_get_or, get_or-set_same, get_or-set_other}
 use lib.IntN.{ℤ, pos}
 use Rattle.ints.proofs.Laws.{cases}
-use Rattle.ints.proofs.Lists.{map-get_d}
+use Rattle.ints.proofs.Lists.{map-get_or}
 use Rattle.plan_renumber.specs.Renumber.{place_in, inverse}
 use Rattle.plan_renumber.proofs.Places.{inverse-long, inverse-at, new-below, old-new, new-old}
 use Rattle.passes.specs.State.{position_of}
@@ -46,4 +46,4 @@ module _ {m : List ℕ} {xs out₀ out : List ℤ} {v : ℕ} (g : Takes m xs out
       ext_get_or (pos 0) out (positions_by m xs) (w.long ∙ g.long ∙ sym (positions-long m xs))
       (λ n k. let j : n < length m = omega (arith, w.long, g.long) in
       ap (position_of out) (sym (old-new (length m) m o n j)) ∙ w.each (place_in m n) (omega (arith, new-below (length m) m o n j))
-      ∙ sym (map-get_d (position_of xs) (inverse m) n 0 (pos 0) (omega (arith, inverse-long (length m) m o)) ∙ ap (position_of xs) (inverse-at (length m) m o n j)))
+      ∙ sym (map-get_or (position_of xs) (inverse m) n 0 (pos 0) (omega (arith, inverse-long (length m) m o)) ∙ ap (position_of xs) (inverse-at (length m) m o n j)))

@@ -1,7 +1,9 @@
 // Texts in one input, each after a line with the number of its bytes.
-ghost use Rattle.std.specs.Prelude.{◌≤◌};
+ghost use Rattle.std.specs.Prelude.{◌≤◌, IfOk};
 
-use libc::STDIN_FILENO;
+use std::io;
+use std::io::Read;
+use streams::read_full;
 
 // Most bytes of a text: one more than the limit.
 pub const MOST_BYTES: usize = 65537;
@@ -23,24 +25,24 @@ fn with_digit(n: usize, b: u8) -> usize
 }
 
 // The length that the next line says.
-pub fn next_length() -> usize
-    ensures { result ≤ 65538 }
+pub fn next_length<R: Read>(input: &mut R) -> io::Result<usize>
+    ensures { IfOk result (λ n. n ≤ 65538) }
 {
     let mut byte = [0u8; 1];
     let mut n: usize = 0;
     let mut i: usize = 0;
     while i < 6 {
-        if io::read_full(STDIN_FILENO, &mut byte) == 0 {
-            return NO_MORE;
+        if read_full(input, &mut byte)? == 0 {
+            return Ok(NO_MORE);
         }
         if byte[0] == 10 {
-            return n;
+            return Ok(n);
         }
         n = with_digit(n, byte[0]);
         if MOST_BYTES < n {
-            return NO_MORE;
+            return Ok(NO_MORE);
         }
         i += 1;
     }
-    NO_MORE
+    Ok(NO_MORE)
 }

@@ -7,8 +7,10 @@ pub mod inputs;
 ghost use Rattle.std.specs.Prelude.{◌≤◌, length};
 
 use crate::inputs::{MOST_BYTES, NO_MORE, next_length};
-use libc::{STDIN_FILENO, STDOUT_FILENO};
 use sheet_fit::fit::MAX_REPORT;
+use std::io;
+use std::io::{Read, Write};
+use streams::read_full;
 use text_report::print::print;
 use text_write::again::{Rewritten, rewrite};
 
@@ -40,27 +42,35 @@ fn written_again(text: &[u8], buffer: &mut [u8]) -> bool {
 }
 
 // Answers the next text; false if there is none, or if it is not written again as it is.
-fn answered(text: &mut [u8], out: &mut [u8]) -> bool
+fn answered<R: Read, W: Write>(
+    input: &mut R,
+    output: &mut W,
+    text: &mut [u8],
+    out: &mut [u8],
+) -> io::Result<bool>
     requires { (65537 ≤ length text.old) × (119834 ≤ length out.old) }
 {
-    let n = next_length();
+    let n = next_length(input)?;
     if n == NO_MORE {
-        return false;
+        return Ok(false);
     }
-    let got = io::read_full(STDIN_FILENO, &mut text[..n]);
+    let got = read_full(input, &mut text[..n])?;
     let m = print(&text[..got], out);
-    io::write_all(STDOUT_FILENO, &out[..m]);
-    written_again(&text[..got], out)
+    output.write_all(&out[..m])?;
+    Ok(written_again(&text[..got], out))
 }
 
-fn main() {
+fn main(rt: HostRuntime) -> io::Result<()> {
+    let mut input = rt.stdin();
+    let mut output = rt.stdout();
     let mut text = [0u8; MOST_BYTES];
     let mut out = [0u8; MAX_REPORT];
     let mut i: usize = 0;
     while i < MOST_TEXTS {
-        if !answered(&mut text, &mut out) {
-            return;
+        if !answered(&mut input, &mut output, &mut text, &mut out)? {
+            return Ok(());
         }
         i += 1;
     }
+    Ok(())
 }

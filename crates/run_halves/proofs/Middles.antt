@@ -10,7 +10,7 @@ use lib.IntN.{ℤ, pos, ◌+ℤ◌}
 use Rattle.ints.specs.Lists.{sum}
 use Rattle.ints.specs.Ratings.{max_rating, is_rating, all_ratings}
 use Rattle.ints.proofs.Laws.{cases}
-use Rattle.ints.proofs.Lists.{get_d-either}
+use Rattle.ints.proofs.Lists.{get_or-either}
 use Rattle.ints.proofs.Ratings.{rating-least, rating-most, ratings-take, ratings-drop}
 use Rattle.ints.proofs.Tests.{and_left, and_right}
 use Rattle.run.specs.Run.{leads_of, total_rating, first_reaching, half_down, start_of}
@@ -98,7 +98,7 @@ module _ {ss : List ℕ} {ns : List ℤ} (q : SumsOf ss ns) where
   middle t i old r = let h : i < length ns = omega (arith, r.within, q.long) in let e : i + 1 ≡ suc i = omega arith in
       reaching-at t 0 old (leads_of ns ws) i (omega (arith, length-leads ns ws (omega (arith, as_many q))))
       (omega (arith, r.before, so_far i (omega arith))) (omega (arith, r.reached, ap (λ (k : ℕ). get_or ss k 0) e, so_far (suc i) (omega arith)))
-      ∙ ap (λ (xs : List ℤ). get_or xs i old) (lead-positions ns ws (omega (arith, as_many q))) ∙ get_d-either ns i old (pos 0) h
+      ∙ ap (λ (xs : List ℤ). get_or xs i old) (lead-positions ns ws (omega (arith, as_many q))) ∙ get_or-either ns i old (pos 0) h
 
   pub start_between : (old : ℤ) (i j : ℕ) → AreMiddles ss i j → half_down (get_or ns i (pos 0) +ℤ get_or ns j (pos 0)) ≡ start_of old (leads_of ns ws)
   unfolding start_of

@@ -8,7 +8,7 @@ use lib.Dec.{eqb}
 use lib.ListN.{length, get_or, take, length-append}
 use Rattle.ints.specs.Lists.{sum, concat}
 use Rattle.ints.proofs.Laws.{cases}
-use Rattle.ints.proofs.Members.{get_d-mem}
+use Rattle.ints.proofs.Members.{get_or-mem}
 use Rattle.ints.proofs.Ratings.{rating-most, ratings-get}
 use Rattle.plan.specs.Limits.{max_half_width}
 use Rattle.plan.specs.Plan.{PlanData, is_via, half_width}
@@ -80,7 +80,7 @@ module _ (p : PlanData) (q : limits_hold p ≡ true) (three : check3 p ≡ true)
   unfolding segments_of
   segment-line i h =
       let at = segment-at p.uppers p.lowers i its.ends_long h in
-      let d = goes p three (get_or (segments_from p.uppers p.lowers) i (segment 0 0)) (get_d-mem (segments_from p.uppers p.lowers) i (segment 0 0) (omega (arith, segments-count p.uppers p.lowers its.ends_long))) in
+      let d = goes p three (get_or (segments_from p.uppers p.lowers) i (segment 0 0)) (get_or-mem (segments_from p.uppers p.lowers) i (segment 0 0) (omega (arith, segments-count p.uppers p.lowers its.ends_long))) in
       let e : Down p (segment (get_or p.uppers i 0) (get_or p.lowers i 0)) = rw at at d in
       segment-short _ (omega (arith, e.upper_in, its.vertices)) (omega (arith, e.lower_in, its.vertices))
       (rating-most (get_or p.ratings i 0) (ratings-get p.ratings i its.ratings (omega (arith, its.ratings_long))))

@@ -8,7 +8,7 @@ use native.Mathlib.Numerals.{add-one}
 use lib.ListN.{length, get_or, take, drop, length-append, length-map, get_or-append, take-append-drop}
 use lib.Seq.{get_or-append-add, take-suc, take_all}
 use Rattle.ints.specs.Lists.{sum, concat}
-use Rattle.ints.proofs.Lists.{map-get_d, concat-append, concat-one}
+use Rattle.ints.proofs.Lists.{map-get_or, concat-append, concat-one}
 use Rattle.plan.specs.Plan.{PlanData, numbers, levels_from, levels_of}
 use Rattle.plan.specs.Segments.{segments_from, segments_of, rated_from, rated_of}
 use Rattle.plan.specs.inner.Graph.{segment}
@@ -123,7 +123,7 @@ module _ (p : PlanData) where
       let f : 0 + sum (take n p.sizes) ≡ sum (take n p.sizes) = omega arith in
       let g : n < length level_lines = omega (arith, level-lines) in
       rw e (ap (λ (ls : List (List ℕ)). get_or ls (suc n) []) lines_from ∙ get_or-append level_lines (segment_lines ++ last_line ∷ []) [] n g
-      ∙ map-get_d (level_line_of p) (levels_from 0 p.sizes) n [] [] (omega (arith, levels-count 0 p.sizes))
+      ∙ map-get_or (level_line_of p) (levels_from 0 p.sizes) n [] [] (omega (arith, levels-count 0 p.sizes))
       ∙ ap (level_line_of p) (level-at 0 p.sizes n (omega arith) ∙ ap (λ (k : ℕ). numbers k (get_or p.sizes n 0)) f))
 
   after-levels : (i : ℕ) → line_of p (suc (length p.sizes + i)) ≡ get_or (segment_lines ++ last_line ∷ []) i []
@@ -138,7 +138,7 @@ module _ (p : PlanData) where
       let f : n ≡ suc (length p.sizes + i) = omega arith in
       ap (line_of p) f ∙ after-levels i
       ∙ get_or-append segment_lines (last_line ∷ []) [] i (omega (arith, segment-lines e))
-      ∙ map-get_d segment_line_of (rated_from ss p.ratings) i (rated (segment 0 0) 0) [] (omega (arith, rated-count ss p.ratings (rated-all e), count))
+      ∙ map-get_or segment_line_of (rated_from ss p.ratings) i (rated (segment 0 0) 0) [] (omega (arith, rated-count ss p.ratings (rated-all e), count))
       ∙ ap segment_line_of (rated-at ss p.ratings i (rated-all e) (omega (arith, count)) ∙ ap (λ s. rated s (get_or p.ratings i 0)) (segment-at p.uppers p.lowers i e.0 h))
 
   pub lines-count : Even → length (lines_of p) ≡ length p.sizes + length p.uppers + 2

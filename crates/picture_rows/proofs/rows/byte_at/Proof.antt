@@ -2,12 +2,12 @@
 use mathlib.Core.Path.{sym}
 use borrow.Author.Rules.{rules}
 use lib.ListN.{get_or-eq_default}
-use Rattle.ints.proofs.Lists.{get_d-either}
+use Rattle.ints.proofs.Lists.{get_or-either}
 use Rattle.picture_rows.proofs.rows.byte_at.Statement.{statement}
 use Rattle.picture_rows.proofs.rows.byte_at.Tie as tie
 
 returns : tie.Need-returns-then-at-name
-returns c = get_d-either c.args.name.now c.args.at 0 32 c.if-at-name.true
+returns c = get_or-either c.args.name.now c.args.at 0 32 c.if-at-name.true
 
 returns-2 : tie.Need-returns
 returns-2 c = sym (get_or-eq_default c.args.name.now 32 c.if-at-name.false)

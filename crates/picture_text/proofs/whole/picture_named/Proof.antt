@@ -26,50 +26,50 @@ abbrev rest : ℕ → List ℤ
 rest n = drop n (replicate 1024 (pos 0))
 
 -- once it is drawn
-abbrev start : tie.After-draw-positions → tie.Start
+abbrev start : tie.After-draw_positions → tie.Start
 start c = c.before.before.before.before.before.before.before.before.before.before.before.before.before
 
-abbrev count : tie.After-draw-positions → ℕ
+abbrev count : tie.After-draw_positions → ℕ
 count c = length (start c).args.vias.now
 
-abbrev drawn : tie.After-draw-positions → List ℤ
-drawn c = c.draw-positions.new.1.1.1.1.1.1.1.1.0
+abbrev drawn : tie.After-draw_positions → List ℤ
+drawn c = c.draw_positions.new.finals
 
-long : (c : tie.After-draw-positions) → length (drawn c) ≡ count c
-long c = c.draw-positions.auto.1.1.1.1.1.1.1.1.0 ∙ zeros (start c)
+long : (c : tie.After-draw_positions) → length (drawn c) ≡ count c
+long c = c.draw_positions.auto.finals ∙ zeros (start c)
 
-final : (c : tie.After-draw-positions) → take (count c) (drawn c ++ rest (count c)) ≡ (drawing_of (held (start c))).final
-final c = first-is (drawn c) (rest (count c)) (count c) (long c) ∙ (c.draw-positions.ensures (held (start c)) (record { lists = holds-held (start c).requires.plan; ratings_are = refl })).ended
+final : (c : tie.After-draw_positions) → take (count c) (drawn c ++ rest (count c)) ≡ (drawing_of (held (start c))).final
+final c = first-is (drawn c) (rest (count c)) (count c) (long c) ∙ (c.draw_positions.ensures (held (start c)) (record { lists = holds-held (start c).requires.plan; ratings_are = refl })).ended
 
-array-borrow-prefix-preliminary : tie.Need-array-borrow-prefix-preliminary
-array-borrow-prefix-preliminary c = few_vertices (held c.before.before.before.before.before.before.before.before.before.before) c.before.before.before.before.before.before.before.before.before.before.requires.plan
+array-borrow-prefix-preliminary : tie.Need-slice_bounds-preliminary-end
+array-borrow-prefix-preliminary c = few_vertices (held c.before.before.before.before.before.before.before.before.before.before) c.requires.plan
 
-slice-aggregate-draw-positions : tie.Need-slice-aggregate-draw-positions
+slice-aggregate-draw-positions : tie.Need-slice_bounds-draw_positions-end
 slice-aggregate-draw-positions c = sym (zeros c.before.before.before.before.before.before.before.before.before.before.before)
 
-array-borrow-prefix-finals : tie.Need-array-borrow-prefix-finals
-array-borrow-prefix-finals c = few_vertices (held c.before.before.before.before.before.before.before.before.before.before.before) c.before.before.before.before.before.before.before.before.before.before.before.requires.plan
+array-borrow-prefix-finals : tie.Need-slice_bounds-finals-end
+array-borrow-prefix-finals c = few_vertices (held c.before.before.before.before.before.before.before.before.before.before.before) c.requires.plan
 
-slice-aggregate-draw-positions-2 : tie.Need-slice-aggregate-draw-positions-2
+slice-aggregate-draw-positions-2 : tie.Need-slice_bounds-draw_positions-end-2
 slice-aggregate-draw-positions-2 c = sym (zeros c.before.before.before.before.before.before.before.before.before.before.before.before)
 
-draw-positions-requires : tie.Need-draw-positions-requires
+draw-positions-requires : tie.Need-draw_positions-requires
 draw-positions-requires c κs =
     let s = c.before.before.before.before.before.before.before.before.before.before.before.before in
     record { some = record { plan = held s; lists = record { lists = holds-held s.requires.plan; ratings_are = refl } }; preliminary_room = zeros s; final_room = zeros s }
 
-array-share-prefix-finals : tie.Need-array-share-prefix-finals
+array-share-prefix-finals : tie.Need-slice_bounds-finals-end-2
 array-share-prefix-finals c = let d = c.before.before in first-fit (drawn d) (rest (count d)) (count d) (long d)
 
-slice-aggregate-fit-picture : tie.Need-slice-aggregate-fit-picture
+slice-aggregate-fit-picture : tie.Need-slice_bounds-fit_picture-end
 slice-aggregate-fit-picture c = let d = c.before.before.before in first_count (drawn d) (rest (count d)) (count d) (long d)
 
-fit-picture-requires : tie.Need-fit-picture-requires
+fit-picture-requires : tie.Need-fit_picture-requires
 fit-picture-requires c κs =
     let s = start c.before.before.before.before in
     let a = s.args in (
-      rw (final c.before.before.before.before) (picture-asked (held s) a.names.now a.starts.now a.ends.now s.pre),
-      names-few (held s) a.names.now a.starts.now a.ends.now s.pre,
+      rw (final c.before.before.before.before) (picture-asked (held s) a.names.now a.starts.now a.ends.now s.requires),
+      names-few (held s) a.names.now a.starts.now a.ends.now s.requires,
     )
 
 returns : tie.Need-returns
@@ -77,11 +77,11 @@ returns c =
     let d = c.before.before.before.before.before.before.before in
     let s = start d in
     let a = s.args in
-    leaves (picture-of (held s) a.names.now a.out.now s.pre.names s.pre.good)
-    (rw (final d, names-is (held s) a.names.now a.starts.now a.ends.now s.pre) at c.before.before.fit-picture.ensures)
+    leaves (picture-of (held s) a.names.now a.out.now s.requires.names s.requires.good)
+    (rw (final d, names-is (held s) a.names.now a.starts.now a.ends.now s.requires) at c.fit_picture.ensures)
 
-pub picture-named-spec : {M : Type 1} → statement M
-picture-named-spec =
+pub picture_named_spec : {M : Type 1} → statement M
+picture_named_spec =
     tie.close
     (tie.spec array-borrow-prefix-preliminary slice-aggregate-draw-positions array-borrow-prefix-finals
     slice-aggregate-draw-positions-2 draw-positions-requires array-share-prefix-finals slice-aggregate-fit-picture

@@ -7,31 +7,31 @@ use Rattle.script_run.proofs.Whole.{inside-after, rooms, answer-long, line-turne
 use Rattle.script_run.proofs.script.answer_line.Statement.{statement}
 use Rattle.script_run.proofs.script.answer_line.Tie as tie
 
-each-answer-requires : tie.Need-each-answer-requires
+each-answer-requires : tie.Need-each_answer-requires
 each-answer-requires c κs =
-    let k = c.before.before.before.before.before.before.before.before.before.before.before.before.before.before.command in
+    let k = c.command-said in
     record {
-      inside = inside-after rooms (lent k.new.1.0 (buffers k.new.1.1.0 k.new.1.1.1.0 k.new.1.1.1.1.0 k.new.1.1.1.1.1.0 k.new.1.1.1.1.1.1.0)) k.result
+      inside = inside-after rooms (lent k.new.text (buffers k.new.old k.new.distances k.new.counts k.new.neighbours k.new.ratings)) k.result
           (record {
-            text = k.auto.1.0;
-            old = k.auto.1.1.0;
-            distances = k.auto.1.1.1.0;
-            counts = k.auto.1.1.1.1.0;
-            neighbours = k.auto.1.1.1.1.1.0;
-            ratings = k.auto.1.1.1.1.1.1.0;
+            text = k.auto.text;
+            old = k.auto.old;
+            distances = k.auto.distances;
+            counts = k.auto.counts;
+            neighbours = k.auto.neighbours;
+            ratings = k.auto.ratings;
           })
           k.ensures.inside;
       answer = answer-long;
-      place = c.before.before.before.before.before.before.before.before.before.before.before.before.before.before.before.before.before.before.before.before.before.before.before.requires;
+      place = c.requires;
     }
 
 returns : tie.Need-returns
 returns c =
-    let a = c.before.before.before.before.before.before.before.before.before.before.before.before.before.before.before.before.before.before.before.before.before.before.before.before.before.before.before.args in let k = c.before.before.before.before.before.before.before.before.before.before.before.before.before.before.before.before.before.before.command in
-    line-turned a.sheet (command_of a.line.now) k.result (lent k.new.1.0 (buffers k.new.1.1.0 k.new.1.1.1.0 k.new.1.1.1.1.0 k.new.1.1.1.1.1.0 k.new.1.1.1.1.1.1.0)) k.ensures c.before.before.before.each-answer.ensures
+    let a = c.args in let k = c.command-said in
+    line-turned a.sheet (command_of a.line.now) k.result (lent k.new.text (buffers k.new.old k.new.distances k.new.counts k.new.neighbours k.new.ratings)) k.ensures c.each_answer.ensures
 
-pub answer-line-spec : {M : Type 1} → statement M
-answer-line-spec =
+pub answer_line_spec : {M : Type 1} → statement M
+answer_line_spec =
     tie.close
     (tie.spec
     (λ c. search rules)

@@ -16,63 +16,63 @@ use Rattle.script_run.proofs.Going.{Going, starts, asked, stops, ends, below, ag
 use Rattle.script_run.proofs.script.each_answer.Statement.{statement}
 use Rattle.script_run.proofs.script.each_answer.Tie as tie
 
-abbrev invariant-loop : tie.invariant-loop
+abbrev invariant-loop : tie.invariant-loop-command
 invariant-loop command text old distances counts neighbours ratings buffer₀ out₀ at room write kept₀ to₀ n₀ buffer out kept to n =
     Going command (lent text (buffers old distances counts neighbours ratings)) (turn_of (command_in command (lent text (buffers old distances counts neighbours ratings))) kept₀)
     write room out₀ at kept out to n
     × (max_answer ≤ length buffer) × (length buffer ≡ length buffer₀) × (length out ≡ length out₀)
 
-abbrev decreases-loop : tie.decreases-loop
+abbrev decreases-loop : tie.decreases-loop-command
 decreases-loop command text old distances counts neighbours ratings buffer₀ out₀ at room write kept₀ to₀ n₀ buffer out kept to n =
     length (turn_of (command_in command (lent text (buffers old distances counts neighbours ratings))) kept₀).said - n
 
-loop-holds : tie.Need-loop-init invariant-loop decreases-loop
+loop-holds : tie.Need-loop-command-init invariant-loop decreases-loop
 loop-holds c =
-    let s = c.before.before.before.before.before.before in let a = s.args in
+    let s = c in let a = s.args in
     (starts a.command (lent a.text.now (buffers a.old.now a.distances.now a.counts.now a.neighbours.now a.ratings.now)) a.sheet s.requires.place, s.requires.answer, search rules, search rules)
 
-turn-requires : tie.Need-turn-requires invariant-loop decreases-loop
-turn-requires c κs = let i = c.before.loop.invariant in asked i.0.turning c.before.before.before.before.before.before.before.before.requires.inside i.1
+turn-requires : tie.Need-turn-one-requires invariant-loop decreases-loop
+turn-requires c κs = let i = c.loop-command.invariant in asked i.0.turning c.requires.inside i.1
 
-slice-reshare-prefix-lay : tie.Need-slice-reshare-prefix-lay invariant-loop decreases-loop
-slice-reshare-prefix-lay c = omega (arith, c.before.before.before.turn.ensures.wrote.inside)
+slice-reshare-prefix-lay : tie.Need-slice_bounds-lay-end invariant-loop decreases-loop
+slice-reshare-prefix-lay c = omega (arith, c.turn-one.ensures.wrote.inside)
 
-slice-aggregate-lay : tie.Need-slice-aggregate-lay invariant-loop decreases-loop
-slice-aggregate-lay c = sym (length-take-le _ _ (omega (arith, c.before.before.before.before.turn.ensures.wrote.inside)))
+slice-aggregate-lay : tie.Need-slice_bounds-lay-end-in-loop-command invariant-loop decreases-loop
+slice-aggregate-lay c = sym (length-take-le _ _ (omega (arith, c.turn-one.ensures.wrote.inside)))
 
-lay-requires : tie.Need-lay-requires invariant-loop decreases-loop
-lay-requires c κs = c.before.before.before.before.before.before.before.loop.invariant.0.place
+lay-requires : tie.Need-lay-laid-requires invariant-loop decreases-loop
+lay-requires c κs = c.loop-command.invariant.0.place
 
-returns : tie.Need-returns invariant-loop decreases-loop
-returns c = stops c.before.before.before.before.before.before.before.before.before.before.before.before.loop.invariant.0 c.before.before.before.before.before.before.before.before.before.before.turn.ensures c.before.before.before.before.lay.ensures (not-true _ c.if1.true)
+returns : tie.Need-returns-then-not-laid invariant-loop decreases-loop
+returns c = stops c.loop-command.invariant.0 c.turn-one.ensures c.lay-laid.ensures (not-true _ c.if-not-laid.true)
 
-returns-2 : tie.Need-returns-2 invariant-loop decreases-loop
-returns-2 c = ends c.before.before.before.before.before.before.before.before.before.before.before.before.before.before.loop.invariant.0 c.before.before.before.before.before.before.before.before.before.before.before.before.turn.ensures c.before.before.before.before.before.before.lay.ensures (not-true _ c.if2.true)
+returns-2 : tie.Need-returns-then-not-one invariant-loop decreases-loop
+returns-2 c = ends c.loop-command.invariant.0 c.turn-one.ensures c.lay-laid.ensures (not-true _ c.if-not-one.true)
 
-add-n : tie.Need-overflow-add-n invariant-loop decreases-loop
+add-n : tie.Need-overflow_add-n invariant-loop decreases-loop
 add-n c =
-    let a = c.before.before.before.before.before.before.before.before.before.before.before.before.before.before.before.before.before.before.before.before.before.args in
+    let a = c.args in
     omega (
       arith,
-      below c.before.before.before.before.before.before.before.before.before.before.before.before.before.before.loop.invariant.0.turning c.before.before.before.before.before.before.before.before.before.before.before.before.turn.ensures (not-false _ c.if2.false),
+      below c.loop-command.invariant.0.turning c.turn-one.ensures (not-false _ c.if-not-one.false),
       few-answers (command_in a.command (lent a.text.now (buffers a.old.now a.distances.now a.counts.now a.neighbours.now a.ratings.now))) a.sheet,
     )
 
-loop-less : tie.Need-loop-smaller invariant-loop decreases-loop
+loop-less : tie.Need-loop-command-smaller invariant-loop decreases-loop
 loop-less c =
-    omega (arith, below c.before.before.before.before.before.before.before.before.before.before.before.before.before.before.loop.invariant.0.turning c.before.before.before.before.before.before.before.before.before.before.before.before.turn.ensures (not-false _ c.if2.false))
+    omega (arith, below c.loop-command.invariant.0.turning c.turn-one.ensures (not-false _ c.if-not-one.false))
 
-loop-again : tie.Need-loop-preserved invariant-loop decreases-loop
+loop-again : tie.Need-loop-command-preserved invariant-loop decreases-loop
 loop-again c =
-    let i = c.before.before.before.before.before.before.before.before.before.before.before.before.before.before.loop.invariant in (
-      again i.0 c.before.before.before.before.before.before.before.before.before.before.before.before.turn.ensures c.before.before.before.before.before.before.lay.ensures (not-false _ c.before.before.if1.false) (not-false _ c.if2.false),
+    let i = c.loop-command.invariant in (
+      again i.0 c.turn-one.ensures c.lay-laid.ensures (not-false _ c.if-not-laid.false) (not-false _ c.if-not-one.false),
       search rules,
       search rules,
       search rules,
     )
 
-pub each-answer-spec : {M : Type 1} → statement M
-each-answer-spec =
+pub each_answer_spec : {M : Type 1} → statement M
+each_answer_spec =
     tie.close
     (tie.spec
     invariant-loop

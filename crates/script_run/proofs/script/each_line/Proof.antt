@@ -9,50 +9,50 @@ use Rattle.script_run.proofs.Lines.{Reading, starts, stops, ends, again}
 use Rattle.script_run.proofs.script.each_line.Statement.{statement}
 use Rattle.script_run.proofs.script.each_line.Tie as tie
 
-abbrev invariant-loop : tie.invariant-loop
+abbrev invariant-loop : tie.invariant-loop-turned
 invariant-loop script out₀ room write sheet₀ at₀ from₀ out sheet at from = Reading script write room out₀ from sheet out at × (length out ≡ length out₀)
 
-abbrev decreases-loop : tie.decreases-loop
+abbrev decreases-loop : tie.decreases-loop-turned
 decreases-loop script out₀ room write sheet₀ at₀ from₀ out sheet at from = length script - from
 
-loop-holds : tie.Need-loop-init invariant-loop decreases-loop
-loop-holds c = let s = c.before.before.before in (starts s.args.script.now c.empty.ensures s.requires, search rules)
+loop-holds : tie.Need-loop-turned-init invariant-loop decreases-loop
+loop-holds c = let s = c in (starts s.args.script.now c.empty-sheet.ensures s.requires, search rules)
 
-end-of-requires : tie.Need-end-of-requires invariant-loop decreases-loop
-end-of-requires c κs = c.loop.invariant.0.inside
+end-of-requires : tie.Need-end_of-end-requires invariant-loop decreases-loop
+end-of-requires c κs = c.loop-turned.invariant.0.inside
 
-sub-answer-line : tie.Need-overflow-sub-answer-line invariant-loop decreases-loop
-sub-answer-line c = omega (arith, c.end_of_lem.ensures.onward)
+sub-answer-line : tie.Need-slice_bounds-answer_line-count invariant-loop decreases-loop
+sub-answer-line c = omega (arith, c.end_of-end.ensures.onward)
 
-part-answer-line-start : tie.Need-slice-bounds-answer-line-start invariant-loop decreases-loop
-part-answer-line-start c = omega (arith, c.end_of_lem.ensures.onward, c.end_of_lem.ensures.inside)
+part-answer-line-start : tie.Need-slice_bounds-answer_line-start invariant-loop decreases-loop
+part-answer-line-start c = omega (arith, c.end_of-end.ensures.onward, c.end_of-end.ensures.inside)
 
-part-answer-line-end : tie.Need-slice-bounds-answer-line-end invariant-loop decreases-loop
-part-answer-line-end c = omega (arith, c.end_of_lem.ensures.onward, c.end_of_lem.ensures.inside)
+part-answer-line-end : tie.Need-slice_bounds-answer_line-end invariant-loop decreases-loop
+part-answer-line-end c = omega (arith, c.end_of-end.ensures.onward, c.end_of-end.ensures.inside)
 
-answer-line-requires : tie.Need-answer-line-requires invariant-loop decreases-loop
-answer-line-requires c κs = c.before.before.before.loop.invariant.0.place
+answer-line-requires : tie.Need-answer_line-turned-requires invariant-loop decreases-loop
+answer-line-requires c κs = c.loop-turned.invariant.0.place
 
-returns : tie.Need-returns invariant-loop decreases-loop
-returns c = stops c.before.before.before.before.before.before.before.before.before.loop.invariant.0 c.before.before.before.before.before.before.before.before.end_of_lem.ensures c.before.before.before.before.before.answer-line.ensures (not-true _ c.if1.true)
+returns : tie.Need-returns-then-not-laid invariant-loop decreases-loop
+returns c = stops c.loop-turned.invariant.0 c.end_of-end.ensures c.answer_line-turned.ensures (not-true _ c.if-not-laid.true)
 
-returns-2 : tie.Need-returns-2 invariant-loop decreases-loop
-returns-2 c = ends c.before.before.before.before.before.before.before.before.before.before.before.loop.invariant.0 c.before.before.before.before.before.before.before.before.before.before.end_of_lem.ensures c.before.before.before.before.before.before.before.answer-line.ensures c.if2.true
+returns-2 : tie.Need-returns-then-end-script invariant-loop decreases-loop
+returns-2 c = ends c.loop-turned.invariant.0 c.end_of-end.ensures c.answer_line-turned.ensures c.if-end-script.true
 
-add-from : tie.Need-overflow-add-from invariant-loop decreases-loop
+add-from : tie.Need-overflow_add-from invariant-loop decreases-loop
 add-from c = omega arith
 
-loop-less : tie.Need-loop-smaller invariant-loop decreases-loop
-loop-less c = omega (arith, c.before.before.before.before.before.before.before.before.before.before.end_of_lem.ensures.onward, c.if2.false)
+loop-less : tie.Need-loop-turned-smaller invariant-loop decreases-loop
+loop-less c = omega (arith, c.end_of-end.ensures.onward, c.if-end-script.false)
 
-loop-again : tie.Need-loop-preserved invariant-loop decreases-loop
+loop-again : tie.Need-loop-turned-preserved invariant-loop decreases-loop
 loop-again c = (
-  again c.before.before.before.before.before.before.before.before.before.before.before.loop.invariant.0 c.before.before.before.before.before.before.before.before.before.before.end_of_lem.ensures c.before.before.before.before.before.before.before.answer-line.ensures (not-false _ c.before.before.if1.false) c.if2.false,
+  again c.loop-turned.invariant.0 c.end_of-end.ensures c.answer_line-turned.ensures (not-false _ c.if-not-laid.false) c.if-end-script.false,
   search rules,
 )
 
-pub each-line-spec : {M : Type 1} → statement M
-each-line-spec =
+pub each_line_spec : {M : Type 1} → statement M
+each_line_spec =
     tie.close
     (tie.spec
     invariant-loop
