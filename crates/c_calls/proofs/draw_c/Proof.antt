@@ -10,12 +10,12 @@ use Rattle.c_calls.proofs.draw_c.Tie as tie
 
 code-requires : tie.Need-code-requires
 code-requires c κs =
-    let a = c.before.before.before.before.args in
-    few c.before.positions-text.result (λ n h. omega (arith, positions-few a.text.now a.out.now n h)) c.before.positions-text.ensures.answered
+    let a = c.args in
+    few c.positions_text-answer.result (λ n h. omega (arith, positions-few a.text.now a.out.now n h)) c.positions_text-answer.ensures.answered
 
 returns : tie.Need-returns
-returns c = codes c.before.before.positions-text.ensures (back' c.code.result c.code.type-inv ∙ c.code.ensures)
+returns c = codes c.positions_text-answer.ensures (back' c.code.result c.code.type_inv ∙ c.code.ensures)
 
-pub draw-c-spec : {M : Type 1} → statement M
-draw-c-spec = tie.close
+pub draw_c_spec : {M : Type 1} → statement M
+draw_c_spec = tie.close
     (tie.spec (λ c κs. search rules) code-requires (λ c. search rules) returns)

@@ -10,12 +10,12 @@ use Rattle.c_calls.proofs.marks_c.Tie as tie
 
 code-requires : tie.Need-code-requires
 code-requires c κs =
-    let a = c.before.before.before.before.before.before.args in
-    few c.before.before.marks-text.result (λ n h. omega (arith, marks-few a.text.now a.out.now n h)) c.before.before.marks-text.ensures.answered
+    let a = c.args in
+    few c.marks_text-answer.result (λ n h. omega (arith, marks-few a.text.now a.out.now n h)) c.marks_text-answer.ensures.answered
 
 returns : tie.Need-returns
-returns c = codes c.before.before.before.marks-text.ensures (back' c.code.result c.code.type-inv ∙ c.code.ensures)
+returns c = codes c.marks_text-answer.ensures (back' c.code.result c.code.type_inv ∙ c.code.ensures)
 
-pub marks-c-spec : {M : Type 1} → statement M
-marks-c-spec = tie.close
+pub marks_c_spec : {M : Type 1} → statement M
+marks_c_spec = tie.close
     (tie.spec (λ c κs. search rules) code-requires (λ c. search rules) returns)

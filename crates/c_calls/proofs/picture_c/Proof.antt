@@ -8,14 +8,14 @@ use Rattle.c_codes.proofs.CodeLaws.{picture-codes, few-drawn}
 use Rattle.c_calls.proofs.picture_c.Statement.{statement}
 use Rattle.c_calls.proofs.picture_c.Tie as tie
 
-picture-code-requires : tie.Need-picture-code-requires
+picture-code-requires : tie.Need-picture_code-requires
 picture-code-requires c κs =
-    let a = c.before.before.before.before.before.before.before.args in
-    few-drawn c.before.before.picture-text.result (λ n h. omega (arith, picture-few a.text.now a.names.now a.out.now n h)) c.before.before.picture-text.ensures.answer
+    let a = c.args in
+    few-drawn c.picture_text-answer.result (λ n h. omega (arith, picture-few a.text.now a.names.now a.out.now n h)) c.picture_text-answer.ensures.answer
 
 returns : tie.Need-returns
-returns c = picture-codes c.before.before.before.picture-text.ensures (back' c.picture-code.result c.picture-code.type-inv ∙ c.picture-code.ensures)
+returns c = picture-codes c.picture_text-answer.ensures (back' c.picture_code.result c.picture_code.type_inv ∙ c.picture_code.ensures)
 
-pub picture-c-spec : {M : Type 1} → statement M
-picture-c-spec = tie.close
+pub picture_c_spec : {M : Type 1} → statement M
+picture_c_spec = tie.close
     (tie.spec (λ c κs. search rules) picture-code-requires (λ c. search rules) returns)

@@ -8,12 +8,12 @@ use Rattle.c_calls.proofs.place_run_c.Tie as tie
 returns : tie.Need-returns
 returns c =
     let p = c.before.before in
-    let s = p.before.before.before.before.before.before.before in
-    let l = simp (back s.ranges.left) at p.before.before.before.bound.ensures in
-    let r = simp (back s.ranges.right) at p.before.before.bound2.ensures in
-    run-answers (rw (l, r) at p.place-run.ensures) c.run-code.ensures
+    let s = p in
+    let l = simp (back s.ranges.left) at p.bound.ensures in
+    let r = simp (back s.ranges.right) at p.bound-2.ensures in
+    run-answers (rw (l, r) at p.place_run-answered.ensures) c.run_code.ensures
 
-pub place-run-c-spec : {M : Type 1} → statement M
-place-run-c-spec =
+pub place_run_c_spec : {M : Type 1} → statement M
+place_run_c_spec =
     tie.close
     (tie.spec (λ c κs. search rules) (λ c κs. search rules) (λ c κs. search rules) (λ c κs. search rules) (λ c. search rules) returns)

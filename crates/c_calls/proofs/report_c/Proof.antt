@@ -10,12 +10,12 @@ use Rattle.c_calls.proofs.report_c.Tie as tie
 
 code-requires : tie.Need-code-requires
 code-requires c κs =
-    let a = c.before.before.before.before.before.before.args in
-    few c.before.before.report-text.result (λ n h. omega (arith, report-few a.text.now a.out.now n h)) c.before.before.report-text.ensures.answered
+    let a = c.args in
+    few c.report_text-answer.result (λ n h. omega (arith, report-few a.text.now a.out.now n h)) c.report_text-answer.ensures.answered
 
 returns : tie.Need-returns
-returns c = codes c.before.before.before.report-text.ensures (back' c.code.result c.code.type-inv ∙ c.code.ensures)
+returns c = codes c.report_text-answer.ensures (back' c.code.result c.code.type_inv ∙ c.code.ensures)
 
-pub report-c-spec : {M : Type 1} → statement M
-report-c-spec = tie.close
+pub report_c_spec : {M : Type 1} → statement M
+report_c_spec = tie.close
     (tie.spec (λ c κs. search rules) code-requires (λ c. search rules) returns)

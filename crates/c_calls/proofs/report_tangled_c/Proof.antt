@@ -10,12 +10,12 @@ use Rattle.c_calls.proofs.report_tangled_c.Tie as tie
 
 code-requires : tie.Need-code-requires
 code-requires c κs =
-    let a = c.before.before.before.before.before.before.args in
-    few c.before.before.report-tangled-text.result (λ n h. omega (arith, tangled-few a.text.now a.out.now n h)) c.before.before.report-tangled-text.ensures.answered
+    let a = c.args in
+    few c.report_tangled_text-answer.result (λ n h. omega (arith, tangled-few a.text.now a.out.now n h)) c.report_tangled_text-answer.ensures.answered
 
 returns : tie.Need-returns
-returns c = codes c.before.before.before.report-tangled-text.ensures (back' c.code.result c.code.type-inv ∙ c.code.ensures)
+returns c = codes c.report_tangled_text-answer.ensures (back' c.code.result c.code.type_inv ∙ c.code.ensures)
 
-pub report-tangled-c-spec : {M : Type 1} → statement M
-report-tangled-c-spec = tie.close
+pub report_tangled_c_spec : {M : Type 1} → statement M
+report_tangled_c_spec = tie.close
     (tie.spec (λ c κs. search rules) code-requires (λ c. search rules) returns)

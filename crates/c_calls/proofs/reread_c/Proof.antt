@@ -8,14 +8,14 @@ use Rattle.c_codes.proofs.CodeLaws.{again-codes, few-again}
 use Rattle.c_calls.proofs.reread_c.Statement.{statement}
 use Rattle.c_calls.proofs.reread_c.Tie as tie
 
-again-code-requires : tie.Need-again-code-requires
+again-code-requires : tie.Need-again_code-requires
 again-code-requires c κs =
-    let a = c.before.before.before.before.before.before.args in
-    few-again c.before.before.rewrite.result (λ n h. omega (arith, written-few a.text.now a.out.now n h)) c.before.before.rewrite.ensures.answer
+    let a = c.args in
+    few-again c.rewrite-answer.result (λ n h. omega (arith, written-few a.text.now a.out.now n h)) c.rewrite-answer.ensures.answer
 
 returns : tie.Need-returns
-returns c = again-codes c.before.before.before.rewrite.ensures (back' c.again-code.result c.again-code.type-inv ∙ c.again-code.ensures)
+returns c = again-codes c.rewrite-answer.ensures (back' c.again_code.result c.again_code.type_inv ∙ c.again_code.ensures)
 
-pub reread-c-spec : {M : Type 1} → statement M
-reread-c-spec = tie.close
+pub reread_c_spec : {M : Type 1} → statement M
+reread_c_spec = tie.close
     (tie.spec (λ c κs. search rules) again-code-requires (λ c. search rules) returns)

@@ -9,12 +9,12 @@ use Rattle.c_calls.proofs.script_c.Tie as tie
 
 code-requires : tie.Need-code-requires
 code-requires c κs =
-    let a = c.before.before.before.before.before.before.args in
-    few c.before.before.answers.result (answers-few a.script.now a.out.now) c.before.before.answers.ensures.answered
+    let a = c.args in
+    few c.answers-answer.result (answers-few a.script.now a.out.now) c.answers-answer.ensures.answered
 
 returns : tie.Need-returns
-returns c = codes c.before.before.before.answers.ensures (back' c.code.result c.code.type-inv ∙ c.code.ensures)
+returns c = codes c.answers-answer.ensures (back' c.code.result c.code.type_inv ∙ c.code.ensures)
 
-pub script-c-spec : {M : Type 1} → statement M
-script-c-spec = tie.close
+pub script_c_spec : {M : Type 1} → statement M
+script_c_spec = tie.close
     (tie.spec (λ c κs. search rules) code-requires (λ c. search rules) returns)

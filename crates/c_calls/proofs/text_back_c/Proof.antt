@@ -10,12 +10,12 @@ use Rattle.c_calls.proofs.text_back_c.Tie as tie
 
 code-requires : tie.Need-code-requires
 code-requires c κs =
-    let a = c.before.before.before.before.before.before.args in
-    few c.before.before.text-back.result (λ n h. omega (arith, back-few a.text.now a.out.now n h)) c.before.before.text-back.ensures.answered
+    let a = c.args in
+    few c.text_back-answer.result (λ n h. omega (arith, back-few a.text.now a.out.now n h)) c.text_back-answer.ensures.answered
 
 returns : tie.Need-returns
-returns c = codes c.before.before.before.text-back.ensures (back' c.code.result c.code.type-inv ∙ c.code.ensures)
+returns c = codes c.text_back-answer.ensures (back' c.code.result c.code.type_inv ∙ c.code.ensures)
 
-pub text-back-c-spec : {M : Type 1} → statement M
-text-back-c-spec = tie.close
+pub text_back_c_spec : {M : Type 1} → statement M
+text_back_c_spec = tie.close
     (tie.spec (λ c κs. search rules) code-requires (λ c. search rules) returns)

@@ -8,14 +8,14 @@ use Rattle.c_codes.proofs.CodeLaws.{untangled-codes, few-again}
 use Rattle.c_calls.proofs.untangle_c.Statement.{statement}
 use Rattle.c_calls.proofs.untangle_c.Tie as tie
 
-again-code-requires : tie.Need-again-code-requires
+again-code-requires : tie.Need-again_code-requires
 again-code-requires c κs =
-    let a = c.before.before.before.before.before.before.before.before.before.before.args in
-    few-again c.before.before.before.before.untangle-text.result (λ n h. omega (arith, written-few a.text.now a.out.now a.numbers.now n h)) c.before.before.before.before.untangle-text.ensures.answer
+    let a = c.args in
+    few-again c.untangle_text-answer.result (λ n h. omega (arith, written-few a.text.now a.out.now a.numbers.now n h)) c.untangle_text-answer.ensures.answer
 
 returns : tie.Need-returns
-returns c = untangled-codes c.before.before.before.before.before.untangle-text.ensures (back' c.again-code.result c.again-code.type-inv ∙ c.again-code.ensures)
+returns c = untangled-codes c.untangle_text-answer.ensures (back' c.again_code.result c.again_code.type_inv ∙ c.again_code.ensures)
 
-pub untangle-c-spec : {M : Type 1} → statement M
-untangle-c-spec = tie.close
+pub untangle_c_spec : {M : Type 1} → statement M
+untangle_c_spec = tie.close
     (tie.spec (λ c κs. search rules) again-code-requires (λ c. search rules) (λ c. search rules) returns)
