@@ -1,20 +1,23 @@
 // Reads a script from standard input, carries out its commands on a sheet, and writes their answers to standard output as it goes.
 #![tactic(auto)]
 
-ghost use Rattle.std.specs.Prelude.{◌≡◌, ◌≤◌, ◌<◌, length};
+ghost use Rattle.std.specs.Prelude.{◌≡◌, ◌≤◌, ◌<◌, length, IfOk, OnOk};
+ghost use Rattle.std.specs.Io.KnownBytes.{Appends};
 ghost use Rattle.script_runs.specs.inner.Filled.{buffers};
 ghost use Rattle.script_commands.specs.Table.{command_of};
 ghost use Rattle.script_commands.specs.inner.Held.{lent, command_in, Inside};
 ghost use Rattle.script_answers.specs.inner.Lengths.{max_answer};
-ghost use Rattle.script_told.specs.Turns.{turn_of};
+ghost use Rattle.script_told.specs.Turns.{turn_of, bytes_of};
 
-use libc::{STDIN_FILENO, STDOUT_FILENO};
 use script_commands::read::command;
 use script_commands::types::Command;
 use script_run::script::{ANSWER_ROOM, TEXT_ROOM};
 use script_turn::turn::turn;
 use script_words::parts::end_of;
 use sheet::types::Sheet;
+use std::io;
+use std::io::{Read, Write};
+use streams::read_full;
 
 // The room for one line: a load of 65,536 bytes, each written as an escape, takes an eighth of it. A line that fills it is no command.
 const LINE_ROOM: usize = 2097152;
@@ -39,7 +42,8 @@ struct Answered {
 }
 
 // Writes all answers of a command: the sheet afterwards.
-fn print_answers(
+fn print_answers<W: Write>(
+    output: &mut W,
     sheet: Sheet,
     command: Command,
     text: &[u8],
@@ -49,10 +53,13 @@ fn print_answers(
     neighbours: &[i64],
     ratings: &[u64],
     buffer: &mut [u8],
-) -> Sheet
+) -> io::Result<Sheet>
     requires { Inside (lent text.now (buffers old.now distances.now counts.now neighbours.now ratings.now)) command × (max_answer ≤ length buffer.old) }
-    ensures { result ≡ (turn_of (command_in command (lent text.now
-        (buffers old.now distances.now counts.now neighbours.now ratings.now))) sheet).sheet }
+    ensures sheet { IfOk result (λ s. s ≡ (turn_of (command_in command (lent text.now
+        (buffers old.now distances.now counts.now neighbours.now ratings.now))) sheet).sheet) }
+    ensures answers { OnOk result (Appends (W.contents output.old) (W.contents output.new)
+        (bytes_of (turn_of (command_in command (lent text.now
+        (buffers old.now distances.now counts.now neighbours.now ratings.now))) sheet).said)) }
 {
     let mut kept = sheet;
     let mut n: usize = 0;
@@ -62,17 +69,19 @@ fn print_answers(
         );
         kept = one.sheet;
         let written = one.written;
-        io::write_all(STDOUT_FILENO, &buffer[..written]);
+        output.write_all(&buffer[..written])?;
         if !one.more {
-            return kept;
+            return Ok(kept);
         }
         n += 1;
     }
 }
 
 // Carries out the command on a line.
-fn answer_line(sheet: Sheet, line: &[u8]) -> Sheet
-    ensures { result ≡ (turn_of (command_of line.now) sheet).sheet }
+fn answer_line<W: Write>(output: &mut W, sheet: Sheet, line: &[u8]) -> io::Result<Sheet>
+    ensures sheet { IfOk result (λ s. s ≡ (turn_of (command_of line.now) sheet).sheet) }
+    ensures answers { OnOk result (Appends (W.contents output.old) (W.contents output.new)
+        (bytes_of (turn_of (command_of line.now) sheet).said)) }
 {
     let mut text = [0u8; TEXT_ROOM];
     let mut old = [0i64; 65];
@@ -91,6 +100,7 @@ fn answer_line(sheet: Sheet, line: &[u8]) -> Sheet
         &mut ratings,
     );
     print_answers(
+        output,
         sheet,
         said,
         &text,
@@ -118,34 +128,30 @@ fn shift(room: &mut [u8], from: usize, to: usize) -> usize
 }
 
 // Fills the room behind what is left: up to where it is filled then.
-fn refill(room: &mut [u8], from: usize, to: usize) -> usize
+fn refill<R: Read>(input: &mut R, room: &mut [u8], from: usize, to: usize) -> io::Result<usize>
     requires { (from ≤ to) × (to ≤ length room.old) }
-    ensures { result ≤ length room.new }
+    ensures { IfOk result (λ n. n ≤ length room.new) }
 {
     let kept = shift(room, from, to);
-    let left = room.len() - kept;
-    let more = io::read_full(STDIN_FILENO, &mut room[kept..]);
-    if more <= left {
-        return kept + more;
-    }
-    kept
+    let more = read_full(input, &mut room[kept..])?;
+    Ok(kept + more)
 }
 
 // The next line.
-fn next(room: &mut [u8], from: usize, to: usize) -> Span
+fn next<R: Read>(input: &mut R, room: &mut [u8], from: usize, to: usize) -> io::Result<Span>
     requires { (from ≤ to) × (to ≤ length room.old) }
-    ensures { (result.from ≤ result.end) × (result.end ≤ result.to) × (result.to ≤ length room.new) }
+    ensures { IfOk result (λ s. (s.from ≤ s.end) × (s.end ≤ s.to) × (s.to ≤ length room.new)) }
 {
     let end = from + end_of(&room[from..to], b'\n', 0);
     if end < to {
-        return Span { from, end, to };
+        return Ok(Span { from, end, to });
     }
-    let filled = refill(room, from, to);
-    Span {
+    let filled = refill(input, room, from, to)?;
+    Ok(Span {
         from: 0,
         end: end_of(&room[..filled], b'\n', 0),
         to: filled,
-    }
+    })
 }
 
 // What follows a line.
@@ -160,85 +166,94 @@ fn after(end: usize, to: usize) -> usize
 }
 
 // Passes over the rest of a line that fills the room, which is no command, or over a remark: what follows it.
-fn pass_over(room: &mut [u8]) -> Span
+fn pass_over<R: Read, W: Write>(input: &mut R, output: &mut W, room: &mut [u8]) -> io::Result<Span>
     requires { 0 < length room.old }
-    ensures { (result.from ≤ result.to) × (result.to ≤ length room.new) }
+    ensures { IfOk result (λ s. (s.from ≤ s.to) × (s.to ≤ length room.new)) }
 {
     if room[0] != b'#' {
-        io::write_all(STDOUT_FILENO, b"unknown\n");
+        output.write_all(b"unknown\n")?;
     }
     let mut i: u64 = 0;
     while i < MOST_LINES {
-        let to = refill(room, 0, 0);
+        let to = refill(input, room, 0, 0)?;
         let end = end_of(&room[..to], b'\n', 0);
         if end < to {
-            return Span {
+            return Ok(Span {
                 from: end + 1,
                 end,
                 to,
-            };
+            });
         }
         if to < room.len() {
-            return Span {
+            return Ok(Span {
                 from: to,
                 end: to,
                 to,
-            };
+            });
         }
         i += 1;
     }
-    Span {
+    Ok(Span {
         from: 0,
         end: 0,
         to: 0,
-    }
+    })
 }
 
 // Carries out the command on the line from `a` up to `e`, or passes over it if it fills the room.
-fn answer_next(sheet: Sheet, room: &mut [u8], a: usize, e: usize, to: usize) -> Answered
+fn answer_next<R: Read, W: Write>(
+    input: &mut R,
+    output: &mut W,
+    sheet: Sheet,
+    room: &mut [u8],
+    a: usize,
+    e: usize,
+    to: usize,
+) -> io::Result<Answered>
     requires { (a ≤ e) × (a < to) × (e ≤ to) × (to ≤ length room.old) }
-    ensures { (result.from ≤ result.to) × (result.to ≤ length room.new) }
+    ensures { IfOk result (λ s. (s.from ≤ s.to) × (s.to ≤ length room.new)) }
 {
     if e - a == room.len() {
-        let left = pass_over(room);
-        return Answered {
+        let left = pass_over(input, output, room)?;
+        return Ok(Answered {
             sheet,
             from: left.from,
             to: left.to,
-        };
+        });
     }
-    let next_sheet = answer_line(sheet, &room[a..e]);
+    let next_sheet = answer_line(output, sheet, &room[a..e])?;
     let from = after(e, to);
-    Answered {
+    Ok(Answered {
         sheet: next_sheet,
         from,
         to,
-    }
+    })
 }
 
 // The answers to all lines.
-fn serve(room: &mut [u8]) {
+fn serve<R: Read, W: Write>(input: &mut R, output: &mut W, room: &mut [u8]) -> io::Result<()> {
     let mut sheet = Sheet::empty();
     let mut from: usize = 0;
     let mut to: usize = 0;
     let mut i: u64 = 0;
     while i < MOST_LINES {
-        let span = next(room, from, to);
+        let span = next(input, room, from, to)?;
         let a = span.from;
         let e = span.end;
         to = span.to;
         if a == to {
-            return;
+            return Ok(());
         }
-        let answered = answer_next(sheet, room, a, e, to);
+        let answered = answer_next(input, output, sheet, room, a, e, to)?;
         sheet = answered.sheet;
         from = answered.from;
         to = answered.to;
         i += 1;
     }
+    Ok(())
 }
 
-fn main() {
+fn main(rt: HostRuntime) -> io::Result<()> {
     let mut room = [0u8; LINE_ROOM];
-    serve(&mut room);
+    serve(&mut rt.stdin(), &mut rt.stdout(), &mut room)
 }
