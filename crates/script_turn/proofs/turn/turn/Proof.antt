@@ -40,13 +40,11 @@ one-call-requires-2 c κs = search rules
 enum-told-3 : tie.Need-enum_told-in-Draw
 enum-told-3 c = search rules
 
-
 one-call-requires-3 : tie.Need-one_call-requires-in-Draw
 one-call-requires-3 c κs = search rules
 
 enum-told-4 : tie.Need-enum_told-in-Clear
 enum-told-4 c = search rules
-
 
 one-call-requires-4 : tie.Need-one_call-requires-in-Clear
 one-call-requires-4 c κs = search rules
@@ -59,7 +57,6 @@ show-stage-requires c κs = search rules
 
 enum-known-command-3 : tie.Need-enum_known-command-in-Line-1
 enum-known-command-3 c = search rules
-
 
 at-most-requires : tie.Need-at_most-requires
 at-most-requires c κs = search rules
@@ -76,7 +73,6 @@ next-call-requires c κs = let s = c in let a = s.args in let b = lent a.text.no
 enum-known-command-4 : tie.Need-enum_known-command-in-TextLine-1
 enum-known-command-4 c = search rules
 
-
 at-most-requires-2 : tie.Need-at_most-requires-in-TextLine
 at-most-requires-2 c κs = search rules
 
@@ -91,7 +87,6 @@ next-call-requires-2 c κs = let s = c in let a = s.args in let b = lent a.text.
 
 enum-known-command-5 : tie.Need-enum_known-command-in-Mark-1
 enum-known-command-5 c = search rules
-
 
 one-call-requires-7 : tie.Need-one_call-requires-in-Mark
 one-call-requires-7 c κs = search rules
