@@ -46,7 +46,7 @@ pub struct Counts {
 }
 
 // A drawing just made, and how many placings it lists.
-#[derive(Drop)]
+#[derive(Clone, Copy)]
 pub struct NewDrawing {
     pub drawing: Drawing,
     pub placings: usize,

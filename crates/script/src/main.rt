@@ -34,7 +34,7 @@ struct Span {
 }
 
 // The sheet after a line, and what is left in the room.
-#[derive(Drop)]
+#[derive(Clone, Copy)]
 struct Answered {
     sheet: Sheet,
     from: usize,

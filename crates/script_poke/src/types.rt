@@ -2,7 +2,7 @@
 use sheet::types::Sheet;
 
 // Whether the record has the entry that was named, beside the sheet afterwards.
-#[derive(Drop)]
+#[derive(Clone, Copy)]
 pub struct Poked {
     pub known: bool,
     pub sheet: Sheet,

@@ -8,7 +8,7 @@ use script_calls::reply::{is_refused, say_reply};
 use sheet::types::Sheet;
 
 // The sheet afterwards, the position past the answer, and whether the call was refused.
-#[derive(Drop)]
+#[derive(Clone, Copy)]
 pub struct Answered {
     pub sheet: Sheet,
     pub next: usize,

@@ -55,7 +55,7 @@ pub enum Answer {
 }
 
 // beside the sheet afterwards.
-#[derive(Drop)]
+#[derive(Clone, Copy)]
 pub struct Changed {
     pub answer: Answer,
     pub sheet: Sheet,

@@ -26,7 +26,7 @@ pub enum Answer {
 }
 
 // What reading a text gives. Where it is refused the plan is 0 throughout.
-#[derive(Drop)]
+#[derive(Clone, Copy)]
 pub struct ReadText {
     pub answer: Answer,
     pub plan: Plan,

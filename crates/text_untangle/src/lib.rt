@@ -19,7 +19,7 @@ use text_read::{Answer, Found, read_into, refuses_both};
 
 // What reading a text that may be tangled gives: the untangled plan, and each vertex's number in the text. Where the text is refused
 // both are 0 throughout.
-#[derive(Drop)]
+#[derive(Clone, Copy)]
 pub struct ReadTangled {
     pub answer: Answer,
     pub plan: Plan,

@@ -1,5 +1,6 @@
 -- The two neighbours that `start` reads are the middle ones.
-use Rattle.std.proofs.Common.{◌≡◌, ◌∙◌, sym, arith, ℕ, ◌≤◌, length, List, [], ◌∷◌, ℤ, pos, w64, to_z, of_z}
+use Rattle.std.proofs.Common.{◌≡◌, ◌∙◌, sym, arith, ℕ, ◌≤◌, length, List, [], ◌∷◌, ℤ, pos, ◌+ℤ◌, w64, to_z, of_z}
+use mir.Val.{SFits}
 use lib.ListN.{get_or}
 use Rattle.ints.specs.Ints.{size}
 use Rattle.ints.specs.Reach.{reach}
@@ -19,6 +20,10 @@ none old (n ∷ ns) ws h = absurd (omega arith)
 read : (z : ℤ) → size z ≤ reach → to_z w64 (of_z w64 z) ≡ z
 read z h = back (fit-make z (omega arith))
 
+-- "within ±2^40": the sum of two fits
+add-half-down : (a b : ℤ) → size a ≤ reach → size b ≤ reach → SFits w64 (a +ℤ b)
+add-half-down a b l h = fit-sum a b (omega (arith, l, h))
+
 -- src/halves.rt:39:9
 pub returns-then-near-eq0 : goal.returns-then-near-eq0
 returns-then-near-eq0 c = back c.ranges.old ∙ none c.args.old c.args.near.now (ratings_between c.args.sums.now) c.if-near-eq0.true
@@ -35,5 +40,5 @@ returns c =
     let l : size (get_or a.near.now i (pos 0)) ≤ reach = near i (omega (arith, m.lower.within, s.long)) in
     let h : size (get_or a.near.now j (pos 0)) ≤ reach = near j (omega (arith, m.upper.within, s.long)) in
     back' c.half_down.result c.half_down.type_inv
-    ∙ simp (read (get_or a.near.now i (pos 0)) l, read (get_or a.near.now j (pos 0)) h, back (fit-sum (get_or a.near.now i (pos 0)) (get_or a.near.now j (pos 0)) (omega (arith, l, h)))) at c.half_down.ensures
+    ∙ simp (read (get_or a.near.now i (pos 0)) l, read (get_or a.near.now j (pos 0)) h, back (add-half-down (get_or a.near.now i (pos 0)) (get_or a.near.now j (pos 0)) l h)) at c.half_down.ensures
     ∙ start_between s a.old i j m
