@@ -1,6 +1,6 @@
 fn main() {
     let root = std::path::Path::new(env!("CARGO_MANIFEST_DIR")).join("..");
-    let libraries = root.join("target/staticlib");
+    let libraries = root.join("crates/c_calls/out");
     println!("cargo:rustc-link-search=native={}", libraries.display());
     println!("cargo:rustc-link-lib=static=c_calls");
     println!(

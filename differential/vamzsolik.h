@@ -1,5 +1,5 @@
-/* The proved calls over numbers and slices: library target/staticlib/libc_calls.a. A slice passes as a pointer and then a length; a
-   call reads and writes within the lengths alone. */
+/* The proved calls over numbers and slices: library crates/c_calls/out/libc_calls.a. A slice passes as a pointer and then a length;
+   a call reads and writes within the lengths alone. */
 #ifndef VAMZSOLIK_H
 #define VAMZSOLIK_H
 

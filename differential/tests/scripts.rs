@@ -218,7 +218,7 @@ const LINE_ROOM: usize = 2_097_152;
 
 /// What the program `script` answers.
 fn run(commands: &[u8]) -> Vec<u8> {
-    let program = Path::new(env!("CARGO_MANIFEST_DIR")).join("../target/bin/script");
+    let program = Path::new(env!("CARGO_MANIFEST_DIR")).join("../crates/script/out/script");
     let mut child = Command::new(program)
         .stdin(Stdio::piped())
         .stdout(Stdio::piped())

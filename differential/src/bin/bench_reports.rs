@@ -70,7 +70,7 @@ fn process(program: &Path, words: &[&str], plan: &Path) -> f64 {
 
 fn measure_process(name: &str, root: &Path, plan: &Path) {
     let (counter, reference) = (
-        root.join("target/bin/counter"),
+        root.join("crates/counter/out/counter"),
         root.join("reference/target/release/reference"),
     );
     let (mut proved_times, mut reference_times) = (Vec::new(), Vec::new());
