@@ -3,13 +3,11 @@
 use mathlib.Core.Path.{◌≡◌, refl, sym, ◌∙◌, ap, subst}
 use mathlib.Core.Bool.{true, false, ◌&&◌}
 use mathlib.Core.List.{List, [], ◌∷◌, ◌++◌, map}
-use Prim.Native.Nat.{ℕ, zero, suc, ◌+◌, ◌≤◌, ◌<◌}
+use Prim.Native.Nat.{ℕ, zero, suc, ◌≤◌, ◌<◌}
 use native.Mathlib.Omega.{arith}
-use native.Mathlib.Numerals.{add-one}
 use borrow.Author.Tests.{leb-true, leb-false, le-leb, lt-leb}
 use lib.Dec.{T}
-use lib.ListN.{length, get_or, take, drop, drop_of_length-le}
-use lib.Seq.{drop-cons}
+use lib.ListN.{length, get_or, take, drop}
 use lib.IntN.{ℤ, pos, negsuc}
 use lib.Signed.{le_z}
 use Rattle.ints.specs.Ints.{size, SizedTo}
@@ -65,20 +63,6 @@ pub within-right : (xs ys : List ℤ) → all_within (xs ++ ys) ≡ true → all
 unfolding all_within
 within-right [] ys e = e
 within-right (x ∷ xs) ys e = within-right xs ys (and_right (is_within x) (all_within (xs ++ ys)) e)
-
--- ---- what is left of a list after the first i
-module _ (xs : List ℤ) (i : ℕ) where
-  pub within_on : i < length xs → is_within (get_or xs i (pos 0)) ≡ true → all_within (drop i xs) ≡ all_within (drop (i + 1) xs)
-  unfolding all_within
-  within_on h e = rw (add-one, drop-cons xs i (pos 0) h, e)
-
-  pub within-stop : i < length xs → is_within (get_or xs i (pos 0)) ≡ false → all_within (drop i xs) ≡ false
-  unfolding all_within
-  within-stop h e = rw (drop-cons xs i (pos 0) h, e)
-
-  pub within_end : length xs ≤ i → all_within (drop i xs) ≡ true
-  unfolding all_within
-  within_end h = rw (drop_of_length-le xs h)
 
 -- ---- not further than m from 0
 pub sized-tail : (m : ℕ) (x : ℤ) (xs : List ℤ) → SizedTo m (x ∷ xs) → SizedTo m xs

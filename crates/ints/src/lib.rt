@@ -42,25 +42,22 @@ pub fn minus(a: i64, d: u64) -> i64
 pub fn lesser(a: i64, b: i64) -> i64
     ensures { result ≡ min_z a b }
 {
-    if b < a { b } else { a }
+    a.min(b)
 }
 
 pub fn greater(a: i64, b: i64) -> i64
     ensures { result ≡ max_z a b }
 {
-    if a < b { b } else { a }
+    a.max(b)
 }
 
 // How far apart two positions stand, in either order.
+#[tactic(auto, unfolding(crate::specs::Ints::gap))]
 pub fn apart(a: i64, b: i64) -> u64
     requires { size a + size b < 2 ^ 63 }
     ensures { result ≡ gap a b }
 {
-    if a < b {
-        (b - a) as u64
-    } else {
-        (a - b) as u64
-    }
+    a.abs_diff(b)
 }
 
 // Whether b stands less than d to the right of a; also where b stands to the left of a.
@@ -76,7 +73,7 @@ pub fn too_near(a: i64, b: i64, d: u64) -> bool
 pub fn wide(x: u16) -> usize
     ensures { result ≡ x }
 {
-    x as usize
+    usize::from(x)
 }
 
 // The sum of all numbers of a list.
@@ -84,11 +81,5 @@ pub fn total(xs: &[u16]) -> usize
     requires { length xs.now ≤ 2048 }
     ensures { result ≡ sum_of xs.now }
 {
-    let mut n: usize = 0;
-    let mut i: usize = 0;
-    while i < xs.len() {
-        n += wide(xs[i]);
-        i += 1;
-    }
-    n
+    xs.iter().map(|x| usize::from(*x)).sum()
 }

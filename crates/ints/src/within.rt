@@ -7,18 +7,11 @@ const REACH: i64 = 1 << 40;
 pub fn is_within(x: i64) -> bool
     ensures { result ≡ is_within x }
 {
-    -REACH <= x && x <= REACH
+    (-REACH..=REACH).contains(&x)
 }
 
 pub fn all_within(positions: &[i64]) -> bool
     ensures { result ≡ all_within positions.now }
 {
-    let mut i: usize = 0;
-    while i < positions.len() {
-        if !is_within(positions[i]) {
-            return false;
-        }
-        i += 1;
-    }
-    true
+    positions.iter().all(|x| is_within(*x))
 }

@@ -1,7 +1,7 @@
--- Laws of `count_of`, as a walk over a list meets them, and with it the numbers of a vertex's segments. Assumes nothing.
+-- Laws of `every`, of `count_of`, as a walk over a list meets them, and with it the numbers of a vertex's segments. Assumes nothing.
 use Prim.Native.Nat.{ℕ, zero, suc, ◌+◌, ◌<◌, ◌≤◌}
 use mathlib.Core.Path.{◌≡◌, refl, sym, ap}
-use mathlib.Core.Bool.{Bool, true, false}
+use mathlib.Core.Bool.{Bool, true, false, cond, ◌&&◌}
 use mathlib.Core.List.{List, [], ◌∷◌}
 use native.Mathlib.Omega.{arith}
 use native.Mathlib.Numerals.{add-one}
@@ -9,6 +9,7 @@ use borrow.Author.Tests.{eqb-true, eqb-false, eq-eqb, ne_eqb}
 use lib.Dec.{eqb}
 use lib.ListN.{length, get_or, drop, set, replicate, length-set, length-replicate, get_or-replicate, drop_of_length-le}
 use lib.Seq.{drop-cons, get_or-set_same, get_or-set_other}
+use Rattle.std.specs.List.{list_all, range_with_len}
 use Rattle.ints.specs.Lists.{count_if, count_of}
 use Rattle.plan.specs.Plan.{numbers}
 use Rattle.plan.specs.Segments.{segments_from, segments_of, above_in, below_in}
@@ -89,6 +90,16 @@ below-count (a ∷ «as») (b ∷ bs) v e =
     let more = below-count «as» bs v (omega arith) in
     by-same a v (λ h. rw (eq-eqb a v h, count_same v a «as» h, more)) (λ h. rw (ne_eqb a v h, count-other v a «as» h) more)
 
+-- ---- `every`, and as chains ask it
+and-cond : (a b : Bool) → (a && b) ≡ cond a b false
+and-cond true b = refl
+and-cond false b = refl
+
+pub list_all-every : {A : Type 0} (t : A → Bool) (xs : List A) → list_all t xs ≡ every t xs
+unfolding every
+list_all-every t [] = refl
+list_all-every t (x ∷ xs) = rw (list_all-every t xs) (and-cond (t x) (every t xs))
+
 -- ---- check 5: of the vertices from v on, n of them
 abbrev pub through_from : List Bool → List ℕ → List ℕ → ℕ → ℕ → Bool
 through_from vias «as» bs v n = every (is_through (graph_of [] vias «as» bs) (segments_from «as» bs)) (numbers v n)
@@ -98,22 +109,14 @@ module _ (vias : List Bool) («as» bs : List ℕ) where
   unfolding check5 segments_of is_through
   check5-same sizes = refl
 
-  pub through-none : (v n : ℕ) → n ≡ 0 → through_from vias «as» bs v n ≡ true
-  unfolding every numbers
-  through-none v n h = rw h
-
-  module _ (k : ℕ) (up down : List ℕ) (u : Counted k bs up) (d : Counted k «as» down) (e : length «as» ≡ length bs) (v : ℕ) (h : v < k) where
-    pub through_same : is_through (graph_of [] vias «as» bs) (segments_from «as» bs) v ≡ through (get_or vias v false) (get_or up v 0) (get_or down v 0)
+  module _ (k : ℕ) (up down : List ℕ) (u : Counted k bs up) (d : Counted k «as» down) (e : length «as» ≡ length bs) where
+    through_same : (v : ℕ) → v < k → is_through (graph_of [] vias «as» bs) (segments_from «as» bs) v ≡ through (get_or vias v false) (get_or up v 0) (get_or down v 0)
     unfolding is_through
-    through_same = rw (above-count «as» bs v e, below-count «as» bs v e, u.each v h, d.each v h)
+    through_same v h = rw (above-count «as» bs v e, below-count «as» bs v e, u.each v h, d.each v h)
 
-    pub through-on : (n m : ℕ) → n ≡ m + 1 → through (get_or vias v false) (get_or up v 0) (get_or down v 0) ≡ true
-        → through_from vias «as» bs v n ≡ through_from vias «as» bs (v + 1) m
+    -- as the program asks it, by the counts
+    pub through-all : (v n : ℕ) → v + n ≤ k → list_all (λ v. through (get_or vias v false) (get_or up v 0) (get_or down v 0)) (range_with_len v n) ≡ through_from vias «as» bs v n
     unfolding every numbers
-    through-on zero m q t = absurd (omega arith)
-    through-on (suc n) m q t = let i : n ≡ m = omega arith in rw (through_same, t, i)
-
-    pub through-stop : (n : ℕ) → 0 < n → through (get_or vias v false) (get_or up v 0) (get_or down v 0) ≡ false → through_from vias «as» bs v n ≡ false
-    unfolding every numbers
-    through-stop zero q t = absurd (omega arith)
-    through-stop (suc n) q t = rw (through_same, t)
+    through-all v zero h = refl
+    through-all v (suc n) h =
+        rw (through_same v (omega arith), through-all (v + 1) n (omega arith)) (and-cond (through (get_or vias v false) (get_or up v 0) (get_or down v 0)) (through_from vias «as» bs (v + 1) n))

@@ -1,18 +1,20 @@
--- Laws of `numbers`, `filled` and `level_in`, these as a loop over the levels meets them. Assumes nothing.
+-- Laws of `numbers`, of levels written and of `level_in`, these as a loop over the levels meets them. Assumes nothing.
 use Prim.Native.Nat.{ℕ, zero, suc, ◌+◌, ◌-◌, ◌<◌, ◌≤◌, min}
-use mathlib.Core.Path.{◌≡◌, refl, sym, ◌∙◌, ap}
+use mathlib.Core.Path.{◌≡◌, sym, ◌∙◌, ap}
 use mathlib.Core.List.{List, [], ◌∷◌, ◌++◌}
-use native.Mathlib.Nat.{zero-add}
 use native.Mathlib.Omega.{arith}
 use native.Mathlib.Numerals.{add-one}
 use borrow.Author.Tests.{lt-ltb, le-ltb, ltb-false}
 use lib.Dec.{ltb}
-use lib.ListN.{length, get_or, take, drop, set, length-set, drop_of_length-le}
-use lib.Seq.{drop-cons, get_or-set_same, get_or-set_other}
+use lib.ListN.{length, get_or, take, drop, replicate, drop_of_length-le}
+use lib.Seq.{drop-cons}
+use borrow.Author.Rules.{rules}
+use borrow.Rule.Slice.PartMut.{put_mid}
+use Rattle.std.proofs.lemmas.List.{places}
 use Rattle.ints.specs.Lists.{sum}
 use Rattle.ints.proofs.Laws.{if-ind, cases}
 use Rattle.plan.specs.Plan.{numbers, level_in}
-use Rattle.plan.specs.inner.Graph.{filled}
+use Rattle.plan.specs.inner.Graph.{Levelled}
 
 -- ---- numbers
 pub numbers-append : (v a b : ℕ) → numbers v (a + b) ≡ numbers v a ++ numbers (v + a) b
@@ -26,33 +28,19 @@ numbers-append v (suc a) b =
     let f : v + suc a ≡ v + 1 + a = omega arith in
     rw (e, f, numbers-append (v + 1) a b)
 
--- ---- filled
-pub filled_none : (xs : List ℕ) (at n l : ℕ) → n ≡ 0 → filled xs at n l ≡ xs
-unfolding filled
-filled_none xs at n l h = rw h
+-- ---- l written from `at` on, up to `to`
+abbrev pub wrote : List ℕ → ℕ → ℕ → ℕ → List ℕ
+wrote xs at to l = put_mid at (to - at) xs (replicate (to - at) l)
 
-pub filled_more : (xs : List ℕ) (at n m l : ℕ) → n ≡ m + 1 → filled xs at n l ≡ filled (set xs at l) (at + 1) m l
-unfolding filled
-filled_more xs at zero m l h = absurd (omega arith)
-filled_more xs at (suc n) m l h = let k : n ≡ m = omega arith in rw k
+module _ (xs : List ℕ) (at to l : ℕ) (h : at ≤ to) (k : to ≤ length xs) where
+  pub wrote-long : length (wrote xs at to l) ≡ length xs
+  wrote-long = search (rules, places)
 
-pub filled-long : (xs : List ℕ) (at n l : ℕ) → length (filled xs at n l) ≡ length xs
-unfolding filled
-filled-long xs at zero l = refl
-filled-long xs at (suc n) l = filled-long (set xs at l) (at + 1) n l ∙ length-set xs at l
+  pub wrote-before : (v : ℕ) → v < at → get_or (wrote xs at to l) v 0 ≡ get_or xs v 0
+  wrote-before v m = search (rules, places)
 
-pub filled-before : (xs : List ℕ) (at n l v : ℕ) → v < at → get_or (filled xs at n l) v 0 ≡ get_or xs v 0
-unfolding filled
-filled-before xs at zero l v h = refl
-filled-before xs at (suc n) l v h = filled-before (set xs at l) (at + 1) n l v (omega arith) ∙ get_or-set_other xs at v l 0 (λ e. omega arith)
-
-pub filled_in : (xs : List ℕ) (at n l v : ℕ) → at ≤ v → v < at + n → v < length xs → get_or (filled xs at n l) v 0 ≡ l
-unfolding filled
-filled_in xs at zero l v h k m = absurd (omega arith)
-filled_in xs at (suc n) l v h k m = cases v at
-    (λ e. let same : v ≡ at = omega arith in
-    filled-before (set xs at l) (at + 1) n l v (omega arith) ∙ ap (λ (i : ℕ). get_or (set xs at l) i 0) same ∙ get_or-set_same xs at l 0 (omega arith))
-    (λ e. filled_in (set xs at l) (at + 1) n l v (omega arith) (omega arith) (rw length-set m))
+  pub wrote-in : (v : ℕ) → at ≤ v → v < to → get_or (wrote xs at to l) v 0 ≡ l
+  wrote-in v m n = search (rules, places)
 
 -- ---- level_in, of any number and of a vertex
 pub level-low : (ns : List ℕ) (v : ℕ) → 1 ≤ level_in ns v
@@ -112,27 +100,32 @@ pub record WrittenTo (sizes level : List ℕ) (from i : ℕ) : Type 0 where
   pub written : (v : ℕ) → v < from → get_or level v 0 ≡ level_in sizes v
   pub ahead : (v : ℕ) → from ≤ v → v < length level → level_in sizes v ≡ i + level_in (drop i sizes) (v - from)
 
-pub levels-start : (sizes level : List ℕ) → WrittenTo sizes level 0 0
-levels-start sizes level =
-    record { written = λ v h. absurd (omega arith); ahead = λ v h k. let e : v - 0 ≡ v = omega arith in rw (e, zero-add) }
-
-module _ (sizes level : List ℕ) (from i : ℕ) (w : WrittenTo sizes level from i) where
-  pub levels-end : length sizes ≤ i → (v : ℕ) → v < length level → get_or (filled level from (length level - from) (i + 1)) v 0 ≡ level_in sizes v
-  levels-end h v k = cases from v
-      (λ m. filled_in level from (length level - from) (i + 1) v m (omega arith) k
-      ∙ sym (w.ahead v m k ∙ ap (λ (n : ℕ). i + n) (level-past sizes i (v - from) h)))
-      (λ m. filled-before level from (length level - from) (i + 1) v m ∙ w.written v m)
+module _ (sizes level : List ℕ) (from i : ℕ) (w : WrittenTo sizes level from i) (low : from ≤ length level) where
+  pub levels-end : length sizes ≤ i → Levelled sizes (wrote level from (length level) (i + 1))
+  levels-end h =
+      let now = wrote level from (length level) (i + 1) in
+      let long : length now ≡ length level = wrote-long level from (length level) (i + 1) low (omega arith) in
+      record {
+        each = λ v k. let k' : v < length level = rw long at k in cases from v
+            (λ m. wrote-in level from (length level) (i + 1) low (omega arith) v m k'
+            ∙ sym (w.ahead v m k' ∙ ap (λ (n : ℕ). i + n) (level-past sizes i (v - from) h)))
+            (λ m. wrote-before level from (length level) (i + 1) low (omega arith) v m ∙ w.written v m);
+      }
 
   pub levels-on : (to : ℕ) → i < length sizes → to ≡ min (from + get_or sizes i 0) (length level)
-      → WrittenTo sizes (filled level from (to - from) (i + 1)) to (i + 1)
-  levels-on to h e = record {
-    written = λ v k. cases from v
-        (λ m. filled_in level from (to - from) (i + 1) v m (omega arith) (omega arith)
-        ∙ sym (w.ahead v m (omega arith) ∙ ap (λ (n : ℕ). i + n) (level-here sizes i (v - from) h (omega arith))))
-        (λ m. filled-before level from (to - from) (i + 1) v m ∙ w.written v m);
-    ahead = λ v k m.
-        let m' : v < length level = rw filled-long at m in
-        let next = level-next sizes i (v - from) h (omega arith) in
-        let past : v - from - get_or sizes i 0 ≡ v - to = omega arith in
-        w.ahead v (omega arith) m' ∙ ap (λ (n : ℕ). i + n) (next ∙ ap (λ (n : ℕ). suc (level_in (drop (i + 1) sizes) n)) past) ∙ omega arith;
-  }
+      → WrittenTo sizes (wrote level from to (i + 1)) to (i + 1)
+  levels-on to h e =
+      let h1 : from ≤ to = omega arith in
+      let h2 : to ≤ length level = omega arith in
+      let long : length (wrote level from to (i + 1)) ≡ length level = wrote-long level from to (i + 1) h1 h2 in
+      record {
+        written = λ v k. cases from v
+            (λ m. wrote-in level from to (i + 1) h1 h2 v m k
+            ∙ sym (w.ahead v m (omega arith) ∙ ap (λ (n : ℕ). i + n) (level-here sizes i (v - from) h (omega arith))))
+            (λ m. wrote-before level from to (i + 1) h1 h2 v m ∙ w.written v m);
+        ahead = λ v k m.
+            let m' : v < length level = rw long at m in
+            let next = level-next sizes i (v - from) h (omega arith) in
+            let past : v - from - get_or sizes i 0 ≡ v - to = omega arith in
+            w.ahead v (omega arith) m' ∙ ap (λ (n : ℕ). i + n) (next ∙ ap (λ (n : ℕ). suc (level_in (drop (i + 1) sizes) n)) past) ∙ omega arith;
+      }

@@ -64,6 +64,7 @@ impl Plan {
     }
 
     // 0 throughout.
+    #[tactic(auto, unfolding(crate::specs::Stored::empty_plan))]
     pub fn empty() -> Self
         ensures { result ≡ empty_plan }
     {

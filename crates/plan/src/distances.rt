@@ -7,5 +7,5 @@ pub fn distance(gap: u32, u: usize, v: usize, halves: &[u16]) -> u32
     requires { Narrow gap halves.now × (u < length halves.now) × (v < length halves.now) }
     ensures { result ≡ distance_by gap halves.now u v }
 {
-    halves[u] as u32 + gap + halves[v] as u32
+    u32::from(halves[u]) + gap + u32::from(halves[v])
 }

@@ -10,13 +10,9 @@ use crate::numbers::in_range;
 pub fn numbers_fit(levels: u32, gap: u32, spacing: u32) -> bool
     ensures { result ≡ (within 1 max_levels levels && within 1 max_gap gap && within 1 max_spacing spacing) }
 {
-    if !in_range(1, Plan::MAX_LEVELS as u32, levels) {
-        return false;
-    }
-    if !in_range(1, Plan::MAX_GAP, gap) {
-        return false;
-    }
-    in_range(1, Plan::MAX_SPACING, spacing)
+    in_range(1, Plan::MAX_LEVELS as u32, levels)
+        && in_range(1, Plan::MAX_GAP, gap)
+        && in_range(1, Plan::MAX_SPACING, spacing)
 }
 
 // "half-width 1 to 200"

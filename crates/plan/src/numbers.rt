@@ -5,7 +5,7 @@ ghost use Rattle.plan.specs.Limits.{within};
 pub fn in_range(low: u32, high: u32, n: u32) -> bool
     ensures { result ≡ within low high n }
 {
-    low <= n && n <= high
+    (low..=high).contains(&n)
 }
 
 pub fn wide(n: u32) -> usize

@@ -7,11 +7,13 @@ use mathlib.Core.List.{List, [], ◌∷◌}
 use native.Mathlib.Omega.{arith}
 use borrow.Author.Tests.{lt-ltb, le-ltb}
 use lib.ListN.{length, get_or}
+use Rattle.std.specs.List.{list_all, zip}
 use Rattle.ints.proofs.Laws.{cases}
 use Rattle.plan.specs.Plan.{level_of}
-use Rattle.plan.specs.Segments.{Segment, segments_of}
+use Rattle.plan.specs.Segments.{Segment, segments_of, segments_from}
 use Rattle.plan.specs.Checks.{every, goes_one_down, check3, comes_before, rising}
 use Rattle.plan.specs.inner.Graph.{graph_of, segment, Levelled, one_down}
+use Rattle.plan.proofs.CountLaws.{list_all-every}
 use Rattle.plan_walks.specs.inner.Walks.{after}
 use Rattle.plan_walks.proofs.AfterLaws.{after-all, after_one}
 
@@ -34,18 +36,11 @@ module _ («as» bs : List ℕ) (i : ℕ) (e : length «as» ≡ length bs) wher
       (λ k. rw (after_one «as» bs i k e, after-all «as» bs (i + 1) h))
 
 -- ---- every
-module _ (t : Segment → Bool) («as» bs : List ℕ) (i : ℕ) where
-  pub every-on : length «as» ≡ length bs → i < length «as» → t (segment (get_or «as» i 0) (get_or bs i 0)) ≡ true → every t (after «as» bs i) ≡ every t (after «as» bs (i + 1))
-  unfolding every
-  every-on e h k = rw (after_one «as» bs i h e, k)
-
-  pub every-stop : length «as» ≡ length bs → i < length «as» → t (segment (get_or «as» i 0) (get_or bs i 0)) ≡ false → every t (after «as» bs i) ≡ false
-  unfolding every
-  every-stop e h k = rw (after_one «as» bs i h e, k)
-
-  pub every-end : length «as» ≤ i → every t (after «as» bs i) ≡ true
-  unfolding every
-  every-end h = rw (after-all «as» bs i h)
+pub every-pairs : (t : Segment → Bool) («as» bs : List ℕ) → list_all (λ p. t (segment p.0 p.1)) (zip «as» bs) ≡ every t (segments_from «as» bs)
+unfolding segments_from
+every-pairs t [] bs = list_all-every t []
+every-pairs t (a ∷ «as») [] = list_all-every t []
+every-pairs t (a ∷ «as») (b ∷ bs) = rw (every-pairs t «as» bs, ← list_all-every t (segments_from «as» bs)) (list_all-every t (segment a b ∷ segments_from «as» bs))
 
 pub every-same : {A : Type 0} (t u : A → Bool) (xs : List A) → ((x : A) → t x ≡ u x) → every t xs ≡ every u xs
 unfolding every

@@ -17,14 +17,10 @@ pub fn check_ends(level: &[u16], uppers: &[u32], lowers: &[u32]) -> bool
     ensures { (sizes : List ℕ) (vias : List Bool) → Levelled sizes level.now → length vias ≡ length level.now
         → result ≡ check3 (graph_of sizes vias uppers.now lowers.now) }
 {
-    let mut i: usize = 0;
-    while i < uppers.len() {
-        if !one_down(level, uppers[i], lowers[i]) {
-            return false;
-        }
-        i += 1;
-    }
-    true
+    uppers
+        .iter()
+        .zip(lowers)
+        .all(|(a, b)| one_down(level, *a, *b))
 }
 
 // 4: segments strictly rising by A, then B.
@@ -32,12 +28,10 @@ pub fn check_order(uppers: &[u32], lowers: &[u32]) -> bool
     requires { length uppers.now ≡ length lowers.now }
     ensures { (sizes : List ℕ) (vias : List Bool) → result ≡ check4 (graph_of sizes vias uppers.now lowers.now) }
 {
-    let mut i: usize = 0;
-    while i + 1 < uppers.len() {
-        if !comes_before(uppers[i], lowers[i], uppers[i + 1], lowers[i + 1]) {
+    for i in 1..uppers.len() {
+        if !comes_before(uppers[i - 1], lowers[i - 1], uppers[i], lowers[i]) {
             return false;
         }
-        i += 1;
     }
     true
 }
@@ -54,13 +48,17 @@ pub fn check_levels(sizes: &[u16], vias: &[bool], uppers: &[u32], lowers: &[u32]
 }
 
 // The number of the first of two checks that fails, 0 if both hold.
+#[tactic(auto, unfolding(ints::specs::Refusals::first_refusal))]
 pub fn first_of(m: u32, a: bool, n: u32, b: bool) -> u32
     ensures { result ≡ first_refusal (check m a ∷ check n b ∷ []) }
 {
     if !a {
-        return m;
+        m
+    } else if !b {
+        n
+    } else {
+        0
     }
-    if b { 0 } else { n }
 }
 
 // Checks 3 to 6 in this order: the number of the first that fails, 0 if none does.

@@ -12,11 +12,8 @@ fn count(ends: &[u32], counts: &mut [u16])
     requires { Below max_vertices ends.now × (length ends.now ≤ max_segments) × (counts.old ≡ replicate max_vertices 0) }
     ensures { Counted max_vertices ends.now counts.new }
 {
-    let mut i: usize = 0;
-    while i < ends.len() {
-        let v = ends[i] as usize;
-        counts[v] = counts[v] + 1;
-        i += 1;
+    for v in ends {
+        counts[*v as usize] += 1;
     }
 }
 
@@ -29,12 +26,5 @@ pub fn check_vias(vias: &[bool], uppers: &[u32], lowers: &[u32]) -> bool
     let mut down = [0u16; Plan::MAX_VERTICES];
     count(lowers, &mut up);
     count(uppers, &mut down);
-    let mut v: usize = 0;
-    while v < vias.len() {
-        if !is_through(vias[v], up[v], down[v]) {
-            return false;
-        }
-        v += 1;
-    }
-    true
+    (0..vias.len()).all(|v| is_through(vias[v], up[v], down[v]))
 }

@@ -1,6 +1,6 @@
 -- The test of remembered numbers by marks: a number that is no vertex, is on another level or was seen before is none of the plan's
 -- own; and if none is and every mark is set, each is there once. Assumes nothing.
-use Prim.Native.Nat.{ℕ, zero, suc, ◌+◌, ◌<◌, ◌≤◌}
+use Prim.Native.Nat.{ℕ, zero, suc, ◌+◌, ◌<◌}
 use mathlib.Core.Path.{◌≡◌, refl, sym, ◌∙◌, ap}
 use mathlib.Core.Bool.{Bool, true, false, not, ◌&&◌, true≢false}
 use mathlib.Core.List.{List, ◌∷◌}
@@ -19,7 +19,7 @@ use Rattle.plan.specs.inner.Graph.{Levelled}
 use Rattle.plan.proofs.All.{all-get, all-of-get, every-all, all-every}
 use Rattle.plan.proofs.CountLaws.{by-same, count_same, count-other, count_none}
 use Rattle.plan_renumber.specs.Renumber.{own_numbers}
-use Rattle.plan_renumber.specs.inner.Own.{is_new, bit, Markable, Marked, Numbers}
+use Rattle.plan_renumber.specs.inner.Own.{is_new, bit, Marked, Numbers}
 use Rattle.plan_renumber.proofs.Own.{Own, own, own-test}
 
 one_of : (b : Bool) → bit b ≡ 1 → b ≡ true
@@ -33,15 +33,6 @@ new-below level seen l v t =
     ltb-true v (length level) (and_left a b (and_left (a && b) (not (get_or seen v false)) t))
 
 module _ (level m : List ℕ) where
-  pub mark-start : (seen : List Bool) → Markable level m seen → Marked level m seen 0
-  mark-start seen g = record {
-    within = omega arith;
-    long = g.long;
-    below = λ j h. absurd (omega arith);
-    stays = λ j h. absurd (omega arith);
-    counts = λ v h. rw (g.none v) (omega arith);
-  }
-
   module _ (seen : List Bool) (i : ℕ) (w : Marked level m seen i) (h : i < length m) (long : length level ≡ length m) where
     -- a number that is new
     pub mark_on : is_new level seen (get_or level i 0) (get_or m i 0) ≡ true → Marked level m (set seen (get_or m i 0) true) (i + 1)
@@ -112,20 +103,6 @@ module _ (level m : List ℕ) where
       let k : v < length m = omega (arith, w.long) in
       one_of (get_or seen v false) (count v k ∙ o.once.once v (omega (arith, n.many)))))) ∙ e)))
       (λ q. q)))
-
--- ---- whether every mark from i on is set
-module _ (seen : List Bool) (i : ℕ) (h : i < length seen) where
-  pub all-on : get_or seen i false ≡ true → every (λ b. b) (drop i seen) ≡ every (λ b. b) (drop (i + 1) seen)
-  unfolding every
-  all-on e = rw (add-one i, drop-cons seen i false h, e)
-
-  pub all-stop : get_or seen i false ≡ false → every (λ b. b) (drop i seen) ≡ false
-  unfolding every
-  all-stop e = rw (drop-cons seen i false h, e)
-
-pub all_end : (seen : List Bool) (i : ℕ) → length seen ≤ i → every (λ b. b) (drop i seen) ≡ true
-unfolding every
-all_end seen i h = rw (drop_of_length-le seen {i = i} h)
 
 -- ---- marks that are not set
 pub none-set : (n k v : ℕ) → get_or (take n (replicate k false)) v false ≡ false

@@ -10,22 +10,7 @@ pub fn copy(xs: &[u16], out: &mut [u16])
     requires { length out.old ≡ length xs.now }
     ensures { out.new ≡ xs.now }
 {
-    let mut i: usize = 0;
-    while i < xs.len() {
-        out[i] = xs[i];
-        i += 1;
-    }
-}
-
-fn copy_flags(xs: &[bool], out: &mut [bool])
-    requires { length out.old ≡ length xs.now }
-    ensures { out.new ≡ xs.now }
-{
-    let mut i: usize = 0;
-    while i < xs.len() {
-        out[i] = xs[i];
-        i += 1;
-    }
+    out.copy_from_slice(xs);
 }
 
 // Numbers a plan's vertices anew by m. `spare`, `flags`, `places` and `codes` are room to work in.
@@ -45,9 +30,9 @@ pub fn renumber(
     ensures { (p : PlanData) → Lists p vias.old halves.old uppers.old lowers.old ratings.old
         → Lists (renumbered p m.now) vias.new halves.new uppers.new lowers.new ratings.new }
 {
-    copy_flags(vias, flags);
+    flags.copy_from_slice(vias);
     gather_flags(flags, m, vias);
-    copy(halves, spare);
+    spare.copy_from_slice(halves);
     gather(spare, m, halves);
     move_segments(m, places, uppers, lowers, ratings, codes);
 }

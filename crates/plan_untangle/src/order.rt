@@ -6,7 +6,6 @@ ghost use Rattle.plan_untangle.specs.Order.{order as order_of};
 ghost use Rattle.plan_untangle.specs.inner.Ordering.{Tangled, SomeTangled, Endable, Ended, Turnable, Turned, Ordering, SomeOrdering, ShareRoom, Tables};
 
 use crate::share::share_level;
-use ints::wide;
 use plan_checks::levels::levels;
 
 // Writes the numbers from 0 on.
@@ -14,10 +13,8 @@ pub fn count_up(out: &mut [u16])
     requires { length out.old ≤ max_vertices }
     ensures { out.new ≡ numbers 0 (length out.old) }
 {
-    let mut i: usize = 0;
-    while i < out.len() {
-        out[i] = i as u16;
-        i += 1;
+    for (i, x) in out.iter_mut().enumerate() {
+        *x = i as u16;
     }
 }
 
@@ -26,9 +23,7 @@ fn upper_ends(uppers: &[u32], lowers: &[u32], upper: &mut [u16])
     requires { Endable uppers.now lowers.now upper.old }
     ensures { Ended uppers.now lowers.now upper.new }
 {
-    let mut i = uppers.len();
-    while i > 0 {
-        i -= 1;
+    for i in (0..uppers.len()).rev() {
         let v = lowers[i] as usize;
         upper[v] = uppers[i] as u16;
     }
@@ -37,13 +32,7 @@ fn upper_ends(uppers: &[u32], lowers: &[u32], upper: &mut [u16])
 fn turn_of(via: bool, under: bool, l: u16) -> u16
     ensures { result ≡ cond (via && under) l 0 }
 {
-    if !via {
-        return 0;
-    }
-    if !under {
-        return 0;
-    }
-    l
+    if via && under { l } else { 0 }
 }
 
 // Leaves the level of each via whose upper end is a via, and 0 for every other vertex.
@@ -51,11 +40,9 @@ fn set_turns(vias: &[bool], upper: &[u16], turn: &mut [u16])
     requires { Turnable vias.now upper.now turn.old }
     ensures { Turned vias.now upper.now turn.old turn.new }
 {
-    let mut v: usize = 0;
-    while v < turn.len() {
-        let u = wide(upper[v]);
-        turn[v] = turn_of(vias[v], vias[u], turn[v]);
-        v += 1;
+    for (v, t) in turn.iter_mut().enumerate() {
+        let u = usize::from(upper[v]);
+        *t = turn_of(vias[v], vias[u], *t);
     }
 }
 
@@ -72,12 +59,10 @@ fn share_levels(
     ensures { (p : PlanData) → Ordering p sizes.now turn.now upper.now order.old → order.new ≡ order_of p }
 {
     let mut first: usize = 0;
-    let mut l: usize = 2;
-    while l <= sizes.len() {
-        first += wide(sizes[l - 2]);
-        let end = first + wide(sizes[l - 1]);
+    for l in 2..=sizes.len() {
+        first += usize::from(sizes[l - 2]);
+        let end = first + usize::from(sizes[l - 1]);
         share_level(turn, l as u16, upper, order, first, end, places, codes);
-        l += 1;
     }
 }
 

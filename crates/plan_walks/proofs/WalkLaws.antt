@@ -2,12 +2,13 @@
 -- first of a level on, up to the first of the next, are those that leave it. Assumes nothing.
 use Prim.Native.Nat.{ℕ, zero, suc, ◌+◌, ◌<◌, ◌≤◌}
 use mathlib.Core.Path.{◌≡◌, refl, sym, ◌∙◌, ap}
-use mathlib.Core.Bool.{Bool, true, false, cond, ◌&&◌}
+use mathlib.Core.Bool.{Bool, true, false, ◌&&◌}
 use mathlib.Core.List.{List, [], ◌∷◌}
 use native.Mathlib.Omega.{arith}
 use borrow.Author.Tests.{lt-ltb, le-ltb, eq-eqb, ne_eqb}
-use lib.Dec.{eqb}
+use lib.Dec.{eqb, ltb}
 use lib.ListN.{length, get_or, take, drop}
+use Rattle.std.specs.List.{prefix_len}
 use Rattle.ints.specs.Lists.{chosen, sum}
 use Rattle.ints.proofs.Laws.{cases}
 use Rattle.ints.proofs.Lists.{take_more}
@@ -49,11 +50,11 @@ module _ (vias : List Bool) («as» bs : List ℕ) (end i : ℕ) (e : length «a
   abbrev inner : Bool
   inner = get_or vias (get_or «as» i 0) false && get_or vias (get_or bs i 0) false
 
-  walk-skip : inner ≡ false → walk_at vias «as» bs end i taken last ≡ walk_at vias «as» bs end (i + 1) taken last
+  pub walk-skip : inner ≡ false → walk_at vias «as» bs end i taken last ≡ walk_at vias «as» bs end (i + 1) taken last
   unfolding inner_in
   walk-skip t = rw (ahead-on end «as» bs i e h k, t)
 
-  walk-on : inner ≡ true → last ≤ get_or bs i 0 → walk_at vias «as» bs end i taken last ≡ walk_at vias «as» bs end (i + 1) (taken + 1) (get_or bs i 0)
+  pub walk-on : inner ≡ true → last ≤ get_or bs i 0 → walk_at vias «as» bs end i taken last ≡ walk_at vias «as» bs end (i + 1) (taken + 1) (get_or bs i 0)
   unfolding inner_in walk_from
   walk-on t m = rw (ahead-on end «as» bs i e h k, t, le-ltb (get_or bs i 0) last m)
 
@@ -61,15 +62,11 @@ module _ (vias : List Bool) («as» bs : List ℕ) (end i : ℕ) (e : length «a
   unfolding inner_in walk_from
   walk-stop t m = rw (ahead-on end «as» bs i e h k, t, lt-ltb (get_or bs i 0) last m)
 
-  -- t is whether the segment is inner
-  pub walk-go : (t : Bool) → t ≡ inner → (t ≡ true → last ≤ get_or bs i 0)
-      → walk_at vias «as» bs end i taken last ≡ walk_at vias «as» bs end (i + 1) (cond t (taken + 1) taken) (cond t (get_or bs i 0) last)
-  walk-go true q m = walk-on (sym q) (m refl)
-  walk-go false q m = walk-skip (sym q)
-
-pub walk_none : (p : PlanData) (taken last : ℕ) (ss : List Segment) → ss ≡ [] → walk_from taken last (inner_in p ss) ≡ record { crossed = false; taken = taken }
+-- where no segment is ahead, the walk is at its end
+pub walk-out : (vias : List Bool) («as» bs : List ℕ) (end i taken last : ℕ) → ahead end (after «as» bs i) ≡ []
+    → walk_at vias «as» bs end i taken last ≡ record { crossed = false; taken = taken }
 unfolding inner_in walk_from
-walk_none p taken last ss e = rw e
+walk-out vias «as» bs end i taken last e = rw e
 
 -- ---- the segments of one level
 segments-none : («as» : List ℕ) → segments_from «as» [] ≡ []
@@ -92,6 +89,13 @@ unfolding ahead segments_from
 ahead-whole n [] bs h = refl
 ahead-whole n (a ∷ «as») [] h = refl
 ahead-whole n (a ∷ «as») (b ∷ bs) h = rw (lt-ltb a n (h 0 (omega arith)), ahead-whole n «as» bs (λ i k. h (suc i) (omega arith)))
+
+-- how many are ahead, by the upper ends alone
+pub ahead-long : (end : ℕ) («as» bs : List ℕ) → length «as» ≡ length bs → prefix_len (λ a. ltb a end) «as» ≡ length (ahead end (segments_from «as» bs))
+unfolding ahead segments_from
+ahead-long end [] bs e = refl
+ahead-long end (a ∷ «as») [] e = absurd (omega (arith, e))
+ahead-long end (a ∷ «as») (b ∷ bs) e = test (ltb a end) (λ t. rw (t, ahead-long end «as» bs (omega (arith, e))) (omega arith)) (λ t. rw t refl)
 
 module _ (t : Segment → Bool) (a b : ℕ) (low : (s : Segment) → s.upper < a → t s ≡ false) (high : (s : Segment) → b ≤ s.upper → t s ≡ false)
     (between : (s : Segment) → a ≤ s.upper → s.upper < b → t s ≡ true) where

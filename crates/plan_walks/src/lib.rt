@@ -2,8 +2,8 @@
 // as long as the data.
 #![tactic(auto)]
 
-ghost use Rattle.std.specs.Prelude.{◌≡◌, true, false, cond, ◌&&◌, List, ℕ, ◌+◌, ◌<◌, ◌≤◌, length, get_or};
-ghost use Rattle.plan.specs.Limits.{max_levels, max_segments};
+ghost use Rattle.std.specs.Prelude.{◌≡◌, true, false, ◌&&◌, List, ℕ, ◌<◌, ◌≤◌, length, get_or};
+ghost use Rattle.plan.specs.Limits.{max_levels};
 ghost use Rattle.plan.specs.Checks.{check3, check4, check6};
 ghost use Rattle.plan.specs.Walk.{walk};
 ghost use Rattle.plan.specs.inner.Graph.{graph_of, Within};
@@ -22,21 +22,6 @@ fn is_inner(vias: &[bool], a: u32, b: u32) -> bool
     vias[upper] && vias[lower]
 }
 
-// The lower end of the last inner segment: this one's if it is inner, else as before.
-fn latest(inner: bool, lower: u32, last: u32) -> u32
-    ensures { result ≡ cond inner lower last }
-{
-    if inner { lower } else { last }
-}
-
-// How many inner segments are taken: one more if this one is inner.
-fn counted(inner: bool, taken: usize) -> usize
-    requires { taken < max_segments }
-    ensures { result ≡ cond inner (taken + 1) taken }
-{
-    if inner { taken + 1 } else { taken }
-}
-
 // The walk over the inner segments from place `from` on, up to the first segment whose upper end does not come before `end`. It stops
 // at the first descent.
 fn walk_to(vias: &[bool], uppers: &[u32], lowers: &[u32], from: usize, end: usize) -> Walk
@@ -45,8 +30,7 @@ fn walk_to(vias: &[bool], uppers: &[u32], lowers: &[u32], from: usize, end: usiz
 {
     let mut taken: usize = 0;
     let mut last: u32 = 0;
-    let mut i = from;
-    while i < uppers.len() {
+    for i in from..uppers.len() {
         let upper = uppers[i];
         let lower = lowers[i];
         if end <= upper as usize {
@@ -62,9 +46,10 @@ fn walk_to(vias: &[bool], uppers: &[u32], lowers: &[u32], from: usize, end: usiz
                 taken: taken + 1,
             };
         }
-        taken = counted(inner, taken);
-        last = latest(inner, lower, last);
-        i += 1;
+        if inner {
+            taken += 1;
+            last = lower;
+        }
     }
     Walk {
         crossed: false,
@@ -92,15 +77,10 @@ pub fn check_inner(vias: &[bool], uppers: &[u32], lowers: &[u32]) -> bool
 fn count_before(uppers: &[u32], end: usize) -> usize
     ensures { (lowers : List ℕ) → length uppers.now ≡ length lowers → result ≡ length (ahead end (after uppers.now lowers 0)) }
 {
-    let mut i: usize = 0;
-    while i < uppers.len() {
-        let upper = uppers[i];
-        if end <= upper as usize {
-            return i;
-        }
-        i += 1;
-    }
-    i
+    uppers
+        .iter()
+        .take_while(|upper| (**upper as usize) < end)
+        .count()
 }
 
 // The walk from level l to the next.
