@@ -5,7 +5,7 @@ use mathlib.Core.List.{List, [], ◌∷◌}
 use Prim.Native.Nat.{ℕ, suc, ◌+◌, ◌-◌, ◌*◌, ◌^◌, ◌≤◌, ◌<◌}
 use native.Mathlib.Omega.{arith}
 use native.Mathlib.Numerals.{add-one}
-use borrow.Author.Tests.{lt-ltb, le-ltb, le-leb, lt-leb, eq-eqb, ne_eqb}
+use borrow.Author.Tests.{lt-ltb, le-ltb, le-leb, eq-eqb, ne_eqb}
 use lib.Dec.{eqb}
 use lib.IntN.{pos, neg_ℤ}
 use lib.ListN.{length, get_or, drop, drop_of_length-le}
@@ -15,21 +15,13 @@ use Rattle.plan.specs.Checks.{every}
 use Rattle.text.specs.Parser.{is_digit}
 use Rattle.script_words.specs.declared.types.Number.{Number}
 use Rattle.script_words.specs.declared.types.Number.TheVariants.{Whole, Negative, Other}
-use Rattle.script_words.specs.Numbers.{value_from, whole_if, is_natural, natural_in, negated, number_in, signed_of}
+use Rattle.script_words.specs.Numbers.{value_from, whole_if, is_natural, natural_in, negated, number_in}
 
 -- ---- every byte is a digit
 module _ (w : List ℕ) (i : ℕ) where
   pub digits-on : i < length w → is_digit (get_or w i 0) ≡ true → every is_digit (drop i w) ≡ every is_digit (drop (i + 1) w)
   unfolding every
   digits-on h e = rw (add-one, drop-cons w i 0 h, e)
-
-  pub digits-stop : i < length w → is_digit (get_or w i 0) ≡ false → every is_digit (drop i w) ≡ false
-  unfolding every
-  digits-stop h e = rw (drop-cons w i 0 h, e)
-
-  pub digits-end : length w ≤ i → every is_digit (drop i w) ≡ true
-  unfolding every
-  digits-end h = rw (drop_of_length-le w h)
 
   cond-first : (t m : Bool) → cond t m false ≡ true → t ≡ true
   cond-first true m e = refl
@@ -94,22 +86,9 @@ whole-small n h = rw (lt-ltb n (2 ^ 64) h)
 pub whole-large : (n : ℕ) → 2 ^ 64 ≤ n → whole_if n ≡ Other
 whole-large n h = rw (le-ltb n (2 ^ 64) h)
 
--- ---- what a number says where it stands
-module _ (n : Number) (v : ℕ) (e : n ≡ Whole v) where
-  pub signed-small : v < 2 ^ 63 → signed_of n ≡ pos v
-  signed-small h = rw (e, lt-ltb v (2 ^ 63) h)
-
-  pub signed-large : 2 ^ 63 ≤ v → signed_of n ≡ pos 0
-  signed-large h = rw (e, le-ltb v (2 ^ 63) h)
-
-  pub negated-zero : v < 1 → negated n ≡ Other
-  negated-zero h = rw (e, lt-leb 1 v h)
-
-  pub negated-large : 2 ^ 63 < v → negated n ≡ Other
-  negated-large h = rw (e, lt-leb v (2 ^ 63) h, le-leb 1 v (omega arith))
-
-  pub negated-is : 1 ≤ v → v ≤ 2 ^ 63 → negated n ≡ Negative (neg_ℤ (pos v))
-  negated-is h k = rw (e, le-leb 1 v h, le-leb v (2 ^ 63) k)
+-- ---- what a number says behind a minus sign
+pub negated-is : (n : Number) (v : ℕ) → n ≡ Whole v → 1 ≤ v → v ≤ 2 ^ 63 → negated n ≡ Negative (neg_ℤ (pos v))
+negated-is n v e h k = rw (e, le-leb 1 v h, le-leb v (2 ^ 63) k)
 
 -- ---- a word without a sign, and any word
 module _ (w : List ℕ) where

@@ -9,27 +9,20 @@ use crate::types::Number;
 fn is_digit(b: u8) -> bool
     ensures { result ≡ is_digit b }
 {
-    b'0' <= b && b <= b'9'
+    b.is_ascii_digit()
 }
 
 fn all_digits(word: &[u8]) -> bool
     ensures { result ≡ every is_digit word.now }
 {
-    let mut i: usize = 0;
-    while i < word.len() {
-        if !is_digit(word[i]) {
-            return false;
-        }
-        i += 1;
-    }
-    true
+    word.iter().all(|b| is_digit(*b))
 }
 
 // "no leading zero except 0 itself"
 fn is_natural(word: &[u8]) -> bool
     ensures { result ≡ is_natural word.now }
 {
-    if word.len() == 0 {
+    if word.is_empty() {
         return false;
     }
     if word.len() == 1 {
@@ -46,7 +39,7 @@ fn digit(b: u8) -> u64
     requires { is_digit b ≡ true }
     ensures { (result ≡ b - 48) × (result ≤ 9) }
 {
-    (b - b'0') as u64
+    u64::from(b - b'0')
 }
 
 // Whether n with the digit d after it is within 64 bits.
@@ -54,16 +47,7 @@ fn fits(n: u64, d: u64) -> bool
     requires { d ≤ 9 }
     ensures { result ≡ ltb (n * 10 + d) (2 ^ 64) }
 {
-    if n < 1844674407370955161 {
-        return true;
-    }
-    if 1844674407370955161 < n {
-        return false;
-    }
-    if 5 < d {
-        return false;
-    }
-    true
+    n < 1844674407370955161 || (n == 1844674407370955161 && d <= 5)
 }
 
 // The number that digits stand for, if it is within 64 bits.
@@ -72,14 +56,12 @@ fn value(word: &[u8]) -> Number
     ensures { result ≡ whole_if (value_from 0 word.now) }
 {
     let mut n: u64 = 0;
-    let mut i: usize = 0;
-    while i < word.len() {
-        let d = digit(word[i]);
+    for b in word {
+        let d = digit(*b);
         if !fits(n, d) {
             return Number::Other;
         }
         n = n * 10 + d;
-        i += 1;
     }
     Number::Whole(n)
 }
@@ -106,17 +88,8 @@ fn negative(n: Number) -> Number
     ensures { result ≡ negated n }
 {
     match n {
-        Number::Whole(m) => {
-            if m < 1 {
-                return Number::Other;
-            }
-            if 9223372036854775808 < m {
-                return Number::Other;
-            }
-            Number::Negative(below(m))
-        }
-        Number::Negative(_) => Number::Other,
-        Number::Other => Number::Other,
+        Number::Whole(m) if 1 <= m && m <= 9223372036854775808 => Number::Negative(below(m)),
+        _ => Number::Other,
     }
 }
 
@@ -124,7 +97,7 @@ fn negative(n: Number) -> Number
 pub fn number(word: &[u8]) -> Number
     ensures { result ≡ number_in word.now }
 {
-    if word.len() == 0 {
+    if word.is_empty() {
         return Number::Other;
     }
     if word[0] == b'-' {
@@ -136,11 +109,7 @@ pub fn number(word: &[u8]) -> Number
 pub fn is_whole(n: Number) -> bool
     ensures { result ≡ is_whole n }
 {
-    match n {
-        Number::Whole(_) => true,
-        Number::Negative(_) => false,
-        Number::Other => false,
-    }
+    matches!(n, Number::Whole(_))
 }
 
 pub fn whole(n: Number) -> u64
@@ -148,8 +117,7 @@ pub fn whole(n: Number) -> u64
 {
     match n {
         Number::Whole(m) => m,
-        Number::Negative(_) => 0,
-        Number::Other => 0,
+        _ => 0,
     }
 }
 
@@ -167,13 +135,8 @@ pub fn signed(n: Number) -> i64
     ensures { result ≡ signed_of n }
 {
     match n {
-        Number::Whole(m) => {
-            if m < 9223372036854775808 {
-                return m as i64;
-            }
-            0
-        }
+        Number::Whole(m) if m < 9223372036854775808 => m as i64,
         Number::Negative(z) => z,
-        Number::Other => 0,
+        _ => 0,
     }
 }

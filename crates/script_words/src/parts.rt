@@ -9,33 +9,17 @@ pub fn end_of(s: &[u8], sep: u8, from: usize) -> usize
     requires { from ≤ length s.now }
     ensures { PartEnds sep s.now from result }
 {
-    let mut at = from;
-    while at < s.len() {
-        if s[at] == sep {
-            return at;
-        }
-        at += 1;
+    match s[from..].iter().position(|b| *b == sep) {
+        Some(n) => from + n,
+        None => s.len(),
     }
-    at
 }
 
 // Part k, counted from 0; empty if there is none.
 pub fn part(s: &[u8], sep: u8, k: usize) -> &[u8]
     ensures { result.now ≡ get_or (parts sep s.now) k [] }
 {
-    let mut from: usize = 0;
-    let mut left = k;
-    loop {
-        let to = end_of(s, sep, from);
-        if left == 0 {
-            return &s[from..to];
-        }
-        if to >= s.len() {
-            return &s[to..];
-        }
-        from = to + 1;
-        left -= 1;
-    }
+    s.split(|b| *b == sep).nth(k).unwrap_or(&[])
 }
 
 // Word k.
@@ -48,15 +32,5 @@ pub fn word(line: &[u8], k: usize) -> &[u8]
 pub fn same(a: &[u8], b: &[u8]) -> bool
     ensures { result ≡ spec.same a.now b.now }
 {
-    if a.len() != b.len() {
-        return false;
-    }
-    let mut i: usize = 0;
-    while i < a.len() {
-        if a[i] != b[i] {
-            return false;
-        }
-        i += 1;
-    }
-    true
+    a == b
 }

@@ -6,7 +6,7 @@ ghost use Rattle.text_read.specs.inner.Filled.{FindsRow, FindsLevel, FindsRows, 
 
 use plan::data::Plan;
 use plan::limits::row_fits;
-use text_scan::limits::{both, half_fits, half_of, header_fits, rating_in_limit, rating_of};
+use text_scan::limits::{half_fits, half_of, header_fits, rating_in_limit, rating_of};
 use text_scan::scanners::{FoundHeader, ends, header_at, segment_at, vertex_at, word_at};
 
 // A level line's vertices: how many, whether their half-widths are within the limit, and the position past them.
@@ -50,23 +50,7 @@ pub struct Scanned {
 }
 
 // A store at a place, where the array has it.
-fn put_via(vias: &mut [bool], i: usize, v: bool)
-    ensures { vias.new ≡ set vias.old i v }
-{
-    if i < vias.len() {
-        vias[i] = v;
-    }
-}
-
-fn put_short(xs: &mut [u16], i: usize, x: u16)
-    ensures { xs.new ≡ set xs.old i x }
-{
-    if i < xs.len() {
-        xs[i] = x;
-    }
-}
-
-fn put(xs: &mut [u32], i: usize, x: u32)
+fn put<T: Copy>(xs: &mut [T], i: usize, x: T)
     ensures { xs.new ≡ set xs.old i x }
 {
     if i < xs.len() {
@@ -92,9 +76,9 @@ fn vertices(text: &[u8], from: usize, first: usize, vias: &mut [bool], halves: &
                 next: at,
             };
         }
-        put_via(vias, first + count, v.via);
-        put_short(halves, first + count, half_of(v));
-        fit = both(fit, half_fits(v));
+        put(vias, first + count, v.via);
+        put(halves, first + count, half_of(v));
+        fit &= half_fits(v);
         count += 1;
         at = v.next;
     }
@@ -166,10 +150,10 @@ fn level_lines(
                 next: at,
             };
         }
-        put_short(sizes, levels, row.count as u16);
+        put(sizes, levels, row.count as u16);
         levels += 1;
         vertices += row.count;
-        fit = both(fit, row.fit);
+        fit &= row.fit;
         at = row.next;
     }
 }
@@ -201,7 +185,7 @@ fn segment_lines(
         put(uppers, count, s.upper);
         put(lowers, count, s.lower);
         put(ratings, count, rating_of(s));
-        fit = both(fit, rating_in_limit(s));
+        fit &= rating_in_limit(s);
         count += 1;
         at = s.next;
     }
@@ -211,10 +195,11 @@ fn segment_lines(
 fn in_limits(h: FoundHeader, r: Rows, s: Segments) -> bool
     ensures { result ≡ in_limits h r s }
 {
-    let f = both(header_fits(h, r.levels), r.fit);
-    let v = both(f, r.vertices <= Plan::MAX_VERTICES);
-    let e = both(v, s.count <= Plan::MAX_SEGMENTS);
-    both(e, s.fit)
+    header_fits(h, r.levels)
+        && r.fit
+        && r.vertices <= Plan::MAX_VERTICES
+        && s.count <= Plan::MAX_SEGMENTS
+        && s.fit
 }
 
 // Checks 1 and 2 of a text, 2 once the whole text was read. The arrays have room for what the limits allow; what passes both

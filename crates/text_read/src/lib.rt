@@ -12,7 +12,6 @@ ghost use Rattle.text_read.specs.inner.Taken.{Arrays, Finds, refuses_both};
 
 use crate::form::{Scanned, scan};
 use plan::data::Plan;
-use plan::numbers::wide;
 use plan_checks::checks::{check_plan, first_of};
 
 // "over 65,536 bytes" is no plan text.
@@ -58,7 +57,7 @@ fn first_failed(s: Scanned, sizes: &[u16], vias: &[bool], uppers: &[u32], lowers
     if failed != 0 {
         return failed;
     }
-    let k = wide(s.levels);
+    let k = s.levels as usize;
     let n = s.vertices;
     let e = s.segments;
     check_plan(&sizes[..k], &vias[..n], &uppers[..e], &lowers[..e])
@@ -102,10 +101,7 @@ pub fn read_into(
 pub fn refuses_both(failed: u32) -> bool
     ensures { result ≡ refuses_both failed }
 {
-    if failed == 0 {
-        return false;
-    }
-    failed != 6
+    failed != 0 && failed != 6
 }
 
 // Reads a plan text.

@@ -6,7 +6,6 @@ ghost use Rattle.text_scan.specs.inner.Scanned.{vertex_of, segment_of, header_in
 use crate::scanners::{FoundHeader, FoundSegment, FoundVertex};
 use plan::data::Plan;
 use plan::limits::{half_width_fits, numbers_fit, rating_fits};
-use plan::numbers::wide;
 
 // "half-width 1 to 200"
 pub fn half_fits(v: FoundVertex) -> bool
@@ -54,6 +53,5 @@ pub fn both(a: bool, b: bool) -> bool
 pub fn header_fits(h: FoundHeader, lines: usize) -> bool
     ensures { result ≡ header_in_limits h lines }
 {
-    let fit = numbers_fit(h.levels, h.gap, h.spacing);
-    both(fit, lines == wide(h.levels))
+    numbers_fit(h.levels, h.gap, h.spacing) && lines == h.levels as usize
 }

@@ -17,36 +17,20 @@ pub fn word_at(text: &[u8], at: usize, word: &[u8]) -> bool
     requires { at ≤ length text.now }
     ensures { HasWord word.now text.now at result }
 {
-    if text.len() - at < word.len() {
-        return false;
-    }
-    let mut i = 0;
-    while i < word.len() {
-        if text[at + i] != word[i] {
-            return false;
-        }
-        i += 1;
-    }
-    true
+    text[at..].starts_with(word)
 }
 
 // The byte at a position, 0 past the end.
 fn byte_at(text: &[u8], at: usize) -> u8
     ensures { result ≡ get_or text.now at 0 }
 {
-    if at < text.len() { text[at] } else { 0 }
+    text.get(at).copied().unwrap_or(0)
 }
 
 fn is_digit(b: u8) -> bool
     ensures { result ≡ is_digit b }
 {
-    48 <= b && b <= 57
-}
-
-fn wide(b: u8) -> u32
-    ensures { (result ≡ b) × (result < 256) }
-{
-    b as u32
+    b.is_ascii_digit()
 }
 
 // The digits from a position on, at most four, after a first digit.
@@ -54,10 +38,9 @@ fn more_digits(text: &[u8], from: usize, first: u32) -> FoundNumber
     requires { (from ≤ length text.now) × (first < 10) }
     ensures { MoreDigits text.now from first result.found result.value result.next }
 {
-    let mut at = from;
     let mut value = first;
-    let mut left: usize = 4;
-    while left > 0 {
+    let end = from + 4;
+    for at in from..end {
         let b = byte_at(text, at);
         if !is_digit(b) {
             return FoundNumber {
@@ -66,16 +49,17 @@ fn more_digits(text: &[u8], from: usize, first: u32) -> FoundNumber
                 next: at,
             };
         }
-        value = value * 10 + (wide(b) - 48);
-        at += 1;
-        left -= 1;
+        value = value * 10 + u32::from(b - b'0');
     }
     FoundNumber {
         found: true,
         value,
-        next: at,
+        next: end,
     }
 }
+
+// The digit that no other follows.
+const ZERO: u8 = b'0';
 
 // "Numbers are decimal, one to five digits, no leading zero except 0 itself."
 pub fn number_at(text: &[u8], at: usize) -> FoundNumber
@@ -90,14 +74,14 @@ pub fn number_at(text: &[u8], at: usize) -> FoundNumber
             next: at,
         };
     }
-    if b == 48 {
+    if b == ZERO {
         return FoundNumber {
             found: true,
             value: 0,
             next: at + 1,
         };
     }
-    more_digits(text, at + 1, wide(b) - 48)
+    more_digits(text, at + 1, u32::from(b - b'0'))
 }
 
 // A number with a word after it.
@@ -296,7 +280,5 @@ pub fn ends(text: &[u8], at: usize) -> bool
     if !word_at(text, at, b"(end)\n") {
         return false;
     }
-    let end = at + 6;
-    let length = text.len();
-    end == length
+    at + 6 == text.len()
 }

@@ -1,15 +1,14 @@
 -- Laws of writing into a buffer: one text after another, and the digits of a number.
-use mathlib.Core.Path.{◌≡◌, sym, ◌∙◌, ap}
-use mathlib.Core.Bool.{true, false}
+use mathlib.Core.Path.{◌≡◌, refl, sym, ◌∙◌, ap}
+use mathlib.Core.Bool.{true, false, cond}
 use mathlib.Core.List.{List, [], ◌∷◌, ◌++◌, append_assoc}
 use Prim.Native.Nat.{ℕ, ◌+◌, ◌/◌, ◌%◌, ◌≤◌, ◌<◌}
 use native.Mathlib.Omega.{arith}
-use lib.ListN.{length, set, take, get_or, length-append}
-use native.Mathlib.Numerals.{add-one}
-use lib.Seq.{length-sets, take-suc, take_all}
+use lib.ListN.{length, set, length-append}
+use lib.Seq.{length-sets}
 use lib.IntN.{ℤ, pos, negsuc, ◌-ℤ◌, nat_abs}
 use lib.Signed.{lt_z}
-use borrow.Author.Tests.{ltb-true}
+use borrow.Author.Tests.{ltb-true, le-ltb}
 use Rattle.ints.proofs.Laws.{cases, dif, abs, apart}
 use Rattle.text.specs.Decimal.{decimal, signed}
 use Rattle.text.proofs.Words.{never}
@@ -68,18 +67,6 @@ digit-last n {o} {p} {at} {m} l h = rw (decimal-last n l) (and_then h (one_byte 
 pub decimal-longer : (n : ℕ) → 10 ≤ n → length (decimal n) ≡ length (decimal (n / 10)) + 1
 decimal-longer n l = rw (decimal-last n l) (omega (arith, length-append (decimal (n / 10)) ((48 + n % 10) ∷ [])))
 
--- ---- a word, byte for byte
-pub word_none : (w o : List ℕ) (at : ℕ) → Wrote (take 0 w) o at (at + 0) o
-word_none w o at = let e : at + 0 ≡ at = omega arith in rw e (wrote_none o at)
-
-pub word_more : (w : List ℕ) (i : ℕ) {o p : List ℕ} {at : ℕ} → i < length w → Wrote (take i w) o at (at + i) p → Wrote (take (i + 1) w) o at (at + (i + 1)) (set p (at + i) (get_or w i 0))
-word_more w i {o} {p} {at} h k =
-    let e : at + (i + 1) ≡ at + i + 1 = omega arith in
-    rw (e, add-one i, take-suc w i 0 h) (and_then k (one_byte (get_or w i 0) p (at + i)))
-
-pub word-all : (w : List ℕ) (i : ℕ) {o p : List ℕ} {at to : ℕ} → length w ≤ i → Wrote (take i w) o at to p → Wrote w o at to p
-word-all w i h k = rw (take_all i w h) at k
-
 -- ---- signed numbers
 pub signed-neg : (z : ℤ) → lt_z z (pos 0) ≡ true → signed z ≡ 45 ∷ decimal (nat_abs z)
 unfolding signed
@@ -90,6 +77,12 @@ pub signed-pos : (z : ℤ) → lt_z z (pos 0) ≡ false → signed z ≡ decimal
 unfolding signed
 signed-pos (pos n) h = cc
 signed-pos (negsuc n) h = never (sym h)
+
+-- a minus sign before what is below 0
+pub signed-marked : (z : ℤ) → cond (lt_z z (pos 0)) (45 ∷ decimal (nat_abs z)) (decimal (nat_abs z)) ≡ signed z
+unfolding signed
+signed-marked (pos n) = rw (le-ltb n 0 (omega arith))
+signed-marked (negsuc n) = refl
 
 pub same_size : (z : ℤ) → nat_abs (pos 0 -ℤ z) ≡ nat_abs z
 same_size z = omega (arith, dif (pos 0) z, abs z, abs (pos 0 -ℤ z), apart z, apart (pos 0 -ℤ z))

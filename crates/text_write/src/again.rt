@@ -11,7 +11,6 @@ ghost use Rattle.text_write.specs.Again.{refused_line, Leaves, text_if_short, re
 use crate::lines::{line as write_line, text as write_text};
 use crate::number::{put_then, put_word};
 use plan::data::Plan;
-use plan::numbers::wide;
 use text_read::{Answer, read};
 
 // What writing a text again gives: how many bytes were written, the number of the text's refusal, or that the buffer is too
@@ -29,7 +28,7 @@ pub fn refuse(n: u32, out: &mut [u8]) -> usize
     ensures { Fronts (refused_line n) out.old result out.new }
 {
     let at = put_word(out, 0, b"(refused ");
-    put_then(out, at, n as u64, b")\n")
+    put_then(out, at, u64::from(n), b")\n")
 }
 
 // Line n of the text of a plan with these numbers of vertices and segments that is within its limits, at the front of a buffer
@@ -38,23 +37,16 @@ pub fn stored_line(plan: Plan, vertices: usize, segments: usize, n: usize, out: 
     requires { StoredLimits plan vertices segments × LineRoom (plan_data plan vertices segments) n out.old 0 }
     ensures { Fronts (line_of (plan_data plan vertices segments) n) out.old result out.new }
 {
-    let k = wide(plan.levels);
-    let sizes = plan.sizes;
-    let vias = plan.vias;
-    let halves = plan.halves;
-    let uppers = plan.uppers;
-    let lowers = plan.lowers;
-    let ratings = plan.ratings;
     write_line(
         plan.levels,
         plan.gap,
         plan.spacing,
-        &sizes[..k],
-        &vias[..vertices],
-        &halves[..vertices],
-        &uppers[..segments],
-        &lowers[..segments],
-        &ratings[..segments],
+        &plan.sizes[..plan.levels as usize],
+        &plan.vias[..vertices],
+        &plan.halves[..vertices],
+        &plan.uppers[..segments],
+        &plan.lowers[..segments],
+        &plan.ratings[..segments],
         n,
         out,
     )
@@ -65,23 +57,16 @@ pub fn stored_text(plan: Plan, vertices: usize, segments: usize, out: &mut [u8])
     requires { StoredLimits plan vertices segments × (length (text_of (plan_data plan vertices segments)) ≤ length out.old) }
     ensures { Fronts (text_of (plan_data plan vertices segments)) out.old result out.new }
 {
-    let k = wide(plan.levels);
-    let sizes = plan.sizes;
-    let vias = plan.vias;
-    let halves = plan.halves;
-    let uppers = plan.uppers;
-    let lowers = plan.lowers;
-    let ratings = plan.ratings;
     write_text(
         plan.levels,
         plan.gap,
         plan.spacing,
-        &sizes[..k],
-        &vias[..vertices],
-        &halves[..vertices],
-        &uppers[..segments],
-        &lowers[..segments],
-        &ratings[..segments],
+        &plan.sizes[..plan.levels as usize],
+        &plan.vias[..vertices],
+        &plan.halves[..vertices],
+        &plan.uppers[..segments],
+        &plan.lowers[..segments],
+        &plan.ratings[..segments],
         out,
     )
 }
@@ -108,8 +93,7 @@ pub fn rewrite(text: &[u8], out: &mut [u8]) -> Rewritten
     ensures { Leaves (rewritten (reading text.now) out.old) result out.new }
 {
     let r = read(text);
-    let answer = r.answer;
-    match answer {
+    match r.answer {
         Answer::Accepted(v, e) => text_if_short(r.plan, v, e, text.len(), out),
         Answer::Refused(n) => Rewritten::Refused(n),
     }

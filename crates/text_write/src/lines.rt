@@ -7,7 +7,7 @@ ghost use Rattle.text_write.specs.inner.Written.{Room, Wrote, Fronts};
 ghost use Rattle.text_write.specs.inner.Data.{vertices_of, numbers_of, row_words, words_of, rated_segment, line_of, level_vertices, LevelRoom, LineRoom};
 
 use crate::number::{put_decimal, put_then, put_word};
-use ints::{total, wide};
+use ints::total;
 
 // "(plan K G S)"
 fn put_plan(out: &mut [u8], at: usize, levels: u32, gap: u32, spacing: u32) -> usize
@@ -15,9 +15,9 @@ fn put_plan(out: &mut [u8], at: usize, levels: u32, gap: u32, spacing: u32) -> u
     ensures { Wrote (plan_line (numbers_of levels gap spacing)) out.old at result out.new }
 {
     let k = put_word(out, at, b"(plan ");
-    let g = put_then(out, k, levels as u64, b" ");
-    let s = put_then(out, g, gap as u64, b" ");
-    put_then(out, s, spacing as u64, b")\n")
+    let g = put_then(out, k, u64::from(levels), b" ");
+    let s = put_then(out, g, u64::from(gap), b" ");
+    put_then(out, s, u64::from(spacing), b")\n")
 }
 
 // " (box 3)" or " (via)"
@@ -29,7 +29,7 @@ fn put_vertex(out: &mut [u8], at: usize, via: bool, half: u16) -> usize
         return put_word(out, at, b" (via)");
     }
     let h = put_word(out, at, b" (box ");
-    put_then(out, h, half as u64, b")")
+    put_then(out, h, u64::from(half), b")")
 }
 
 // " W"; a rating of 1 is "never written".
@@ -41,7 +41,7 @@ fn put_rating(out: &mut [u8], at: usize, rating: u32) -> usize
         return at;
     }
     let w = put_word(out, at, b" ");
-    put_decimal(out, w, rating as u64)
+    put_decimal(out, w, u64::from(rating))
 }
 
 // "(seg A B)" or "(seg A B W)"
@@ -50,8 +50,8 @@ fn put_segment(out: &mut [u8], at: usize, upper: u32, lower: u32, rating: u32) -
     ensures { Wrote (segment_line_of (rated_segment upper lower rating)) out.old at result out.new }
 {
     let a = put_word(out, at, b"(seg ");
-    let b = put_then(out, a, upper as u64, b" ");
-    let w = put_decimal(out, b, lower as u64);
+    let b = put_then(out, a, u64::from(upper), b" ");
+    let w = put_decimal(out, b, u64::from(lower));
     let end = put_rating(out, w, rating);
     put_word(out, end, b")\n")
 }
@@ -69,10 +69,8 @@ fn put_vertices(
     ensures { Wrote (row_words (vertices_of vias.now halves.now) (numbers first count)) out.old from result out.new }
 {
     let mut at = from;
-    let mut i: usize = 0;
-    while i < count {
-        at = put_vertex(out, at, vias[first + i], halves[first + i]);
-        i += 1;
+    for v in first..first + count {
+        at = put_vertex(out, at, vias[v], halves[v]);
     }
     at
 }
@@ -107,7 +105,7 @@ fn put_level(
     ensures { Wrote (level_line_of (vertices_of vias.now halves.now) (level_vertices sizes.now l)) out.old at result out.new }
 {
     let first = total(&sizes[..l]);
-    put_row(out, at, vias, halves, first, wide(sizes[l]))
+    put_row(out, at, vias, halves, first, usize::from(sizes[l]))
 }
 
 // Line n of the text of a plan within its limits.
@@ -185,12 +183,10 @@ pub fn text(
 {
     let lines = sizes.len() + uppers.len() + 2;
     let mut at: usize = 0;
-    let mut n: usize = 0;
-    while n < lines {
+    for n in 0..lines {
         at = put_line(
             out, at, levels, gap, spacing, sizes, vias, halves, uppers, lowers, ratings, n,
         );
-        n += 1;
     }
     at
 }

@@ -9,12 +9,9 @@ pub fn put_word(out: &mut [u8], at: usize, word: &[u8]) -> usize
     requires { Room word.now out.old at }
     ensures { Wrote word.now out.old at result out.new }
 {
-    let mut i: usize = 0;
-    while i < word.len() {
-        out[at + i] = word[i];
-        i += 1;
-    }
-    at + i
+    let end = at + word.len();
+    out[at..end].copy_from_slice(word);
+    end
 }
 
 // A number in decimal.
@@ -23,11 +20,11 @@ pub fn put_decimal(out: &mut [u8], at: usize, n: u64) -> usize
     ensures { Wrote (decimal n) out.old at result out.new }
 {
     if n < 10 {
-        out[at] = 48 + n as u8;
+        out[at] = b'0' + n as u8;
         return at + 1;
     }
     let last = put_decimal(out, at, n / 10);
-    out[last] = 48 + (n % 10) as u8;
+    out[last] = b'0' + (n % 10) as u8;
     last + 1
 }
 
@@ -48,7 +45,7 @@ pub fn put_marked(out: &mut [u8], at: usize, minus: bool, n: u64) -> usize
     if !minus {
         return put_decimal(out, at, n);
     }
-    out[at] = 45;
+    out[at] = b'-';
     put_decimal(out, at + 1, n)
 }
 
@@ -57,9 +54,5 @@ pub fn put_signed(out: &mut [u8], at: usize, z: i64) -> usize
     requires { (size z < 2 ^ 63) × Room (signed z) out.old at }
     ensures { Wrote (signed z) out.old at result out.new }
 {
-    if z < 0 {
-        put_marked(out, at, true, (0 - z) as u64)
-    } else {
-        put_marked(out, at, false, z as u64)
-    }
+    put_marked(out, at, z < 0, z.unsigned_abs())
 }
