@@ -9,7 +9,7 @@ use lib.ListN.{length}
 use lib.IntN.{ℤ}
 use Rattle.ints.specs.Ints.{◌⊑◌}
 use Rattle.plan.specs.Plan.{PlanData, vertex_count, numbers}
-use Rattle.passes.specs.Runs.{members, is_open}
+use Rattle.passes.specs.Runs.{is_open}
 use Rattle.passes.specs.State.{State, position_of, put, take_on}
 use Rattle.passes.specs.Passes.{placed, after, visit}
 use Rattle.passes.proofs.Sound.{Sound, sound}

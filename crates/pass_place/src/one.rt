@@ -1,12 +1,11 @@
 // Placing one run: its bounds, distances and neighbours are read off what the passes hold, its outcome is written back.
 ghost use Rattle.std.specs.Prelude.{◌≡◌, true, ◌&&◌, ◌-◌, ◌≤◌, ltb, length};
-ghost use Rattle.run.specs.Call.{Request, is_taken, placed_of};
+ghost use Rattle.run.specs.Call.{Request, is_taken, placed_of, max_neighbours};
 ghost use Rattle.pass_tables.specs.inner.Moments.{Some, Leaves, Placing, Placed};
 ghost use Rattle.pass_place.specs.inner.Asked.{low_of, high_of, left_of, right_of, asked, rows_long, taken_on, Rowed, Standing};
 
 use crate::outcome::{put_back, take_on};
 use crate::request::{neighbour_counts, neighbour_positions};
-use ints::wide;
 use place_run::place::{MAX_BOXES, MAX_NEIGHBOURS, place};
 use run::types::Bound;
 
@@ -45,10 +44,10 @@ fn left_bound(start: usize, from: usize, at: &[i64]) -> Bound
     ensures { result ≡ left_of start from at.now }
 {
     if start < from {
-        let x = at[from - 1];
-        return Bound::At(x);
+        Bound::At(at[from - 1])
+    } else {
+        Bound::Free
     }
-    Bound::Free
 }
 
 fn right_bound(end: usize, to: usize, at: &[i64]) -> Bound
@@ -56,10 +55,10 @@ fn right_bound(end: usize, to: usize, at: &[i64]) -> Bound
     ensures { result ≡ right_of end to at.now }
 {
     if end < to {
-        let x = at[end];
-        return Bound::At(x);
+        Bound::At(at[end])
+    } else {
+        Bound::Free
     }
-    Bound::Free
 }
 
 // Where the boxes from `from` up to `end` go, with these bounds and distances, and working space for their neighbours.
@@ -84,8 +83,8 @@ fn place_near(
         answer.new ≡ placed_of q }
 {
     let n = end - from;
-    let row = wide(first[from]);
-    let s = wide(first[end]) - row;
+    let row = usize::from(first[from]);
+    let s = usize::from(first[end]) - row;
     let mut counts = [0u64; MAX_BOXES];
     neighbour_counts(first, from, n, &mut counts);
     neighbour_positions(ends, at, row, s, near);
@@ -101,8 +100,8 @@ fn place_near(
     );
 }
 
-// The same of more than a few neighbours, with as much working space as they ask for.
-fn place_many(
+// The same with working space for N neighbours.
+fn place_in<const N: usize>(
     left: Bound,
     right: Bound,
     distances: &[u64],
@@ -117,23 +116,17 @@ fn place_many(
     requires rowed { Rowed from end first.now ends.now sums.now at.now }
     requires answer_value { let q = asked left right distances.now from end first.now ends.now sums.now at.now in
         is_taken q answer.old ≡ true }
+    requires few { (rows_long from end first.now ≤ N) × (N ≤ max_neighbours) }
     ensures { let q = asked left right distances.now from end first.now ends.now sums.now at.now in
         answer.new ≡ placed_of q }
 {
-    if wide(first[end]) - wide(first[from]) <= SOME {
-        let mut near = [0i64; SOME];
-        place_near(
-            left, right, distances, from, end, first, ends, sums, at, &mut near, answer,
-        );
-        return;
-    }
-    let mut near = [0i64; MAX_NEIGHBOURS];
+    let mut near = [0i64; N];
     place_near(
         left, right, distances, from, end, first, ends, sums, at, &mut near, answer,
     );
 }
 
-// The same, with little working space, since most runs have few neighbours, and none where there are no boxes.
+// The same with as much working space as they ask for, little since most runs have few neighbours, and none where there are no boxes.
 fn place_boxes(
     left: Bound,
     right: Bound,
@@ -155,16 +148,20 @@ fn place_boxes(
     if from == end {
         return;
     }
-    if wide(first[end]) - wide(first[from]) <= FEW {
-        let mut near = [0i64; FEW];
-        place_near(
-            left, right, distances, from, end, first, ends, sums, at, &mut near, answer,
+    let n = usize::from(first[end]) - usize::from(first[from]);
+    if n <= FEW {
+        place_in::<FEW>(
+            left, right, distances, from, end, first, ends, sums, at, answer,
         );
-        return;
+    } else if n <= SOME {
+        place_in::<SOME>(
+            left, right, distances, from, end, first, ends, sums, at, answer,
+        );
+    } else {
+        place_in::<MAX_NEIGHBOURS>(
+            left, right, distances, from, end, first, ends, sums, at, answer,
+        );
     }
-    place_many(
-        left, right, distances, from, end, first, ends, sums, at, answer,
-    );
 }
 
 // Whether a via stands on both sides.

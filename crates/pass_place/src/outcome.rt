@@ -4,18 +4,12 @@ ghost use Rattle.ints.specs.Ints.{size, ◌⊑◌};
 ghost use Rattle.plan.specs.Plan.{numbers};
 ghost use Rattle.passes.specs.State.{position_of, put, take_on};
 
-use ints::apart as between;
-
 // The boxes from `from` on stand at `placed` from now on.
 pub fn put_back(placed: &[i64], from: usize, at: &mut [i64])
     requires { from + length placed.now ≤ length at.old }
     ensures { at.new ≡ put (numbers from (length placed.now)) placed.now at.old }
 {
-    let mut i: usize = 0;
-    while i < placed.len() {
-        at[from + i] = placed[i];
-        i += 1;
-    }
+    at[from..from + placed.len()].copy_from_slice(placed);
 }
 
 // "its distances, and that to its bound, then become those it has": of the members from `low` up to `high`.
@@ -25,9 +19,7 @@ pub fn take_on(at: &[i64], low: usize, high: usize, apart: &mut [u64])
         × ((v : ℕ) → low ≤ v → v + 1 < high → position_of at.now v ⊑ position_of at.now (v + 1)) }
     ensures { apart.new ≡ take_on at.now (numbers low (high - low)) apart.old }
 {
-    let mut v = low;
-    while v + 1 < high {
-        apart[v] = between(at[v], at[v + 1]);
-        v += 1;
+    for v in low..high.saturating_sub(1) {
+        apart[v] = at[v].abs_diff(at[v + 1]);
     }
 }

@@ -2,17 +2,21 @@
 use mathlib.Core.Path.{◌≡◌, refl, sym, ◌∙◌, ap}
 use mathlib.Core.Bool.{Bool, true, false, ◌&&◌, not}
 use mathlib.Core.List.{List, [], ◌∷◌}
-use Prim.Native.Nat.{ℕ, zero, suc, ◌+◌, ◌-◌, ◌*◌, ◌≤◌, ◌<◌, min}
+use Prim.Native.Nat.{ℕ, suc, ◌+◌, ◌-◌, ◌*◌, ◌≤◌, ◌<◌}
 use native.Mathlib.Omega.{arith}
 use native.Mathlib.Numerals.{add-one}
-use borrow.Author.Tests.{leb-true, le-leb, lt-leb}
+use borrow.Author.Tests.{leb-true, le-leb}
 use lib.Dec.{leb}
 use lib.ListN.{length, take, drop, get_or, drop_of_length-le, length-take, length-drop}
 use lib.Seq.{drop-cons, drop-drop}
 use lib.IntN.{ℤ, pos, negsuc}
 use lib.Signed.{lt_z, le_z}
 use Rattle.ints.specs.Ints.{size, ◌⊑◌}
-use Rattle.ints.proofs.Laws.{cases, ints}
+use Rattle.ints.proofs.Laws.{ints, <-read, eq-read, make-le-true, make-le-false, le-false}
+use Rattle.std.proofs.Common.{◌<ℤ◌, is_le, int_cmp, Ordering, Less, Equal, Greater}
+use Rattle.std.specs.Cmp.{int_ranks}
+use Rattle.std.specs.Ordering.{MatchOrdering}
+use Rattle.run_columns.proofs.Beside.{sorted-mono}
 use Rattle.ints.proofs.Tests.{and_left, and_right, ◌and◌}
 use Rattle.ints.proofs.Reach.{within-size, within-get, within-cut}
 use Rattle.run.specs.Run.{free, at, nondecreasing, neighbours_in_order, span}
@@ -26,11 +30,6 @@ use Rattle.run.specs.Call.{member_of, positions_of, boxes_from, is_distance, all
 use Rattle.run_columns.specs.inner.Columns.{parts_in_order}
 use Rattle.run_halves.proofs.Boxes.{span-is}
 
--- ---- sums
--- one more than the limit stands for any sum over it
-pub min-leb : (t n m : ℕ) → t ≡ min n (m + 1) → leb t m ≡ leb n m
-min-leb t n m e = cases n m (λ h. le-leb t m (omega arith) ∙ sym (le-leb n m h)) (λ h. lt-leb t m (omega arith) ∙ sym (lt-leb n m h))
-
 -- ---- the members
 pub member-le : (b : Bound) → member_of b ≤ 1
 member-le Free = omega arith
@@ -41,31 +40,27 @@ pub bound-size : (b : Bound) (x : ℤ) → b ≡ At x → all_within (positions_
 unfolding all_within
 bound-size b x e h = within-size x (and_left (is_within x) true (rw e at h))
 
-pub distances-step : (ds : List ℕ) (i : ℕ) → i < length ds → all_distances (drop i ds) ≡ (is_distance (get_or ds i 0) && all_distances (drop (i + 1) ds))
-unfolding all_distances
-distances-step ds i h = rw (add-one, drop-cons ds i 0)
+-- ---- nondecreasing order, from what is known of neighbours
+ranked : (r : Ordering) (x y : ℤ) → MatchOrdering r (x <ℤ y) (x ≡ y) (y <ℤ x) → is_le r ≡ le_z x y
+ranked Less x y m = sym (make-le-true x y (omega (arith, <-read m)))
+ranked Equal x y m = sym (make-le-true x y (omega (arith, eq-read x y m)))
+ranked Greater x y m = sym (make-le-false x y (<-read m))
 
-pub distances-end : (ds : List ℕ) (i : ℕ) → length ds ≤ i → all_distances (drop i ds) ≡ true
-unfolding all_distances
-distances-end ds i h = rw (drop_of_length-le ds h)
+pub is_le_z : (x y : ℤ) → is_le (int_cmp x y) ≡ le_z x y
+is_le_z x y = ranked (int_cmp x y) x y (int_ranks x y)
 
--- ---- nondecreasing order
-pub order-step : (xs : List ℤ) (i : ℕ) → 0 < i → i < length xs → nondecreasing (drop (i - 1) xs) ≡ (le_z (get_or xs (i - 1) (pos 0)) (get_or xs i (pos 0)) && nondecreasing (drop i xs))
+pub in_order : (xs : List ℤ) → ((k : ℕ) (d : ℤ) → k + 1 < length xs → is_le (int_cmp (get_or xs k d) (get_or xs (k + 1) d)) ≡ true) → nondecreasing xs ≡ true
 unfolding nondecreasing
-order-step xs zero k h = absurd (omega arith)
-order-step xs (suc i) k h = let e : suc i - 1 ≡ i = omega arith in
-    rw (e, drop-cons xs i (pos 0) (omega arith), drop-cons xs (suc i) (pos 0) h)
+in_order [] h = refl
+in_order (x ∷ []) h = refl
+in_order (x ∷ y ∷ xs) h = ◌and◌ (sym (is_le_z x y) ∙ h 0 (pos 0) (omega arith)) (in_order (y ∷ xs) (λ k d q. rw add-one (rw add-one at (h (suc k) d (omega arith)))))
 
-pub order-end : (xs : List ℤ) (i : ℕ) → length xs ≤ i → nondecreasing (drop (i - 1) xs) ≡ true
-unfolding nondecreasing
-order-end xs i h = go xs (i - 1) (omega arith)
+pub out_of_order : (xs : List ℤ) (k : ℕ) (d : ℤ) → k + 1 < length xs → is_le (int_cmp (get_or xs k d) (get_or xs (k + 1) d)) ≡ false → nondecreasing xs ≡ false
+out_of_order xs k d h e = go (nondecreasing xs) refl
   where
-    go : (xs : List ℤ) (i : ℕ) → length xs ≤ i + 1 → nondecreasing (drop i xs) ≡ true
-    go [] zero h = refl
-    go [] (suc i) h = refl
-    go (x ∷ []) zero h = refl
-    go (x ∷ y ∷ xs) zero h = absurd (omega arith)
-    go (x ∷ xs) (suc i) h = go xs i (omega arith)
+    go : (t : Bool) → nondecreasing xs ≡ t → nondecreasing xs ≡ false
+    go true f = absurd (omega (arith, sorted-mono d xs k (k + 1) (omega arith) h (sorted xs f), le-false (get_or xs k d) (get_or xs (k + 1) d) (sym (is_le_z (get_or xs k d) (get_or xs (k + 1) d)) ∙ e)))
+    go false f = f
 
 -- in that order none is farther out than the first or the last
 within-between : (x a b : ℤ) → a ⊑ x → x ⊑ b → is_within a ≡ true → is_within b ≡ true → is_within x ≡ true

@@ -14,7 +14,7 @@ use Rattle.ints.proofs.Reach.{within-at}
 use Rattle.run.specs.Run.{Bound as Limit, neighbours_in_order, span}
 use Rattle.run.specs.Place.{place_run, place_boxes}
 use Rattle.run.specs.Words.{is_possible}
-use Rattle.ints.proofs.Tests.{and_left, and_right}
+use Rattle.ints.proofs.Tests.{and_left, and_right, conj-at}
 use Rattle.run.specs.inner.Coordinates.{left_limit, right_limit}
 use Rattle.run.proofs.Optimal.{has-place-of}
 use Rattle.run.proofs.Fast.{fast-run}
@@ -30,7 +30,6 @@ use Rattle.run_columns.specs.inner.Offsets.{Near, max_offset}
 use Rattle.run_columns.specs.inner.Sums.{ratings_between}
 use Rattle.place_run.specs.inner.Requests.{request_of}
 use Rattle.run.proofs.WhenRefused.{taken-row}
-use Rattle.place_run.proofs.TakenLaws.{taken-list, ordered, reached}
 use Rattle.place_run.proofs.RefusalLaws.{member-le, in-order-same, sum-distances}
 use Rattle.run_columns.proofs.ColumnLaws.{sum-cut}
 use Rattle.run_columns.proofs.OffsetLaws.{sum_step}
@@ -107,7 +106,11 @@ taken l r old ds cs ns ws zs e =
 
 -- as many boxes as old positions
 pub boxes-are : (q : Request) (answer : List ℤ) → is_taken q answer ≡ true → length q.old ≡ q.boxes
-boxes-are q answer e = (reached q answer (ordered q answer (and_left _ _ (sym (taken-list q answer) ∙ e)))).fits.old
+boxes-are q answer e = let row = sym (taken-row q answer) ∙ e in
+    let fits = conj-at (is_small q) (is_fitting q answer ∷ is_in_reach q ∷ is_sound q ∷ []) row 1 in
+    eqb-true (length q.old) q.boxes
+    (conj-at (eqb (length answer) q.boxes) (eqb (length q.old) q.boxes ∷ eqb (length q.counts) q.boxes ∷ eqb (length q.neighbours) (sum q.counts)
+    ∷ eqb (length q.ratings) (sum q.counts) ∷ eqb (length q.distances) (member_of q.left + q.boxes + member_of q.right - 1) ∷ []) fits 1)
 
 abbrev request : Bound → Bound → List ℤ → List ℕ → List ℕ → List ℤ → List ℕ → ℕ → Request
 request l h old ds cs ns ws r = record { boxes = r; left = l; right = h; old = old; distances = ds; counts = cs; neighbours = ns; ratings = ws }

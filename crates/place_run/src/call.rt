@@ -1,6 +1,6 @@
 // The call place-run.
-ghost use Rattle.std.specs.Prelude.{◌≡◌, true, ◌+◌, length};
-ghost use Rattle.run.specs.Call.{Outcome, call_of, is_taken, placed_of};
+ghost use Rattle.std.specs.Prelude.{◌≡◌, true, ◌+◌, ◌<◌, ◌≤◌, length};
+ghost use Rattle.run.specs.Call.{Outcome, call_of, is_taken, placed_of, max_neighbours};
 ghost use Rattle.place_run.specs.inner.Requests.{request_of};
 
 use crate::place::{MAX_NEIGHBOURS, place};
@@ -8,10 +8,12 @@ use crate::refusal::is_taken;
 use run::types::{Answer, Bound};
 use run_columns::offsets::fill_offsets;
 
-// The most neighbours in all of what is placed with the least working space, and with the lesser.
-const FEW: usize = 32;
+// How many sums the least working space holds, the lesser and the greatest: one more than neighbours in all.
+const FEW: usize = 33;
 
-const SOME: usize = 256;
+const SOME: usize = 257;
+
+const MANY: usize = MAX_NEIGHBOURS + 1;
 
 // Places a run that is taken, with working space for sums of its ratings so far: they are the offsets that such distances would give.
 fn place_summed(
@@ -36,8 +38,8 @@ fn place_summed(
     );
 }
 
-// The same of more than a few neighbours, with as much working space as they ask for.
-fn place_many(
+// The same with working space for N sums.
+fn place_in<const N: usize>(
     left: Bound,
     right: Bound,
     old: &[i64],
@@ -47,27 +49,12 @@ fn place_many(
     ratings: &[u64],
     answer: &mut [i64],
 )
-    requires { is_taken (request_of left right old.now distances.now counts.now neighbours.now ratings.now) answer.old ≡ true }
+    requires answer_value { is_taken (request_of left right old.now distances.now counts.now neighbours.now ratings.now) answer.old ≡ true }
+    requires few { (length ratings.now < N) × (N ≤ max_neighbours + 1) }
     ensures { answer.new ≡ placed_of (request_of left right old.now distances.now counts.now
         neighbours.now ratings.now) }
 {
-    let n = ratings.len();
-    if n <= SOME {
-        let mut sums = [0u64; SOME + 1];
-        place_summed(
-            left,
-            right,
-            old,
-            distances,
-            counts,
-            neighbours,
-            ratings,
-            &mut sums[..n + 1],
-            answer,
-        );
-        return;
-    }
-    let mut sums = [0u64; MAX_NEIGHBOURS + 1];
+    let mut sums = [0u64; N];
     place_summed(
         left,
         right,
@@ -76,12 +63,12 @@ fn place_many(
         counts,
         neighbours,
         ratings,
-        &mut sums[..n + 1],
+        &mut sums[..ratings.len() + 1],
         answer,
     );
 }
 
-// The same, with little working space where there are few neighbours.
+// The same with as much working space as they ask for, little where there are few neighbours.
 fn place_rated(
     left: Bound,
     right: Bound,
@@ -97,24 +84,19 @@ fn place_rated(
         neighbours.now ratings.now) }
 {
     let n = ratings.len();
-    if n <= FEW {
-        let mut sums = [0u64; FEW + 1];
-        place_summed(
-            left,
-            right,
-            old,
-            distances,
-            counts,
-            neighbours,
-            ratings,
-            &mut sums[..n + 1],
-            answer,
+    if n < FEW {
+        place_in::<FEW>(
+            left, right, old, distances, counts, neighbours, ratings, answer,
         );
-        return;
+    } else if n < SOME {
+        place_in::<SOME>(
+            left, right, old, distances, counts, neighbours, ratings, answer,
+        );
+    } else {
+        place_in::<MANY>(
+            left, right, old, distances, counts, neighbours, ratings, answer,
+        );
     }
-    place_many(
-        left, right, old, distances, counts, neighbours, ratings, answer,
-    );
 }
 
 // Places a run of r boxes into the lent answer, or refuses it (8) and leaves the answer as it was.

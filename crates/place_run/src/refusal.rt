@@ -1,5 +1,5 @@
 // Refusal 8 of documents 01 and 02: whether a run that is handed to place-run is taken. Positions are half steps.
-ghost use Rattle.std.specs.Prelude.{◌≡◌, true, ◌&&◌, List, ℕ, ◌+◌, ◌-◌, ◌≤◌, ◌<◌, min, length, get_or, ℤ, pos};
+ghost use Rattle.std.specs.Prelude.{◌≡◌, true, ◌&&◌, List, ℕ, ◌+◌, ◌-◌, ◌≤◌, ◌<◌, min, eqb, leb, length, get_or, ℤ, pos};
 ghost use Rattle.run.specs.Run.{nondecreasing};
 ghost use Rattle.run.specs.Words.{is_possible};
 ghost use Rattle.ints.specs.Lists.{sum};
@@ -29,13 +29,11 @@ fn neighbours_in_all(counts: &[u64]) -> u64
     ensures { result ≡ min (sum counts.now) (max_neighbours + 1) }
 {
     let mut total: u64 = 0;
-    let mut i = 0;
-    while i < counts.len() {
-        if MAX_NEIGHBOURS - total < counts[i] {
+    for count in counts {
+        if MAX_NEIGHBOURS - total < *count {
             return MAX_NEIGHBOURS + 1;
         }
-        total += counts[i];
-        i += 1;
+        total += *count;
     }
     total
 }
@@ -55,8 +53,7 @@ fn distances_due(left: Bound, boxes: u64, right: Bound) -> u64
     requires { boxes ≤ max_boxes }
     ensures { result ≡ member_of left + boxes + member_of right - 1 }
 {
-    let all = members(left) as u64 + boxes + members(right) as u64;
-    if all == 0 { 0 } else { all - 1 }
+    (members(left) as u64 + boxes + members(right) as u64).saturating_sub(1)
 }
 
 // A side with no bound hands in no position.
@@ -79,14 +76,7 @@ fn is_distance(d: u64) -> bool
 fn all_distances(distances: &[u64]) -> bool
     ensures { result ≡ all_distances distances.now }
 {
-    let mut i = 0;
-    while i < distances.len() {
-        if !is_distance(distances[i]) {
-            return false;
-        }
-        i += 1;
-    }
-    true
+    distances.iter().all(|d| is_distance(*d))
 }
 
 // Whether a rating is from 1 to 100.
@@ -99,37 +89,15 @@ fn is_rating(w: u64) -> bool
 fn all_ratings(ratings: &[u64]) -> bool
     ensures { result ≡ all_ratings ratings.now }
 {
-    let mut i = 0;
-    while i < ratings.len() {
-        if !is_rating(ratings[i]) {
-            return false;
-        }
-        i += 1;
-    }
-    true
-}
-
-fn is_nondecreasing(positions: &[i64]) -> bool
-    ensures { result ≡ nondecreasing positions.now }
-{
-    let mut i = 1;
-    while i < positions.len() {
-        if positions[i] < positions[i - 1] {
-            return false;
-        }
-        i += 1;
-    }
-    true
+    ratings.iter().all(|w| is_rating(*w))
 }
 
 // Whether the first and the last are within ±2^40.
 fn ends_within(positions: &[i64]) -> bool
     ensures { result ≡ (is_within (get_or positions.now 0 (pos 0)) && is_within (get_or positions.now (length positions.now - 1) (pos 0))) }
 {
-    if positions.len() == 0 {
-        return true;
-    }
-    is_within(positions[0]) && is_within(positions[positions.len() - 1])
+    positions.first().is_none_or(|x| is_within(*x))
+        && positions.last().is_none_or(|x| is_within(*x))
 }
 
 // Whether the neighbours of one box are within ±2^40 and in nondecreasing order. In that order none is farther out than the
@@ -137,7 +105,7 @@ fn ends_within(positions: &[i64]) -> bool
 fn part_is_taken(positions: &[i64]) -> bool
     ensures { result ≡ (all_within positions.now && nondecreasing positions.now) }
 {
-    is_nondecreasing(positions) && ends_within(positions)
+    positions.is_sorted() && ends_within(positions)
 }
 
 // Whether those of every box are; each box has as many as its count says.
@@ -146,14 +114,12 @@ fn neighbours_are_taken(counts: &[u64], neighbours: &[i64]) -> bool
     ensures { result ≡ (all_within neighbours.now && parts_in_order counts.now neighbours.now) }
 {
     let mut from: usize = 0;
-    let mut i = 0;
-    while i < counts.len() {
-        let to = from + counts[i] as usize;
+    for count in counts {
+        let to = from + *count as usize;
         if !part_is_taken(&neighbours[from..to]) {
             return false;
         }
         from = to;
-        i += 1;
     }
     true
 }
@@ -174,6 +140,46 @@ fn is_possible(left: Bound, right: Bound, distances: &[u64]) -> bool
             Bound::At(r) => !too_near(l, r, total(distances) as u64),
         },
     }
+}
+
+// Whether there are no more boxes and neighbours in all than a run may have, and what comes with them is as long.
+fn is_sized(
+    r: u64,
+    total: u64,
+    old: &[i64],
+    counts: &[u64],
+    neighbours: &[i64],
+    ratings: &[u64],
+    answer: &[i64],
+) -> bool
+    ensures { result ≡ (leb r max_boxes && leb total max_neighbours && eqb (length answer.now) r && eqb (length old.now) r
+        && eqb (length counts.now) r && eqb (length neighbours.now) total && eqb (length ratings.now) total) }
+{
+    r <= MAX_BOXES
+        && total <= MAX_NEIGHBOURS
+        && answer.len() as u64 == r
+        && old.len() as u64 == r
+        && counts.len() as u64 == r
+        && neighbours.len() as u64 == total
+        && ratings.len() as u64 == total
+}
+
+// Whether the bounds, old positions, distances and ratings are within their limits.
+fn is_within_limits(
+    left: Bound,
+    right: Bound,
+    old: &[i64],
+    distances: &[u64],
+    ratings: &[u64],
+) -> bool
+    ensures { result ≡ (all_within (positions_of left) && all_within (positions_of right) && all_within old.now
+        && all_distances distances.now && all_ratings ratings.now) }
+{
+    bound_within(left)
+        && bound_within(right)
+        && all_within(old)
+        && all_distances(distances)
+        && all_ratings(ratings)
 }
 
 // Whether place-run takes the run: the tests of refusal 8.
@@ -200,19 +206,9 @@ pub fn is_taken(
     }) answer.now }
 {
     let total = neighbours_in_all(counts);
-    r <= MAX_BOXES
-        && total <= MAX_NEIGHBOURS
-        && answer.len() as u64 == r
-        && old.len() as u64 == r
-        && counts.len() as u64 == r
-        && neighbours.len() as u64 == total
-        && ratings.len() as u64 == total
+    is_sized(r, total, old, counts, neighbours, ratings, answer)
         && distances.len() as u64 == distances_due(left, r, right)
-        && bound_within(left)
-        && bound_within(right)
-        && all_within(old)
-        && all_distances(distances)
-        && all_ratings(ratings)
+        && is_within_limits(left, right, old, distances, ratings)
         && neighbours_are_taken(counts, neighbours)
         && is_possible(left, right, distances)
 }

@@ -1,9 +1,9 @@
 -- A box's ratings at a place are those at the places beside it, as far as neither its position nor a neighbour is passed. Assumes
 -- nothing.
 use mathlib.Core.Path.{◌≡◌, sym, ◌∙◌}
-use mathlib.Core.Bool.{Bool, true, false}
+use mathlib.Core.Bool.{Bool, true}
 use mathlib.Core.List.{List, [], ◌∷◌, map}
-use Prim.Native.Nat.{ℕ, zero, suc, ◌+◌, ◌-◌, ◌≤◌, ◌<◌}
+use Prim.Native.Nat.{ℕ, zero, suc, ◌-◌, ◌≤◌, ◌<◌}
 use native.Mathlib.Omega.{arith}
 use lib.ListN.{length, take, get_or, length-map}
 use lib.IntN.{ℤ, pos, ◌+ℤ◌}
@@ -11,7 +11,7 @@ use lib.Signed.{lt_z}
 use Rattle.ints.specs.Ints.{◌⊑◌, ◌⊏◌}
 use Rattle.ints.proofs.Laws.{sum, cases_z, make-lt-true, make-lt-false}
 use Rattle.ints.specs.Lists.{sum as total}
-use Rattle.run.specs.Run.{Bound as Limit, Lead, leads_of, nondecreasing}
+use Rattle.run.specs.Run.{Bound as Limit, leads_of, nondecreasing}
 use Rattle.run.specs.inner.Coordinates.{less, count_up_to, rated_up_to}
 use Rattle.run.proofs.Leads.{total-leads}
 use Rattle.run.proofs.Sorted.{Sorted, sorted-cons, sorted, sorted-get, count-bound, count-below, count-above, count-is}
@@ -28,12 +28,12 @@ same-side z m x b f h k q = cases_z z m
 same-counted : (left : Bool) (z m x : ℤ) (b f : ℕ) → BackTo z m b → FarTo z m f → Beside m b f x → counted left z x ≡ counted left z m
 same-counted left z m x b f h k q = rw (same-side z m x b f h k q)
 
-sorted-mono : {lo : Limit} (ns : List ℤ) (i j : ℕ) → i ≤ j → j < length ns → Sorted lo ns → get_or ns i (pos 0) ⊑ get_or ns j (pos 0)
-sorted-mono [] i j h k r = absurd (omega arith)
-sorted-mono (n ∷ ns) zero zero h k r = omega arith
-sorted-mono (n ∷ ns) zero (suc j) h k (sorted-cons o r) = sorted-get n (pos 0) ns j (omega arith) r
-sorted-mono (n ∷ ns) (suc i) zero h k r = absurd (omega arith)
-sorted-mono (n ∷ ns) (suc i) (suc j) h k (sorted-cons o r) = sorted-mono ns i j (omega arith) (omega arith) r
+pub sorted-mono : {lo : Limit} (d : ℤ) (ns : List ℤ) (i j : ℕ) → i ≤ j → j < length ns → Sorted lo ns → get_or ns i d ⊑ get_or ns j d
+sorted-mono d [] i j h k r = absurd (omega arith)
+sorted-mono d (n ∷ ns) zero zero h k r = omega arith
+sorted-mono d (n ∷ ns) zero (suc j) h k (sorted-cons o r) = sorted-get n d ns j (omega arith) r
+sorted-mono d (n ∷ ns) (suc i) zero h k r = absurd (omega arith)
+sorted-mono d (n ∷ ns) (suc i) (suc j) h k (sorted-cons o r) = sorted-mono d ns i j (omega arith) (omega arith) r
 
 same_count : (m x : ℤ) (b f : ℕ) (ns : List ℤ) (n : ℕ) → nondecreasing ns ≡ true → n ≡ count_up_to m ns
     → (0 < n → BackTo (get_or ns (n - 1) (pos 0)) m b) → (n < length ns → FarTo (get_or ns n (pos 0)) m f) → Beside m b f x → count_up_to x ns ≡ n
@@ -41,20 +41,12 @@ same_count m x b f ns n s e h k q = let r = sorted ns s in let l = count-bound m
     count-is x (pos 0) ns n (omega arith) r
     (λ i j. let p = get_or ns (n - 1) (pos 0) in
     let o : p ⊑ m = cases_z p m (λ g. g) (λ g. absurd (omega (arith, count-below m (pos 0) ns (n - 1) (omega arith) r g))) in
-    omega (arith, q.0, h (omega arith) o, sorted-mono ns i (n - 1) (omega arith) (omega arith) r))
+    omega (arith, q.0, h (omega arith) o, sorted-mono (pos 0) ns i (n - 1) (omega arith) (omega arith) r))
     (λ j. let p = get_or ns n (pos 0) in
     let o : m ⊏ p = cases_z p m (λ g. absurd (omega (arith, count-above m (pos 0) ns n j r g))) (λ g. g) in omega (arith, q.1, k j o))
 
 module _ (left : Bool) (z : ℤ) (m : ℤ) (back far b f : ℕ) (a : Around back far b f) (h : BackTo z m b) (k : FarTo z m f) where
-  -- a box that is not counted
-  pub box-uncounted : (ns : List Lead) → counted left z m ≡ false → BoxCounts left z ns m back far 0 0 b f
-  box-uncounted ns t = record {
-    around = a;
-    ups = λ x q. rw (same-counted left z m x b f h k q ∙ t);
-    beyonds = λ x q. rw (same-counted left z m x b f h k q ∙ t);
-  }
-
-  -- one that is, whose neighbours ns are its offset o further right and have ratings ws
+  -- a box that is counted, whose neighbours ns are its offset o further right and have ratings ws
   module _ (o : ℕ) (ns : List ℤ) (ws : List ℕ) (n b' f' : ℕ) (l : length ns ≡ length ws) (s : nondecreasing ns ≡ true) (e : n ≡ count_up_to (m +ℤ pos o) ns) (a' : Around b f b' f')
       (h' : 0 < n → BackTo (get_or ns (n - 1) (pos 0)) (m +ℤ pos o) b') (k' : n < length ns → FarTo (get_or ns n (pos 0)) (m +ℤ pos o) f') (t : counted left z m ≡ true) where
     is-counted : (x : ℤ) → Beside m b' f' x → counted left z x ≡ true

@@ -32,9 +32,6 @@ sum_step ds i = cases (length ds) i
     (λ h. sum-on ds i h)
 
 -- ---- the offsets
-pub offsets-start : (ds : List ℕ) (r : ℕ) → offsets_from 0 ds (r - 0) ≡ offsets_from 0 ds r
-offsets-start ds r = let e : r - 0 ≡ r = omega arith in rw e
-
 pub offsets-next : (o : ℕ) (ds : List ℕ) (i r : ℕ) → i < r → offsets_from o (drop i ds) (r - i) ≡ o ∷ offsets_from (o + get_or ds i 0) (drop (i + 1) ds) (r - (i + 1))
 unfolding offsets_from
 offsets-next o ds i r h = let e : r - i ≡ suc (r - (i + 1)) = omega arith in rw (e, first-drop 0 i ds, drop-drop 1 i ds)

@@ -1,7 +1,7 @@
 // The ratings of the neighbours of the boxes of a half that are at or left of a place, and right of it. All positions are in run
 // coordinates but those of the neighbours, which are their box's offset further right. Ratings are handed in as sums so far, one more
 // than there are neighbours.
-ghost use Rattle.std.specs.Prelude.{◌≡◌, true, map, ◌+◌, ◌-◌, ◌≤◌, ◌<◌, ◌^◌, min, length, get_or, pos};
+ghost use Rattle.std.specs.Prelude.{◌≡◌, true, map, ◌+◌, ◌-◌, ◌≤◌, ◌<◌, ◌^◌, length, get_or, pos};
 ghost use Rattle.ints.specs.Ints.{size};
 ghost use Rattle.run.specs.Run.{leads_of, nondecreasing};
 ghost use Rattle.run.specs.inner.Coordinates.{less};
@@ -11,7 +11,7 @@ ghost use Rattle.run_columns.specs.inner.Offsets.{less_near, OffsetsOf, Near, ma
 ghost use Rattle.run_columns.specs.inner.Sums.{ratings_between, SumsOf};
 
 use crate::count::count_up_to;
-use ints::{apart, plus};
+use ints::plus;
 
 // The ratings of the neighbours at or left of a place, and of those right of it. They are the same at the places that are at most
 // `back` to its left or less than `far` to its right.
@@ -23,22 +23,12 @@ pub struct Counted {
     pub far: u64,
 }
 
-fn least(a: u64, b: u64) -> u64
-    ensures { result ≡ min a b }
-{
-    if a < b { a } else { b }
-}
-
 // How far to go back from m: not past p, if p is at m or left of it.
 fn back_to(p: i64, m: i64, back: u64) -> u64
     requires { size p + size m < 2 ^ 63 }
     ensures { (result ≤ back) × BackTo p m result }
 {
-    if m < p {
-        back
-    } else {
-        least(back, apart(m, p))
-    }
+    if m < p { back } else { back.min(m.abs_diff(p)) }
 }
 
 // How far to go on from m: not past p, if p is right of it.
@@ -46,7 +36,7 @@ fn far_to(p: i64, m: i64, far: u64) -> u64
     requires { (size p + size m < 2 ^ 63) × (0 < far) }
     ensures { (result ≤ far) × (0 < result) × FarTo p m result }
 {
-    if m < p { least(far, apart(p, m)) } else { far }
+    if m < p { far.min(p.abs_diff(m)) } else { far }
 }
 
 // Back to the last of the first n neighbours, and on to the one after them.
@@ -141,13 +131,11 @@ pub fn count_half(
     let mut b = back;
     let mut f = far;
     let mut at: usize = 0;
-    let mut i: usize = 0;
-    while i < z.len() {
-        let c = counts[i] as usize;
-        let to = at + c;
+    for (i, x) in z.iter().enumerate() {
+        let to = at + counts[i] as usize;
         let box_counts = count_box(
             left,
-            z[i],
+            *x,
             offsets[i],
             &near[at..to],
             &sums[at..to + 1],
@@ -160,11 +148,10 @@ pub fn count_half(
         b = box_counts.back;
         f = box_counts.far;
         at = to;
-        i += 1;
     }
     Counted {
-        upto: upto,
-        beyond: beyond,
+        upto,
+        beyond,
         back: b,
         far: f,
     }

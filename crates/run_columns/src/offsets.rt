@@ -11,7 +11,7 @@ use ints::plus;
 pub fn distance_at(distances: &[u64], i: usize) -> u64
     ensures { result ≡ get_or distances.now i 0 }
 {
-    if i < distances.len() { distances[i] } else { 0 }
+    distances.get(i).copied().unwrap_or(0)
 }
 
 // The offset of each box.
@@ -20,11 +20,9 @@ pub fn fill_offsets(steps: &[u64], offsets: &mut [u64])
     ensures { offsets.new ≡ offsets_from 0 steps.now (length offsets.old) }
 {
     let mut offset: u64 = 0;
-    let mut i: usize = 0;
-    while i < offsets.len() {
-        offsets[i] = offset;
+    for (i, slot) in offsets.iter_mut().enumerate() {
+        *slot = offset;
         offset += distance_at(steps, i);
-        i += 1;
     }
 }
 
@@ -33,9 +31,7 @@ pub fn plus_offsets(offsets: &[u64], z: &mut [i64])
     requires small { Small z.old }
     ensures { z.new ≡ plus_offsets offsets.now z.old }
 {
-    let mut i: usize = 0;
-    while i < z.len() {
-        z[i] = plus(z[i], offsets[i]);
-        i += 1;
+    for (i, x) in z.iter_mut().enumerate() {
+        *x = plus(*x, offsets[i]);
     }
 }

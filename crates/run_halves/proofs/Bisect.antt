@@ -20,9 +20,6 @@ module _ (k n : ℕ) (zs : List ℤ) (cs : List ℕ) (ns : List ℤ) (ws : List 
     pub fails : 0 < lo → more k n zs cs ns ws (first_after k zs +ℤ pos (lo - 1)) ≡ false
     pub holds : lo + w < overlap k zs → more k n zs cs ns ws (first_after k zs +ℤ pos (lo + w)) ≡ true
 
-  pub searching-start : Searching 0 (overlap k zs)
-  searching-start = record { within = omega arith; fails = λ h. absurd (omega arith); holds = λ h. absurd (omega arith) }
-
   beside_at : (d e b f : ℕ) → d ≤ e + b → e < d + f → Beside (at d) b f (at e)
   beside_at d e b f h g = let s = sum (first_after k zs) (pos d) in let t = sum (first_after k zs) (pos e) in (omega arith, omega arith)
 

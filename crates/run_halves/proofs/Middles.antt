@@ -57,9 +57,6 @@ next-exceeds t i ss e l r m k = let w = r.within in
     let h : i + 1 + 1 < length ss = cases (length ss) (i + 1 + 1) (λ g. let f : length ss - 1 ≡ i + 1 = omega arith in absurd (omega (arith, ap (λ (j : ℕ). get_or ss j 0) f))) (λ g. g) in
     record { within = h; before = omega arith; reached = omega (arith, rises (i + 1) ss e h, (sum_near (i + 1) ss e l w).0) }
 
-pub same-exceeds : (t i : ℕ) (ss : List ℕ) → Reaches t ss i → t < 2 * (get_or ss (i + 1) 0 - get_or ss 0 0) → Reaches (t + 1) ss i
-same-exceeds t i ss r h = record { within = r.within; before = omega (arith, r.before); reached = omega arith }
-
 -- ---- the total
 pub total-some : (ss : List ℕ) → all_ratings (ratings_between ss) ≡ true → 1 < length ss → get_or ss 0 0 < get_or ss (length ss - 1) 0
 total-some ss e h = let ws = ratings_between ss in let n = length ss - 1 in let l = length-between ss in

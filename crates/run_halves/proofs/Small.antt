@@ -1,12 +1,12 @@
--- Small positions stay small: the lesser and the greater of two, a place between two, a join. Assumes nothing.
+-- Small positions stay small: the lesser and the greater of two, a join. Assumes nothing.
 use mathlib.Core.List.{List, ◌++◌}
 use Prim.Native.Nat.{ℕ, ◌-◌, ◌≤◌}
 use native.Mathlib.Omega.{arith}
 use lib.ListN.{take, drop}
-use lib.IntN.{ℤ, pos, ◌+ℤ◌, ◌-ℤ◌}
+use lib.IntN.{ℤ, ◌-ℤ◌}
 use lib.Signed.{lt_z}
-use Rattle.ints.specs.Ints.{P, size, min_z, max_z, ◌⊑◌, ◌⊏◌}
-use Rattle.ints.proofs.Laws.{if-ind, sum, dif, apart, lt-true}
+use Rattle.ints.specs.Ints.{size, min_z, max_z, ◌⊑◌}
+use Rattle.ints.proofs.Laws.{if-ind, dif, apart, lt-true}
 use Rattle.run.specs.inner.Bisection.{cut_at, raise_to}
 use Rattle.run_columns.specs.inner.Columns.{Small, max_size}
 use Rattle.run_halves.specs.inner.Meet.{Cut, last_before, first_after, Joined}
@@ -22,10 +22,6 @@ small-max x m p q = if-ind (lt_z x m) m x (λ z. size z ≤ max_size) (λ e. q) 
 -- ---- a join
 small-between : (a b m : ℤ) → size a ≤ max_size → size b ≤ max_size → b ⊑ m → m ⊑ a → size m ≤ max_size
 small-between a b m p q h k = omega (arith, apart m)
-
--- a place between b and a
-pub small-place : (a b : ℤ) (d : ℕ) → size a ≤ max_size → size b ≤ max_size → b ⊏ a → d ≤ P (a -ℤ b) → size (b +ℤ pos d) ≤ max_size
-small-place a b d p q h k = small-between a b (b +ℤ pos d) p q (omega (arith, sum b (pos d))) (omega (arith, sum b (pos d), dif a b, apart (a -ℤ b)))
 
 pub small-joined : (k n : ℕ) (zs : List ℤ) (cs : List ℕ) (ns : List ℤ) (ws : List ℕ) (out : List ℤ) → Cut k n zs cs ns → Small zs → Joined k n zs cs ns ws out → Small out
 small-joined k n zs cs ns ws out c q j = let m = j.place in let a = last_before k zs in let b = first_after k zs in

@@ -15,19 +15,15 @@ ghost use Rattle.run_columns.specs.inner.Sums.{ratings_between, SumsOf};
 
 use crate::meet::join;
 use crate::middle::find_middles;
-use ints::{greater, lesser, minus};
+use ints::minus;
 use run::types::Bound;
 use run_columns::offsets::{fill_offsets, plus_offsets};
 
-// Half of z, rounded toward minus infinity: only numbers that are not negative are halved.
+// Half of z, rounded toward minus infinity.
 fn half_down(z: i64) -> i64
     ensures { result ≡ half_down z }
 {
-    if z < 0 {
-        -1 - ((-1 - z) as u64 / 2) as i64
-    } else {
-        (z as u64 / 2) as i64
-    }
+    z.div_euclid(2)
 }
 
 // Where a lone box starts: halfway between the two middle ones of its neighbours, or at its old position if it has none.
@@ -35,14 +31,12 @@ fn start(old: i64, near: &[i64], sums: &[u64]) -> i64
     requires { Near near.now × SumsOf sums.now near.now }
     ensures { result ≡ start_of old (leads_of near.now (ratings_between sums.now)) }
 {
-    if near.len() == 0 {
+    if near.is_empty() {
         return old;
     }
     let middles = find_middles(sums);
-    let lower = middles.lower;
-    let upper = middles.upper;
-    let low = near[lower];
-    let high = near[upper];
+    let low = near[middles.lower];
+    let high = near[middles.upper];
     half_down(low + high)
 }
 
@@ -51,7 +45,7 @@ fn raised(left: Bound, x: i64) -> i64
 {
     match left {
         Bound::Free => x,
-        Bound::At(l) => greater(x, l),
+        Bound::At(l) => x.max(l),
     }
 }
 
@@ -60,7 +54,7 @@ fn lowered(right: Bound, x: i64) -> i64
 {
     match right {
         Bound::Free => x,
-        Bound::At(h) => lesser(x, h),
+        Bound::At(h) => x.min(h),
     }
 }
 
@@ -77,13 +71,7 @@ pub fn total(counts: &[u64]) -> usize
     requires { sum counts.now < 2 ^ 64 }
     ensures { result ≡ sum counts.now }
 {
-    let mut s: usize = 0;
-    let mut i: usize = 0;
-    while i < counts.len() {
-        s += counts[i] as usize;
-        i += 1;
-    }
-    s
+    counts.iter().map(|count| *count as usize).sum()
 }
 
 // "The run is cut after its first ⌊r/2⌋ boxes. Each half is placed so", then the halves are joined.
@@ -106,8 +94,7 @@ fn place_halves(
         return;
     }
     if r == 1 {
-        let x = place_one(left, right, old[0], offsets[0], near, sums);
-        z[0] = x;
+        z[0] = place_one(left, right, old[0], offsets[0], near, sums);
         return;
     }
     let k = r / 2;

@@ -9,7 +9,7 @@ ghost use Rattle.run_halves.specs.inner.Meet.{Cut, Tests, last_before, first_aft
 ghost use Rattle.run_columns.specs.inner.Offsets.{less_near, OffsetsOf, Near};
 ghost use Rattle.run_columns.specs.inner.Sums.{ratings_between, SumsOf};
 
-use ints::{apart, greater, lesser, plus};
+use ints::plus;
 use run_columns::counts::count_half;
 
 // Whether the ratings of those at or left of a place are more than of those right of it, there and at those places beside it.
@@ -86,7 +86,7 @@ fn meeting_place(
 {
     let b = z[k];
     let mut lo: u64 = 0;
-    let mut w = apart(z[k - 1], b);
+    let mut w = z[k - 1].abs_diff(b);
     while 0 < w {
         let h = w / 2;
         let t = more_up_to(
@@ -115,10 +115,8 @@ fn meeting_place(
 fn cut(m: i64, z: &mut [i64])
     ensures { z.new ≡ cut_at m z.old }
 {
-    let mut i: usize = 0;
-    while i < z.len() {
-        z[i] = lesser(z[i], m);
-        i += 1;
+    for x in z.iter_mut() {
+        *x = (*x).min(m);
     }
 }
 
@@ -126,10 +124,8 @@ fn cut(m: i64, z: &mut [i64])
 fn raise(m: i64, z: &mut [i64])
     ensures { z.new ≡ raise_to m z.old }
 {
-    let mut i: usize = 0;
-    while i < z.len() {
-        z[i] = greater(z[i], m);
-        i += 1;
+    for x in z.iter_mut() {
+        *x = (*x).max(m);
     }
 }
 

@@ -59,7 +59,7 @@ pub fn find_middles(sums: &[u64]) -> Middles
     }
     let lower = first_reaching(sums, total);
     Middles {
-        lower: lower,
+        lower,
         upper: first_exceeding(sums, total, lower),
     }
 }

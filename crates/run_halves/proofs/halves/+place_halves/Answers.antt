@@ -39,8 +39,8 @@ returns-then-r-eq1 t c =
     let g = c.requires in
     let one = c.if-r-eq1.true in
     let near : size (get_or c.args.old.now 0 (pos 0)) ≤ reach = g.olds 0 (omega arith) in
-    let e = simp (read (get_or c.args.old.now 0 (pos 0)) near) at c.place_one-x.ensures in
-    simp (back' c.place_one-x.result c.place_one-x.type_inv) (given-one _ _ _ _ _ _ _ _ g c.place_one-x.result one e)
+    let e = simp (read (get_or c.args.old.now 0 (pos 0)) near) at c.place_one.ensures in
+    simp (back' c.place_one.result c.place_one.type_inv) (given-one _ _ _ _ _ _ _ _ g c.place_one.result one e)
 
 -- src/halves.rt:114:9
 pub total-n-requires : goal.total-n-requires

@@ -2,6 +2,7 @@
 use Rattle.std.proofs.Common.{◌≡◌, ◌∙◌, sym, arith, ℕ, ◌≤◌, length, List, [], ◌∷◌, ℤ, pos, ◌+ℤ◌, w64, to_z, of_z}
 use mir.Val.{SFits}
 use lib.ListN.{get_or}
+use Rattle.std.proofs.lemmas.Bool.{eqb-true}
 use Rattle.ints.specs.Ints.{size}
 use Rattle.ints.specs.Reach.{reach}
 use Rattle.ints.proofs.Laws.{back, back', fit-make, fit-sum}
@@ -24,11 +25,9 @@ read z h = back (fit-make z (omega arith))
 add-half-down : (a b : ℤ) → size a ≤ reach → size b ≤ reach → SFits w64 (a +ℤ b)
 add-half-down a b l h = fit-sum a b (omega (arith, l, h))
 
--- src/halves.rt:39:9
-pub returns-then-near-eq0 : goal.returns-then-near-eq0
-returns-then-near-eq0 c = back c.ranges.old ∙ none c.args.old c.args.near.now (ratings_between c.args.sums.now) c.if-near-eq0.true
+pub returns-then-is_empty : goal.returns-then-is_empty
+returns-then-is_empty c = back c.ranges.old ∙ none c.args.old c.args.near.now (ratings_between c.args.sums.now) (eqb-true (length c.args.near.now) 0 (sym c.if-is_empty.ensures))
 
--- src/halves.rt:34:1
 pub returns : goal.returns
 returns c =
     let a = c.args in

@@ -1,0 +1,6 @@
+use Rattle.std.proofs.Common.{◌≡◌, ◌++◌, map, take, drop}
+use Rattle.ints.specs.Ints.{max_z}
+use Rattle.run_halves.proofs.meet.raise.Given as goal
+
+abbrev pub invariant-loop-x : goal.invariant-loop-x
+invariant-loop-x l = take l.x-index l.z ++ map (λ x. max_z x l.m) (drop l.x-index l.z) ≡ map (λ x. max_z x l.m) l.fn.z
