@@ -2,13 +2,14 @@
 use Prim.Native.Nat.{ℕ, zero, suc, ◌+◌, ◌-◌, ◌<◌, ◌≤◌}
 use mathlib.Core.Path.{◌≡◌, refl, sym, ◌∙◌, ap}
 use mathlib.Core.Bool.{Bool, cond}
-use mathlib.Core.List.{List, [], ◌∷◌, ◌++◌, reverse, reverse_aux-eq}
+use mathlib.Core.List.{List, [], ◌∷◌}
 use native.Mathlib.Omega.{arith}
 use native.Mathlib.Numerals.{add-one}
 use borrow.Author.Tests.{lt-ltb, le-ltb}
 use lib.Dec.{ltb}
-use lib.ListN.{length, get_or, set, take, drop, length-drop, length-reverse, drop_of_length-le, get_or-append}
-use lib.Seq.{drop-cons, sets, get_or-take, get_or-drop, get_or-append-add, length-take-le}
+use lib.ListN.{length, get_or, set, take, drop, length-drop, length-reverse, drop_of_length-le}
+use lib.Seq.{drop-cons, sets, get_or-take, get_or-drop, length-take-le}
+use Rattle.std.proofs.lemmas.List.{get_or-reverse}
 use Rattle.ints.proofs.Laws.{cases}
 use Rattle.plan.specs.Plan.{numbers}
 use Rattle.prelim_classes.specs.inner.Arranged.{followers, level_by, vertex_by}
@@ -37,32 +38,13 @@ numbers-at v zero j h = absurd (omega arith)
 numbers-at v (suc n) zero h = omega arith
 numbers-at v (suc n) (suc j) h = numbers-at (v + 1) n j (omega arith) ∙ omega arith
 
--- a list reversed, from its end
-reversed-at : (xs : List ℕ) (j : ℕ) → j < length xs → get_or (reverse xs) j 0 ≡ get_or xs (length xs - 1 - j) 0
-reversed-at [] j h = absurd (omega arith)
-reversed-at (x ∷ xs) j h =
-    let e : reverse (x ∷ xs) ≡ reverse xs ++ (x ∷ []) = reverse_aux-eq xs (x ∷ []) in
-    cases (length xs) j
-    (λ k. let z : j ≡ length (reverse xs) + 0 = omega (arith, length-reverse xs) in
-    let o : length xs + 1 - 1 - j ≡ 0 = omega arith in
-    ap (λ (l : List ℕ). get_or l j 0) e ∙ ap (λ (n : ℕ). get_or (reverse xs ++ (x ∷ [])) n 0) z ∙ get_or-append-add (reverse xs) (x ∷ []) 0 0
-    ∙ sym (ap (λ (n : ℕ). get_or (x ∷ xs) n 0) (first k)))
-    (λ k. ap (λ (l : List ℕ). get_or l j 0) e ∙ get_or-append (reverse xs) (x ∷ []) 0 j (omega (arith, length-reverse xs)) ∙ reversed-at xs j k
-    ∙ sym (ap (λ (n : ℕ). get_or (x ∷ xs) n 0) (later k)))
-  where
-    first : length xs ≤ j → length (x ∷ xs) - 1 - j ≡ 0
-    first k = omega arith
-
-    later : j < length xs → length (x ∷ xs) - 1 - j ≡ suc (length xs - 1 - j)
-    later k = omega arith
-
 module _ (reversed : Bool) (v n : ℕ) where
   pub level-long : length (level_by reversed v n) ≡ n
   level-long = by-test reversed (λ e. rw e (length-reverse (numbers v n) ∙ numbers_long v n)) (λ e. rw e (numbers_long v n))
 
   pub level-at : (j : ℕ) → j < n → get_or (level_by reversed v n) j 0 ≡ vertex_by reversed v n j
   level-at j h = by-test reversed
-      (λ e. rw e (reversed-at (numbers v n) j (omega (arith, numbers_long v n)) ∙ ap (λ (m : ℕ). get_or (numbers v n) (m - 1 - j) 0) (numbers_long v n) ∙ numbers-at v n (n - 1 - j) (omega arith) ∙ omega arith))
+      (λ e. rw e (get_or-reverse (numbers v n) j 0 (omega (arith, numbers_long v n)) ∙ ap (λ (m : ℕ). get_or (numbers v n) (m - 1 - j) 0) (numbers_long v n) ∙ numbers-at v n (n - 1 - j) (omega arith) ∙ omega arith))
       (λ e. rw e (numbers-at v n j h))
 
   pub level-below : (m : ℕ) → v + n ≤ m → (j : ℕ) → j < n → get_or (level_by reversed v n) j 0 < m

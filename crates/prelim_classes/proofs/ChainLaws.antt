@@ -8,11 +8,10 @@ use native.Mathlib.Numerals.{add-one}
 use borrow.Author.Tests.{lt-ltb, le-ltb, eq-eqb, ne_eqb}
 use lib.ListN.{length, get_or, set, drop, length-set, drop_of_length-le}
 use lib.Seq.{drop-cons, get_or-set_same, get_or-set_other}
+use Rattle.std.specs.List.{fold}
 use Rattle.ints.proofs.Laws.{cases}
 use Rattle.plan.proofs.CountLaws.{by-same}
 use Rattle.prelim_classes.specs.inner.Links.{along, chain, RisingFrom, Rising, among, positions, Bucketed}
-use Rattle.preliminary.specs.Classes.{give}
-use Rattle.preliminary.specs.Place.{mark_all}
 
 -- by a test
 pub by-test : (b : Bool) {G : Type 0} → (b ≡ true → G) → (b ≡ false → G) → G
@@ -88,22 +87,12 @@ along-inside next r (suc f) v w h = cases (length next) v
     let u = r.rises v (omega arith) e in record { from = omega (arith, i.from); below = i.below }))
 
 -- ---- walks
-module _ (next : List ℕ) (r : Rising next) (v : ℕ) where
-  pub give-on : (c : ℕ) (xs : List ℕ) → v < length next → give c (chain next v) xs ≡ give c (chain next (get_or next v 0)) (set xs v c)
-  unfolding give
-  give-on c xs h = rw (chain-on next 0 r v (omega arith) h)
+module _ {B : Type 0} (f : B → ℕ → B) (next : List ℕ) (r : Rising next) (v : ℕ) (a b : B) (e : fold f a (chain next v) ≡ b) where
+  pub walk-on : v < length next → fold f (f a v) (chain next (get_or next v 0)) ≡ b
+  walk-on h = rw (chain-on next 0 r v (omega arith) h) at e
 
-  pub give-end : (c : ℕ) (xs : List ℕ) → length next ≤ v → give c (chain next v) xs ≡ xs
-  unfolding give
-  give-end c xs h = rw (along-end next (length next) v h)
-
-  pub mark_on : (xs : List Bool) → v < length next → mark_all (chain next v) xs ≡ mark_all (chain next (get_or next v 0)) (set xs v true)
-  unfolding mark_all
-  mark_on xs h = rw (chain-on next 0 r v (omega arith) h)
-
-  pub mark-end : (xs : List Bool) → length next ≤ v → mark_all (chain next v) xs ≡ xs
-  unfolding mark_all
-  mark-end xs h = rw (along-end next (length next) v h)
+  pub walk-end : length next ≤ v → a ≡ b
+  walk-end h = rw (along-end next (length next) v h) at e
 
 pub other-above : (i v : ℕ) → i ≤ v → (v ≡ i → ⊥) → i + 1 ≤ v
 other-above i v m s = cases v i (λ h. absurd (s (omega arith))) (λ h. omega arith)

@@ -1,5 +1,5 @@
 -- Laws of classing, as the walks along a level and over the levels meet its cases. Assumes nothing.
-use Prim.Native.Nat.{ℕ, suc, ◌+◌, ◌-◌, ◌<◌, ◌≤◌}
+use Prim.Native.Nat.{ℕ, ◌+◌, ◌-◌, ◌<◌, ◌≤◌}
 use mathlib.Core.Path.{◌≡◌, refl, sym, ◌∙◌, ap}
 use mathlib.Core.List.{List, [], ◌∷◌}
 use native.Mathlib.Omega.{arith}
@@ -8,24 +8,12 @@ use borrow.Author.Tests.{eq-eqb, ne_eqb}
 use lib.ListN.{length, get_or, take, drop, drop_of_length-le}
 use lib.Seq.{drop-cons, drop-drop}
 use Rattle.ints.specs.Lists.{sum}
+use Rattle.ints.proofs.Lists.{sum-on}
 use Rattle.plan.proofs.CountLaws.{by-same}
 use Rattle.prelim_classes.specs.inner.Links.{chain}
 use Rattle.preliminary.specs.Classes.{classes_on, classes_from}
 use Rattle.prelim_classes.specs.inner.Strands.{StrandsBy}
 use Rattle.prelim_classes.specs.inner.Walks.{cut, classes_after, current_after}
-
--- the part of a list from i up to `to`
-abbrev pub part : List ℕ → ℕ → ℕ → List ℕ
-part xs i to = take (to - i) (drop i xs)
-
-pub part_end : (xs : List ℕ) (i to : ℕ) → to ≤ i → part xs i to ≡ []
-part_end xs i to h = let z : to - i ≡ 0 = omega arith in rw z
-
-pub part-on : (xs : List ℕ) (i to : ℕ) → i < to → to ≤ length xs → part xs i to ≡ get_or xs i 0 ∷ part xs (i + 1) to
-part-on xs i to h k =
-    let m = to - (i + 1) in
-    let e : to - i ≡ suc m = omega arith in
-    rw (e, drop-cons xs i 0 (omega arith)) (ap (λ (n : ℕ). get_or xs i 0 ∷ take m (drop n xs)) (sym (add-one i)))
 
 -- ---- along a level
 pub class-on : (strand : ℕ → List ℕ) (c v : ℕ) (vs classes : List ℕ)
@@ -39,32 +27,29 @@ pub class-none : (strand : ℕ → List ℕ) (c : ℕ) (classes : List ℕ) → 
 unfolding classes_on
 class-none strand c classes = refl
 
-pub record Classing (next top order : List ℕ) (to i current : ℕ) (classes : List ℕ) (i₀ l : ℕ) (classes₀ : List ℕ) : Type 0 where
-  pub each : (strand : ℕ → List ℕ) → StrandsBy strand next top → classes_on strand current (part order i to) classes ≡ classes_on strand l (part order i₀ to) classes₀
+pub record Classing (next top vs : List ℕ) (i current : ℕ) (classes : List ℕ) (l : ℕ) (classes₀ : List ℕ) : Type 0 where
+  pub each : (strand : ℕ → List ℕ) → StrandsBy strand next top → classes_on strand current (drop i vs) classes ≡ classes_on strand l vs classes₀
 
-module _ (next top order : List ℕ) (to i current : ℕ) (classes : List ℕ) (i₀ l : ℕ) (classes₀ : List ℕ) (w : Classing next top order to i current classes i₀ l classes₀) where
-  pub classing-on : (v : ℕ) → v ≡ get_or order i 0 → v < length next → i < to → to ≤ length order → (r : ℕ) (classes' : List ℕ) → r ≡ current_after classes v current
+module _ (next top vs : List ℕ) (i current : ℕ) (classes : List ℕ) (l : ℕ) (classes₀ : List ℕ) (w : Classing next top vs i current classes l classes₀) where
+  pub classing-on : (v : ℕ) → v ≡ get_or vs i 0 → v < length next → i < length vs → (r : ℕ) (classes' : List ℕ) → r ≡ current_after classes v current
       → classes' ≡ classes_after (chain next (get_or top v 0)) classes v current
-      → Classing next top order to (i + 1) r classes' i₀ l classes₀
-  classing-on v e b h k r classes' q g = record {
+      → Classing next top vs (i + 1) r classes' l classes₀
+  classing-on v e b h r classes' q g = record {
     each = λ strand s.
         let at-v : classes' ≡ classes_after (strand v) classes v current = g ∙ ap (λ (x : List ℕ). classes_after x classes v current) (sym (s.each v b)) in
-        rw (q, at-v) (sym (class-on strand current v (part order (i + 1) to) classes)
-        ∙ ap (λ (x : List ℕ). classes_on strand current x classes) (ap (λ (x : ℕ). x ∷ part order (i + 1) to) e ∙ sym (part-on order i to h k))
+        let left : v ∷ drop (i + 1) vs ≡ drop i vs = rw (add-one, e) (sym (drop-cons vs i 0 h)) in
+        rw (q, at-v) (sym (class-on strand current v (drop (i + 1) vs) classes)
+        ∙ ap (λ (x : List ℕ). classes_on strand current x classes) left
         ∙ w.each strand s);
   }
 
-  pub classing-end : to ≤ i → (strand : ℕ → List ℕ) → StrandsBy strand next top → classes ≡ classes_on strand l (part order i₀ to) classes₀
-  classing-end h strand s = sym (ap (λ (x : List ℕ). classes_on strand current x classes) (part_end order i to h) ∙ class-none strand current classes) ∙ w.each strand s
+  pub classing-end : length vs ≤ i → (strand : ℕ → List ℕ) → StrandsBy strand next top → classes ≡ classes_on strand l vs classes₀
+  classing-end h strand s = sym (ap (λ (x : List ℕ). classes_on strand current x classes) (drop_of_length-le vs h) ∙ class-none strand current classes) ∙ w.each strand s
 
 -- ---- over the levels
 pub record Levelling (next top sizes order : List ℕ) (l from : ℕ) (classes classes₀ : List ℕ) : Type 0 where
   pub left : from + sum (drop l sizes) ≡ length order
   pub each : (strand : ℕ → List ℕ) → StrandsBy strand next top → classes_from strand (l + 1) (cut (drop l sizes) (drop from order)) classes ≡ classes_from strand 1 (cut sizes order) classes₀
-
-sum-on : (sizes : List ℕ) (l : ℕ) → l < length sizes → sum (drop l sizes) ≡ get_or sizes l 0 + sum (drop (l + 1) sizes)
-unfolding sum
-sum-on sizes l h = rw (add-one, drop-cons sizes l 0)
 
 cut_on : (sizes order : List ℕ) (l : ℕ) → l < length sizes → cut (drop l sizes) order ≡ take (get_or sizes l 0) order ∷ cut (drop (l + 1) sizes) (drop (get_or sizes l 0) order)
 unfolding cut
@@ -79,15 +64,12 @@ pub classes-none : (strand : ℕ → List ℕ) (l : ℕ) (order classes : List �
 unfolding classes_from cut
 classes-none strand l order classes = refl
 
-pub levelling-start : (next top sizes order classes : List ℕ) → sum sizes ≡ length order → Levelling next top sizes order 0 0 classes classes
-levelling-start next top sizes order classes e = record { left = omega arith; each = λ strand s. refl }
-
 module _ (next top sizes order : List ℕ) (l from : ℕ) (classes classes₀ : List ℕ) (w : Levelling next top sizes order l from classes classes₀) where
   pub level-ends : l < length sizes → from + get_or sizes l 0 ≤ length order
   level-ends h = omega (arith, sum-on sizes l h, w.left)
 
   pub levelling-on : (to : ℕ) → l < length sizes → to ≡ from + get_or sizes l 0 → (classes' : List ℕ)
-      → ((strand : ℕ → List ℕ) → StrandsBy strand next top → classes' ≡ classes_on strand (l + 1) (part order from to) classes)
+      → ((strand : ℕ → List ℕ) → StrandsBy strand next top → classes' ≡ classes_on strand (l + 1) (take (to - from) (drop from order)) classes)
       → Levelling next top sizes order (l + 1) to classes' classes₀
   levelling-on to h e classes' g = record {
     left = omega (arith, sum-on sizes l h, w.left);

@@ -9,7 +9,6 @@ use borrow.Author.Tests.{eq-eqb, ne_eqb}
 use lib.Dec.{eqb}
 use lib.ListN.{length, get_or, set, drop, replicate, drop_of_length-le, get_or-replicate}
 use lib.Seq.{drop-cons, get_or-set_same, get_or-set_other}
-use Rattle.ints.proofs.Laws.{cases}
 use Rattle.plan.specs.Strands.{first_or}
 use Rattle.plan.proofs.CountLaws.{by-same}
 use Rattle.prelim_classes.specs.inner.Strands.{inner_ends}
@@ -51,23 +50,3 @@ pub record TopsTo (prev top : List ℕ) (v : ℕ) : Type 0 where
   pub first : (w : ℕ) → w < v → w ≤ get_or prev w 0 → get_or top w 0 ≡ w
   pub more : (w : ℕ) → w < v → get_or prev w 0 < w → get_or top w 0 ≡ get_or top (get_or prev w 0) 0
   pub rest : (w : ℕ) → v ≤ w → get_or top w 0 ≡ get_or prev w 0
-
-pub tops-on : (prev top : List ℕ) (v t : ℕ) → v < length top → (get_or prev v 0 < v → t ≡ get_or top (get_or prev v 0) 0) → (v ≤ get_or prev v 0 → t ≡ v) → TopsTo prev top v → TopsTo prev (set top v t) (v + 1)
-tops-on prev top v t h f g w = record {
-  first = λ u m n. by-same u v
-      (λ s. rw s (get_or-set_same top v t 0 h ∙ g (rw s at n)))
-      (λ s. get_or-set_other top v u t 0 s ∙ w.first u (less u m s) n);
-  more = λ u m n. by-same u v
-      (λ s. rw s (get_or-set_same top v t 0 h ∙ f (rw s at n) ∙ sym (get_or-set_other top v (get_or prev v 0) t 0 (λ z. lower v (rw s at n) z))))
-      (λ s. get_or-set_other top v u t 0 s ∙ w.more u (less u m s) n ∙ sym (get_or-set_other top v (get_or prev u 0) t 0 (λ z. before u (less u m s) n z)));
-  rest = λ u m. get_or-set_other top v u t 0 (λ z. omega arith) ∙ w.rest u (omega arith);
-}
-  where
-    less : (u : ℕ) → u < v + 1 → (u ≡ v → ⊥) → u < v
-    less u m s = cases v u (λ q. absurd (s (omega arith))) (λ q. q)
-
-    lower : (x : ℕ) → get_or prev v 0 < v → get_or prev v 0 ≡ v → ⊥
-    lower x n z = omega arith
-
-    before : (u : ℕ) → u < v → get_or prev u 0 < u → get_or prev u 0 ≡ v → ⊥
-    before u m n z = omega arith

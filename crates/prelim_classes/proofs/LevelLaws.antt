@@ -15,6 +15,7 @@ use Rattle.ints.proofs.Laws.{cases}
 use Rattle.plan.specs.Plan.{numbers, levels_from, Siblings, pairs_on, siblings_of}
 use Rattle.plan.proofs.Sound.{mem-left, mem-right, mem-numbers}
 use Rattle.ints.specs.Lists.{sum}
+use Rattle.ints.proofs.Lists.{sum-on, sum-end}
 use Rattle.prelim_classes.specs.inner.Walks.{cut}
 use Rattle.prelim_classes.specs.inner.Links.{pairs_by}
 use Rattle.prelim_classes.specs.inner.Arranged.{joined, followers, level_by, levels_by}
@@ -25,9 +26,6 @@ pub record Arranging (reversed : Bool) (sizes order right : List ℕ) (l from : 
   pub left : from + sum (drop l sizes) ≡ length order
   pub orders : take from order ++ joined (levels_by reversed from (drop l sizes)) ≡ joined (levels_by reversed 0 sizes)
   pub rights : take from right ++ joined (map followers (levels_by reversed from (drop l sizes))) ≡ joined (map followers (levels_by reversed 0 sizes))
-
-pub arrange-start : (reversed : Bool) (sizes order right : List ℕ) → sum sizes ≡ length order → Arranging reversed sizes order right 0 0
-arrange-start reversed sizes order right e = record { left = omega arith; orders = refl; rights = refl }
 
 module _ (xs vs : List ℕ) (from : ℕ) (h : from + length vs ≤ length xs) where
   front_long : length (take from xs ++ vs) ≡ from + length vs
@@ -60,17 +58,9 @@ levels-none : (reversed : Bool) (sizes : List ℕ) (l from : ℕ) → length siz
 unfolding levels_by
 levels-none reversed sizes l from h = rw (drop_of_length-le sizes h)
 
-sum_first : (sizes : List ℕ) (l : ℕ) → l < length sizes → sum (drop l sizes) ≡ get_or sizes l 0 + sum (drop (l + 1) sizes)
-unfolding sum
-sum_first sizes l h = rw (add-one, drop-cons sizes l 0)
-
-sum-none : (sizes : List ℕ) (l : ℕ) → length sizes ≤ l → sum (drop l sizes) ≡ 0
-unfolding sum
-sum-none sizes l h = rw (drop_of_length-le sizes h)
-
 module _ (reversed : Bool) (sizes order right : List ℕ) (l from : ℕ) (w : Arranging reversed sizes order right l from) where
   pub arrange-fits : l < length sizes → from + get_or sizes l 0 ≤ length order
-  arrange-fits h = omega (arith, sum_first sizes l h, w.left)
+  arrange-fits h = omega (arith, sum-on sizes l h, w.left)
 
   pub arrange-on : (n : ℕ) → l < length sizes → n ≡ get_or sizes l 0 → length right ≡ length order → (order' right' : List ℕ)
       → order' ≡ sets order from (level_by reversed from n) → right' ≡ sets right from (followers (take (from + n - from) (drop from order')))
@@ -93,7 +83,7 @@ module _ (reversed : Bool) (sizes order right : List ℕ) (l from : ℕ) (w : Ar
       let taken2 : take (from + n) right' ≡ take from right ++ followers lev =
       ap (λ (k : ℕ). take (from + k) right') (sym (fl ∙ long)) ∙ ap (take (from + length (followers lev))) q2 ∙ sets-take right (followers lev) from room2 in
       record {
-        left = omega (arith, sum_first sizes l h, w.left, ap length o ∙ length-sets order from lev);
+        left = omega (arith, sum-on sizes l h, w.left, ap length o ∙ length-sets order from lev);
         orders = ap (λ (x : List ℕ). x ++ joined rest) taken ∙ append_assoc (take from order) lev (joined rest)
             ∙ ap (λ (x : List ℕ). take from order ++ x) (sym (joined-first lev rest)) ∙ ap (λ (x : List (List ℕ)). take from order ++ joined x) (sym first) ∙ w.orders;
         rights = ap (λ (x : List ℕ). x ++ joined (map followers rest)) taken2 ∙ append_assoc (take from right) (followers lev) (joined (map followers rest))
@@ -102,7 +92,7 @@ module _ (reversed : Bool) (sizes order right : List ℕ) (l from : ℕ) (w : Ar
 
   module _ (h : length sizes ≤ l) (r : length right ≡ length order) where
     at-end : from ≡ length order
-    at-end = omega (arith, sum-none sizes l h, w.left)
+    at-end = omega (arith, sum-end sizes l h, w.left)
 
     pub arrange-orders : order ≡ joined (levels_by reversed 0 sizes)
     arrange-orders = sym (take_all from order (omega (arith, at-end))) ∙ sym (append-nil (take from order))

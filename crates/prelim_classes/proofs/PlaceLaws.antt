@@ -182,9 +182,6 @@ module _ (gap : ℕ) (halves next top sibling at : List ℕ) (begun : List Bool)
         go q strand siblings classes k (suc f) l =
             rw (e, k.strands.each v h) (ap (stand (chain next (get_or top v 0))) (g.each q strand siblings classes k f (omega (arith, begin-falls))))
 
-  pub strand-kept-already : StrandKept top at begun at begun
-  strand-kept-already = record { fewer = omega arith; uniform = p.uniform; low = λ m l. l }
-
   pub strand-placed-already : (v : ℕ) → get_or begun v false ≡ true → StrandPlaced gap halves next top sibling v (placing at begun) (placing at begun)
   unfolding place_strand
   strand-placed-already v e = record { each = go }
@@ -195,9 +192,6 @@ module _ (gap : ℕ) (halves next top sibling at : List ℕ) (begun : List Bool)
       go q strand siblings classes k (suc f) l = rw e
 
   -- ---- siblings
-  pub siblings-kept-none : (most : ℕ) → SiblingsKept top at begun most at begun most
-  siblings-kept-none most = record { fewer = omega arith; uniform = p.uniform; low = λ m l k. record { places = l; asked = k } }
-
   pub siblings-placed-none : (w most : ℕ) → length next ≤ w → SiblingsPlaced gap halves next top sibling w most (placing at begun) most (placing at begun)
   unfolding place_strand
   siblings-placed-none w most h = record { each = go }
@@ -242,19 +236,6 @@ module _ (gap : ℕ) (halves next top sibling at : List ℕ) (begun : List Bool)
             let placed : placing at₁ begun₁ ≡ place_strand q strand siblings classes f (get_or sibling w 0) (placing at begun) = s.each q strand siblings classes k f (omega (arith, member-long)) in
             rw (member-more, some_is, ← placed, k.gap_is, k.halves_are) (g.each q strand siblings classes k f (omega (arith, member-long)))
 
-    pub siblings-kept-with : get_or sibling w 0 < length next → (most r : ℕ) (at₁ : List ℕ) (begun₁ : List Bool) (at₂ : List ℕ) (begun₂ : List Bool)
-        → StrandKept top at begun at₁ begun₁
-        → SiblingsKept top at₁ begun₁ (max most (get_or at₁ (get_or sibling w 0) 0 + distance_by gap halves (get_or sibling w 0) w)) at₂ begun₂ r
-        → SiblingsKept top at begun most at₂ begun₂ r
-    siblings-kept-with o most r at₁ begun₁ at₂ begun₂ s g = record {
-      fewer = omega (arith, s.fewer, g.fewer);
-      uniform = g.uniform;
-      low = λ m l k.
-          let l₁ = s.low m l in
-          let q = g.low m l₁ (omega (arith, l₁.each (get_or sibling w 0), near (get_or sibling w 0) w (omega (arith, p.boxes)) (omega (arith, p.boxes)), s.fewer)) in
-          record { places = q.places; asked = q.asked };
-    }
-
 -- ---- all strands
 module _ (gap : ℕ) (halves next top sibling : List ℕ) (q : PlanData) (strand : ℕ → List ℕ) (siblings : List Siblings) (classes : List ℕ) (f : ℕ) where
   pub each_on : (order : List ℕ) (i : ℕ) (s : Placing) → i < length order
@@ -270,9 +251,6 @@ module _ (gap : ℕ) (halves next top sibling : List ℕ) (q : PlanData) (strand
 pub record ToPlace (gap : ℕ) (halves next top sibling order : List ℕ) (i : ℕ) (s t : Placing) : Type 0 where
   pub each : (q : PlanData) (strand : ℕ → List ℕ) (siblings : List Siblings) (classes : List ℕ) → Asks q strand siblings classes gap halves next top sibling
       → (f : ℕ) → 2 * length next ≤ f → place_each q strand siblings classes f (drop i order) t ≡ place_each q strand siblings classes f order s
-
-pub to-place-start : (gap : ℕ) (halves next top sibling order : List ℕ) (s : Placing) → ToPlace gap halves next top sibling order 0 s s
-to-place-start gap halves next top sibling order s = record { each = λ q strand siblings classes k f m. refl }
 
 module _ (gap : ℕ) (halves next top sibling order : List ℕ) (i : ℕ) (s t : Placing) (w : ToPlace gap halves next top sibling order i s t) where
   pub to-place-on : (v : ℕ) (r : Placing) → i < length order → v ≡ get_or order i 0 → length t.begun ≡ length next → StrandPlaced gap halves next top sibling v t r

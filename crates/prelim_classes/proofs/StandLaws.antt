@@ -12,15 +12,10 @@ use Rattle.prelim_classes.specs.inner.Strands.{StrandsBy}
 use Rattle.preliminary.specs.Place.{asked_by}
 use Rattle.prelim_classes.specs.inner.Walks.{unbegun, Placeable, Asks, AllPlaced, SiblingsOf, Classed, Stand}
 
-false-at : (n v : ℕ) → get_or (replicate n false) v false ≡ false
-false-at zero v = refl
-false-at (suc n) zero = refl
-false-at (suc n) (suc v) = false-at n v
-
-zero-at : (n v : ℕ) → get_or {A = ℕ} (replicate {A = ℕ} n 0) v 0 ≡ 0
-zero-at zero v = refl
-zero-at (suc n) zero = refl
-zero-at (suc n) (suc v) = zero-at n v
+same-at : {A : Type 0} (n v : ℕ) (x : A) → get_or (replicate n x) v x ≡ x
+same-at zero v x = refl
+same-at (suc n) zero x = refl
+same-at (suc n) (suc v) x = same-at n v x
 
 unbegun-all : (n : ℕ) → unbegun (replicate n false) ≡ n
 unfolding unbegun
@@ -39,13 +34,13 @@ module _ (gap : ℕ) (halves next top order right classes : List ℕ) (r : Class
         siblings = b;
         places = ap length e ∙ length-replicate n 0;
         marks = ap length f ∙ length-replicate n false;
-        uniform = record { each = λ v h. rw f (false-at n v ∙ sym (false-at n (get_or top v 0))) };
-        low = record { each = λ v. rw (e, f, zero-at n v, unbegun-all n) (omega (arith, r.few)) };
+        uniform = record { each = λ v h. rw f (same-at n v false ∙ sym (same-at n (get_or top v 0) false)) };
+        low = record { each = λ v. rw (e, f, same-at {A = ℕ} n v 0, unbegun-all n) (omega (arith, r.few)) };
       }
 
-  pub stand-is : (sibling sibling' at : List ℕ) (xs : List ℤ) → SiblingsOf order right classes sibling → sibling' ≡ sibling → AllPlaced gap halves next top sibling' order at → xs ≡ map pos at
+  pub stand-is : (sibling at : List ℕ) (xs : List ℤ) → SiblingsOf order right classes sibling → AllPlaced gap halves next top sibling order at → xs ≡ map pos at
       → Stand gap halves next top order right classes xs
-  stand-is sibling sibling' at xs s q a e =
+  stand-is sibling at xs s a e =
       let here : (v : ℕ) → get_or xs v (pos 0) ≡ pos (get_or at v 0) = λ v. ap (λ (l : List ℤ). get_or l v (pos 0)) e ∙ get_or-map pos at v 0 in
       record {
         least = λ v. rw (here v) refl;
@@ -53,8 +48,8 @@ module _ (gap : ℕ) (halves next top order right classes : List ℕ) (r : Class
         each = λ p strand g h t. e ∙ ap (map pos) (a.each p strand (pairs_by (length next) order right) classes (asks p strand g h t));
       }
     where
-      asked_is : (v : ℕ) → v < length next → asked_by (pairs_by (length next) order right) classes v ≡ or_none (length next) (get_or sibling' v 0)
-      asked_is v h = rw q (rw r.numbers at (s.each v (omega (arith, r.numbers))))
+      asked_is : (v : ℕ) → v < length next → asked_by (pairs_by (length next) order right) classes v ≡ or_none (length next) (get_or sibling v 0)
+      asked_is v h = rw r.numbers at (s.each v (omega (arith, r.numbers)))
 
-      asks : (p : PlanData) (strand : ℕ → List ℕ) → p.gap ≡ gap → p.halves ≡ halves → StrandsBy strand next top → Asks p strand (pairs_by (length next) order right) classes gap halves next top sibling'
+      asks : (p : PlanData) (strand : ℕ → List ℕ) → p.gap ≡ gap → p.halves ≡ halves → StrandsBy strand next top → Asks p strand (pairs_by (length next) order right) classes gap halves next top sibling
       asks p strand g h t = record { gap_is = g; halves_are = h; strands = t; asked = asked_is }

@@ -1,6 +1,6 @@
 -- Strands as chains: where each via is linked to the one below it and to the one above it, following the links down from the
 -- topmost vertex gives the strand, each vertex is in its own, and its members have one topmost vertex. Assumes nothing.
-use Prim.Native.Nat.{ℕ, zero, suc, ◌+◌, ◌-◌, ◌<◌, ◌≤◌}
+use Prim.Native.Nat.{ℕ, zero, suc, ◌+◌, ◌<◌, ◌≤◌}
 use mathlib.Core.Path.{◌≡◌, refl, sym, ◌∙◌, ap}
 use mathlib.Core.Bool.{true}
 use mathlib.Core.List.{List, []}

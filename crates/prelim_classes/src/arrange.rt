@@ -6,7 +6,6 @@ ghost use Rattle.plan.specs.Limits.{max_vertices};
 ghost use Rattle.prelim_classes.specs.inner.Arranged.{joined, followers, level_by, levels_by, vertex_by};
 
 use crate::links::NONE;
-use ints::wide;
 
 // The j-th vertex of a level of n vertices from v on.
 fn vertex_at(reversed: bool, v: usize, n: usize, j: usize) -> usize
@@ -21,10 +20,8 @@ fn write_order(reversed: bool, v: usize, n: usize, order: &mut [u16])
     requires { (v + n ≤ length order.old) × (length order.old ≤ max_vertices) }
     ensures { order.new ≡ sets order.old v (level_by reversed v n) }
 {
-    let mut j: usize = 0;
-    while j < n {
+    for j in 0..n {
         order[v + j] = vertex_at(reversed, v, n, j) as u16;
-        j += 1;
     }
 }
 
@@ -41,10 +38,8 @@ fn write_right(from: usize, to: usize, order: &[u16], right: &mut [u16])
     requires { (from ≤ to) × (to ≤ length order.now) × (length right.old ≡ length order.now) }
     ensures { right.new ≡ sets right.old from (followers (take (to - from) (drop from order.now))) }
 {
-    let mut i = from;
-    while i < to {
+    for i in from..to {
         right[i] = right_at(i, to, order);
-        i += 1;
     }
 }
 
@@ -53,13 +48,11 @@ pub fn arrange(reversed: bool, sizes: &[u16], order: &mut [u16], right: &mut [u1
     requires { (sum sizes.now ≡ length order.old) × (length order.old ≤ max_vertices) × (length right.old ≡ length order.old) }
     ensures { (order.new ≡ joined (levels_by reversed 0 sizes.now)) × (right.new ≡ joined (map followers (levels_by reversed 0 sizes.now))) }
 {
-    let mut from: usize = 0;
-    let mut l: usize = 0;
-    while l < sizes.len() {
-        let n = wide(sizes[l]);
+    let mut from = 0;
+    for size in sizes {
+        let n = usize::from(*size);
         write_order(reversed, from, n, order);
         write_right(from, from + n, order, right);
-        from = from + n;
-        l += 1;
+        from += n;
     }
 }

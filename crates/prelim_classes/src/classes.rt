@@ -9,7 +9,6 @@ ghost use Rattle.prelim_classes.specs.inner.Strands.{StrandsBy};
 ghost use Rattle.prelim_classes.specs.inner.Walks.{Classable, cut, classes_after, current_after};
 
 use crate::walk::give;
-use ints::wide;
 
 // Classes vertex v, `current` being the current number, and gives the number current after it.
 fn class_vertex(v: usize, current: u32, next: &[u16], top: &[u16], classes: &mut [u32]) -> u32
@@ -18,7 +17,7 @@ fn class_vertex(v: usize, current: u32, next: &[u16], top: &[u16], classes: &mut
     ensures classes_after { classes.new ≡ classes_after (chain next.now (get_or top.now v 0)) classes.old v current }
 {
     if classes[v] == 0 {
-        give(current, wide(top[v]), next, classes);
+        give(current, usize::from(top[v]), next, classes);
         return current;
     }
     classes[v]
@@ -40,10 +39,8 @@ fn class_level(
         → classes.new ≡ spec.classes_on strand l (take (to - from) (drop from order.now)) classes.old }
 {
     let mut current = l;
-    let mut i = from;
-    while i < to {
-        current = class_vertex(wide(order[i]), current, next, top, classes);
-        i += 1;
+    for v in &order[from..to] {
+        current = class_vertex(usize::from(*v), current, next, top, classes);
     }
 }
 
@@ -54,12 +51,10 @@ pub fn class(sizes: &[u16], order: &[u16], next: &[u16], top: &[u16], classes: &
     ensures { (strand : ℕ → List ℕ) → StrandsBy strand next.now top.now
         → classes.new ≡ spec.classes_from strand 1 (cut sizes.now order.now) classes.old }
 {
-    let mut from: usize = 0;
-    let mut l: usize = 0;
-    while l < sizes.len() {
-        let to = from + wide(sizes[l]);
+    let mut from = 0;
+    for (l, size) in sizes.iter().enumerate() {
+        let to = from + usize::from(*size);
         class_level((l + 1) as u32, from, to, order, next, top, classes);
         from = to;
-        l += 1;
     }
 }

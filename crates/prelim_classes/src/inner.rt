@@ -4,21 +4,14 @@ ghost use Rattle.plan.specs.Limits.{max_vertices};
 ghost use Rattle.plan.specs.inner.Graph.{Within};
 ghost use Rattle.prelim_classes.specs.inner.Strands.{InnerLinks, Tops, StrandLists};
 
-use crate::links::index;
-use ints::wide;
-
 // Links a to b, if both are vias.
 fn link_inner(a: usize, b: usize, vias: &[bool], link: &mut [u16])
     requires { (a < length vias.now) × (b < length vias.now) × (length vias.now ≤ max_vertices) × (length link.old ≡ length vias.now) }
     ensures { link.new ≡ cond (get_or vias.now a false && get_or vias.now b false) (set link.old a b) link.old }
 {
-    if !vias[a] {
-        return;
+    if vias[a] && vias[b] {
+        link[a] = b as u16;
     }
-    if !vias[b] {
-        return;
-    }
-    link[a] = b as u16;
 }
 
 // Links each via to the via at the other end of its inner segment, from one list of ends to the other.
@@ -26,10 +19,8 @@ pub fn link_vias(vias: &[bool], from: &[u32], to: &[u32], link: &mut [u16])
     requires { Within vias.now from.now to.now × (link.old ≡ replicate (length vias.now) 2048) }
     ensures { InnerLinks vias.now from.now to.now link.new }
 {
-    let mut i = from.len();
-    while i > 0 {
-        i -= 1;
-        link_inner(index(from[i]), index(to[i]), vias, link);
+    for i in (0..from.len()).rev() {
+        link_inner(from[i] as usize, to[i] as usize, vias, link);
     }
 }
 
@@ -39,7 +30,7 @@ fn top_of(v: usize, top: &[u16]) -> u16
     ensures value { get_or top.now v 0 < v → result ≡ get_or top.now (get_or top.now v 0) 0 }
     ensures value_2 { v ≤ get_or top.now v 0 → result ≡ v }
 {
-    let u = wide(top[v]);
+    let u = usize::from(top[v]);
     if u < v { top[u] } else { v as u16 }
 }
 
@@ -48,11 +39,8 @@ pub fn tops(top: &mut [u16])
     requires { length top.old ≤ max_vertices }
     ensures { Tops top.old top.new }
 {
-    let mut v: usize = 0;
-    while v < top.len() {
-        let t = top_of(v, top);
-        top[v] = t;
-        v += 1;
+    for v in 0..top.len() {
+        top[v] = top_of(v, top);
     }
 }
 

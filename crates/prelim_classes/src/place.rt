@@ -1,17 +1,10 @@
 // Placing strands: "To place a strand, first place its left siblings of the same class; to place a sibling, place its strand."
-ghost use Rattle.std.specs.Prelude.{◌≡◌, false, ◌<◌, max, length, replicate};
+ghost use Rattle.std.specs.Prelude.{◌≡◌, false, ◌<◌, length, replicate};
 ghost use Rattle.plan.specs.inner.Graph.{Below};
 ghost use Rattle.prelim_classes.specs.inner.Walks.{Placeable, placing, StrandKept, StrandPlaced, SiblingsKept, SiblingsPlaced, AllPlaced};
 
 use crate::walk::{give, mark};
-use ints::wide;
 use plan::distances::distance;
-
-fn greater(a: u32, b: u32) -> u32
-    ensures { result ≡ max a b }
-{
-    if a < b { b } else { a }
-}
 
 // Places the strand of v, unless its placing has begun.
 #[cycle(place_siblings_place_strand)]
@@ -34,7 +27,7 @@ fn place_strand(
     if begun[v] {
         return;
     }
-    let first = wide(top[v]);
+    let first = usize::from(top[v]);
     mark(first, next, begun);
     let most = place_siblings(first, 0, gap, halves, next, top, sibling, at, begun);
     give(most, first, next, at);
@@ -61,13 +54,13 @@ fn place_siblings(
     if w >= next.len() {
         return most;
     }
-    let u = wide(sibling[w]);
-    let below = wide(next[w]);
+    let u = usize::from(sibling[w]);
+    let below = usize::from(next[w]);
     if u >= next.len() {
         return place_siblings(below, most, gap, halves, next, top, sibling, at, begun);
     }
     place_strand(u, gap, halves, next, top, sibling, at, begun);
-    let asked = greater(most, at[u] + distance(gap, u, w, halves));
+    let asked = most.max(at[u] + distance(gap, u, w, halves));
     place_siblings(below, asked, gap, halves, next, top, sibling, at, begun)
 }
 
@@ -87,9 +80,7 @@ pub fn place(
     requires at_value { (at.old ≡ replicate (length next.now) 0) × (begun.old ≡ replicate (length next.now) false) }
     ensures { AllPlaced gap halves.now next.now top.now sibling.now order.now at.new }
 {
-    let mut i: usize = 0;
-    while i < order.len() {
-        place_strand(wide(order[i]), gap, halves, next, top, sibling, at, begun);
-        i += 1;
+    for v in order {
+        place_strand(usize::from(*v), gap, halves, next, top, sibling, at, begun);
     }
 }

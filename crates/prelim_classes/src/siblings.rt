@@ -5,14 +5,13 @@ ghost use Rattle.plan.specs.inner.Graph.{Below};
 ghost use Rattle.prelim_classes.specs.inner.Walks.{SiblingsOf, same_class};
 
 use crate::links::NONE;
-use ints::wide;
 
 // The left sibling u of v, NONE if it is of another class.
 fn same_class(u: u16, v: usize, classes: &[u32]) -> u16
     requires { (u < length classes.now) × (v < length classes.now) }
     ensures { result ≡ same_class u v classes.now }
 {
-    if classes[wide(u)] == classes[v] {
+    if classes[usize::from(u)] == classes[v] {
         u
     } else {
         NONE
@@ -35,9 +34,7 @@ pub fn siblings(order: &[u16], right: &[u16], classes: &[u32], sibling: &mut [u1
     requires classes_len_bound { (length classes.now ≤ max_vertices) × (sibling.old ≡ replicate (length classes.now) 2048) }
     ensures { SiblingsOf order.now right.now classes.now sibling.new }
 {
-    let mut i = order.len();
-    while i > 0 {
-        i -= 1;
-        write_sibling(order[i], wide(right[i]), classes, sibling);
+    for i in (0..order.len()).rev() {
+        write_sibling(order[i], usize::from(right[i]), classes, sibling);
     }
 }

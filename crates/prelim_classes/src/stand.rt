@@ -7,22 +7,13 @@ use crate::place::place;
 use crate::siblings::siblings;
 use plan::data::Plan;
 
-fn place_of(x: u32) -> i64
-    ensures { result ≡ pos x }
-{
-    x as i64
-}
-
 // Places as signed numbers.
 fn widen(at: &[u32], xs: &mut [i64])
     requires { length xs.old ≡ length at.now }
     ensures { xs.new ≡ map pos at.now }
 {
-    let mut v: usize = 0;
-    while v < at.len() {
-        let x = place_of(at[v]);
-        xs[v] = x;
-        v += 1;
+    for (v, x) in xs.iter_mut().enumerate() {
+        *x = i64::from(at[v]);
     }
 }
 
@@ -42,18 +33,12 @@ pub fn stand(
 {
     let n = next.len();
     let mut sibling = [NONE; Plan::MAX_VERTICES];
-    siblings(order, right, classes, &mut sibling[..n]);
+    let sibling = &mut sibling[..n];
+    siblings(order, right, classes, sibling);
     let mut at = [0u32; Plan::MAX_VERTICES];
+    let at = &mut at[..n];
     let mut begun = [false; Plan::MAX_VERTICES];
-    place(
-        gap,
-        halves,
-        next,
-        top,
-        &sibling[..n],
-        order,
-        &mut at[..n],
-        &mut begun[..n],
-    );
-    widen(&at[..n], xs);
+    let begun = &mut begun[..n];
+    place(gap, halves, next, top, sibling, order, at, begun);
+    widen(at, xs);
 }

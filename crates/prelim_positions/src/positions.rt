@@ -1,35 +1,23 @@
 // Preliminary positions: x₋ and, from the reversed levels, x₊; then their sum.
-ghost use Rattle.std.specs.Prelude.{◌≡◌, map, ◌+◌, ◌<◌, ◌^◌, length, neg_ℤ, ◌+ℤ◌};
-ghost use Rattle.ints.specs.Ints.{size, SizedTo};
+ghost use Rattle.std.specs.Prelude.{◌≡◌, map, length, neg_ℤ};
+ghost use Rattle.ints.specs.Ints.{SizedTo};
 ghost use Rattle.plan.specs.Plan.{PlanData};
 ghost use Rattle.plan.specs.inner.Held.{HoldsPlan, SomePlan};
 ghost use Rattle.preliminary.specs.Positions as spec;
 ghost use Rattle.prelim_positions.specs.inner.Sides.{Room};
 
 use crate::side::side;
-use ints::difference;
 use plan::data::Plan;
 use prelim_classes::inner::strands;
 use prelim_classes::links::NONE;
 
-// x₋ and x₊ together, y being the position by the reversed levels: x₊ is its negation.
-fn both(x: i64, y: i64) -> i64
-    requires { size x + size y < 2 ^ 63 }
-    ensures { result ≡ x +ℤ neg_ℤ y }
-{
-    difference(x, y)
-}
-
-// Adds the other list negated.
+// x₋ and x₊ together, `ys` being the positions by the reversed levels: x₊ is their negation.
 fn subtract(xs: &mut [i64], ys: &[i64])
     requires { (length xs.old ≡ length ys.now) × SizedTo 33312000 xs.old × SizedTo 33312000 ys.now }
     ensures { xs.new ≡ spec.sums xs.old (map neg_ℤ ys.now) }
 {
-    let mut i: usize = 0;
-    while i < xs.len() {
-        let x = both(xs[i], ys[i]);
-        xs[i] = x;
-        i += 1;
+    for (i, x) in xs.iter_mut().enumerate() {
+        *x -= ys[i];
     }
 }
 

@@ -6,13 +6,12 @@ use mathlib.Core.List.{List, [], ◌∷◌}
 use native.Mathlib.Omega.{arith}
 use borrow.Author.Tests.{eq-eqb, ne_eqb}
 use lib.Dec.{ltb, eqb}
-use lib.ListN.{length, get_or, set, take, replicate, length-replicate, get_or-replicate}
-use lib.Seq.{length-take-le, get_or-take}
+use lib.ListN.{length, get_or, set, replicate, length-replicate, get_or-replicate}
 use Rattle.ints.proofs.Laws.{if-ind}
 use Rattle.plan.proofs.CountLaws.{by-same}
-use Rattle.prelim_classes.specs.inner.Links.{chain, among, positions, Bucketed}
+use Rattle.prelim_classes.specs.inner.Links.{among, positions, Bucketed}
 use Rattle.prelim_classes.proofs.ChainLaws.{among-more, among_none, never, Linking, linking-start, linking-next, linking-end}
-use Rattle.prelim_shifts.specs.inner.Shifts.{gap_key, offset_key, keys_by, Linked}
+use Rattle.prelim_shifts.specs.inner.Shifts.{gap_key, offset_key, keys_by}
 
 -- ---- keys as a list
 pub keys_long : (key : ℕ → ℕ → ℕ) (vs ws : List ℕ) → length ws ≡ length vs → length (keys_by key vs ws) ≡ length vs
@@ -73,19 +72,3 @@ offset-key-small m classes h a b = if-ind (ltb (get_or classes b 0) (get_or clas
 
 pub heads-none : (head : List ℕ) → head ≡ replicate 65 2048 → (c : ℕ) → c < length head → get_or head c 0 ≡ 2048
 heads-none head e c h = ap (λ (l : List ℕ). get_or l c 0) e ∙ get_or-replicate {A = ℕ} 65 c 2048 0 (omega (arith, ap length e, length-replicate {A = ℕ} 65 2048))
-
-pub linked-by : (order right uppers lowers classes pair_head pair_link segment_head segment_link member_head member_link pairs segments members : List ℕ)
-    → Bucketed (keys_by (gap_key classes) order right) pair_head pair_link → Bucketed (keys_by (offset_key classes) uppers lowers) segment_head segment_link → Bucketed classes member_head member_link
-    → length pair_head ≡ 65 → length segment_head ≡ 65 → length member_head ≡ 65 → pairs ≡ pair_link → segments ≡ segment_link → members ≡ member_link → (levels : ℕ) → levels ≤ 64
-    → Linked order right uppers lowers classes (take (levels + 1) pair_head) pairs segment_head segments member_head members
-linked-by order right uppers lowers classes pair_head pair_link segment_head segment_link member_head member_link pairs segments members a b c d e f g h i levels m =
-    let n = length-take-le (levels + 1) pair_head (omega arith) in
-    record {
-      pairs = rw g (record { long = a.long; rising = a.rising; each = λ v k. ap (chain pair_link) (get_or-take (levels + 1) pair_head v 0 (omega arith)) ∙ a.each v (omega arith) });
-      heads = omega arith;
-      pair_heads = omega arith;
-      segments = rw h b;
-      segment_heads = e;
-      members = rw i c;
-      member_heads = f;
-    }

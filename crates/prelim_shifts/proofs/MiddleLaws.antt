@@ -1,19 +1,18 @@
 -- Laws of the least and of the ⌈s/2⌉-th smallest of a list. A number m stands at place k of the sorted list if at most k are
 -- below it and more than k do not exceed it. Assumes nothing.
 use Prim.Native.Nat.{ℕ, zero, suc, ◌+◌, ◌-◌, ◌/◌, ◌<◌, ◌≤◌}
-use mathlib.Core.Path.{◌≡◌, refl, ◌∙◌, ap}
-use mathlib.Core.Bool.{true, false, cond}
+use mathlib.Core.Path.{◌≡◌, refl, sym, ◌∙◌, ap}
+use mathlib.Core.Bool.{cond}
 use mathlib.Core.List.{List, [], ◌∷◌}
 use native.Mathlib.Omega.{arith}
-use native.Mathlib.Numerals.{add-one}
-use lib.ListN.{length, get_or, drop, drop_of_length-le}
-use lib.Seq.{drop-cons}
+use lib.ListN.{length, get_or}
 use lib.IntN.{ℤ, pos, ◌+ℤ◌}
 use lib.Signed.{le_z, lt_z}
+use Rattle.std.proofs.Common.{EachIndex, count_by}
+use Rattle.std.proofs.lemmas.List.Recursion.{is_count_by}
 use Rattle.ints.specs.Ints.{P, N, size, ◌⊑◌, min_z, gap, SizedTo}
 use Rattle.ints.proofs.Reach.{sized-tail}
-use Rattle.ints.proofs.Laws.{ints, cases, cases_z, if-ind, sum, gap-ge, gap-l, gap-r, least, make-le-true, make-le-false, make-lt-true, make-lt-false, eq-make}
-use Rattle.plan.proofs.CountLaws.{by-same}
+use Rattle.ints.proofs.Laws.{ints, cases_z, if-ind, sum, gap-ge, gap-l, gap-r, least, make-le-true, make-le-false, make-lt-true, make-lt-false, eq-make}
 use Rattle.preliminary.specs.Shift.{insert, sort, middle, least_of, least_or}
 use Rattle.prelim_shifts.specs.inner.Counts.{count_to, NoneAbove}
 
@@ -207,40 +206,25 @@ below_next z y (x ∷ xs) h = let i = below_next z y xs h in cases_z y x
     (λ a. cases_z x z (λ b. omega (arith, below_out y x xs a, to_in z x xs b)) (λ b. omega (arith, below_out y x xs a, to_out z x xs b)))
     (λ a. omega (arith, below_in y x xs a, to_in z x xs (omega arith)))
 
--- ---- counting, one by one
-module _ (z : ℤ) (xs : List ℤ) (i : ℕ) (h : i < length xs) where
-  pub to-on-in : le_z (get_or xs i (pos 0)) z ≡ true → count_to z (drop i xs) ≡ suc (count_to z (drop (i + 1) xs))
-  to-on-in e = rw (add-one, drop-cons xs i (pos 0) h) (to_in z (get_or xs i (pos 0)) (drop (suc i) xs) (omega (arith, ints)))
+-- ---- the least is none above it that bounds them all from below
+low-of : (z x : ℤ) (xs : List ℤ) → z ⊑ x → EachIndex xs (λ k. z ⊑ get_or xs k (pos 0)) → z ⊑ least_of x xs
+unfolding least_of
+low-of z x [] h k = h
+low-of z x (y ∷ ys) h k = low-of z (min_z x y) ys (if-ind (lt_z y x) y x (λ w. z ⊑ w) (λ t. k 0 (omega arith)) (λ t. h)) (λ i j. k (suc i) (omega arith))
 
-  pub to-on-out : le_z (get_or xs i (pos 0)) z ≡ false → count_to z (drop i xs) ≡ count_to z (drop (i + 1) xs)
-  to-on-out e = rw (add-one, drop-cons xs i (pos 0) h) (to_out z (get_or xs i (pos 0)) (drop (suc i) xs) (omega (arith, ints)))
+at-each : (y : ℤ) (xs : List ℤ) → AtLeast y xs → EachIndex xs (λ k. y ⊑ get_or xs k (pos 0))
+at-each y [] none i h = absurd (omega arith)
+at-each y (x ∷ xs) (one e a) zero h = omega arith
+at-each y (x ∷ xs) (one e a) (suc i) h = at-each y xs a i (omega arith)
 
-pub to_end : (z : ℤ) (xs : List ℤ) (i : ℕ) → length xs ≤ i → count_to z (drop i xs) ≡ 0
-to_end z xs i h = rw (drop_of_length-le xs h) (to_none z)
+pub least-is : (other m : ℤ) (xs : List ℤ) → 0 < length xs → EachIndex xs (λ k. m ⊑ get_or xs k (pos 0)) → ((y : ℤ) → EachIndex xs (λ k. y ⊑ get_or xs k (pos 0)) → y ⊑ m) → m ≡ least_or other xs
+least-is other m [] h a b = absurd (omega arith)
+least-is other m (x ∷ xs) h a b =
+    let low = low-of m x xs (a 0 (omega arith)) (λ i j. a (suc i) (omega arith)) in
+    let up = b (least_of x xs) (at-each (least_of x xs) (x ∷ xs) (least-at-least x xs)) in
+    eq-make m (least_of x xs) (omega arith)
 
--- ---- the least, one by one
-module _ (xs : List ℤ) (i : ℕ) (x : ℤ) where
-  pub least_on : i < length xs → least_of x (drop i xs) ≡ least_of (min_z x (get_or xs i (pos 0))) (drop (i + 1) xs)
-  unfolding least_of
-  least_on h = rw (add-one, drop-cons xs i (pos 0) h)
-
-  pub least-end : length xs ≤ i → least_of x (drop i xs) ≡ x
-  unfolding least_of
-  least-end h = rw (drop_of_length-le xs h)
-
-pub least_start : (other : ℤ) (xs : List ℤ) → 0 < length xs → least_or other xs ≡ least_of (get_or xs 0 (pos 0)) (drop 1 xs)
-least_start other [] h = absurd (omega arith)
-least_start other (x ∷ xs) h = refl
-
--- ---- the greatest, one by one
-pub record AboveTo (xs : List ℤ) (i : ℕ) (z : ℤ) : Type 0 where
-  pub each : (j : ℕ) → j < i → get_or xs j (pos 0) ⊑ z
-
-pub above-start : (xs : List ℤ) → AboveTo xs 1 (get_or xs 0 (pos 0))
-above-start xs = record { each = λ j h. let z : j ≡ 0 = omega arith in rw z (omega arith) }
-
-pub above_on : (xs : List ℤ) (i : ℕ) (z y : ℤ) → AboveTo xs i z → z ⊑ y → get_or xs i (pos 0) ⊑ y → AboveTo xs (i + 1) y
-above_on xs i z y a h k = record { each = λ j m. by-same j i (λ s. rw s k) (λ s. omega (arith, a.each j (below_other s m))) }
-  where
-    below_other : {j : ℕ} → (j ≡ i → ⊥) → j < i + 1 → j < i
-    below_other {j} s m = cases i j (λ q. absurd (s (omega arith))) (λ q. q)
+-- ---- how many do not exceed z, in std's word
+pub counted : (z : ℤ) (xs : List ℤ) → count_by (λ x. le_z x z) xs ≡ count_to z xs
+unfolding count_to
+counted z xs = sym (is_count_by (count_to z) (λ x. le_z x z) refl (λ x ys. let e : 1 + count_to z ys ≡ suc (count_to z ys) = omega arith in rw e refl) xs)

@@ -129,10 +129,6 @@ module _ (classes : List ℕ) (xs : List ℤ) (c : ℕ) (some : 0 < c) where
 pub over-take : (l o b : List ℤ) (n : ℕ) → b ≡ over l o → n ≡ length l → take n b ≡ l
 over-take l o b n e h = rw (e, h) (take-append_seam l (drop (length l) o))
 
-pub least-none : (other : ℤ) (l : List ℤ) → length l ≡ 0 → least_or other l ≡ other
-least-none other [] e = refl
-least-none other (x ∷ l) e = absurd (omega arith)
-
 pub offset-sized : (c : ℕ) (classes : List ℕ) (xs : List ℤ) (a b : ℕ) → SizedTo 134217728 xs → size (offset c classes xs a b) ≤ 268435456
 offset-sized c classes xs a b s =
     let x = get_or xs a (pos 0) in
@@ -211,9 +207,6 @@ unfolding shift_each numbers
 shift_none p siblings classes c n xs e = rw e
 
 module _ (gap : ℕ) (halves order right uppers lowers classes : List ℕ) (levels : ℕ) where
-  pub shifting-start : (xs : List ℤ) → Shifting gap halves order right uppers lowers classes levels 1 xs xs
-  shifting-start xs = record { each = λ p siblings b. ap (λ (n : ℕ). shift_each p siblings classes (numbers 1 n) xs) (omega arith) }
-
   module _ (c : ℕ) (xs xs₀ : List ℤ) (w : Shifting gap halves order right uppers lowers classes levels c xs xs₀) where
     pub shifting-on : c ≤ levels → (d : ℤ) (xs' : List ℤ)
         → ((p : PlanData) (siblings : List Siblings) → ShiftsBy p siblings gap halves order right uppers lowers classes → d ≡ shift_of p siblings classes c xs)

@@ -8,16 +8,13 @@ ghost use Rattle.plan.specs.inner.Graph.{Below};
 ghost use Rattle.prelim_classes.specs.inner.Links.{Rising, chain};
 ghost use Rattle.prelim_shifts.specs.inner.Shifts as lists;
 
-use ints::{difference, minus, wide};
-use prelim_classes::links::index;
-
 // (sibling − member − distance), of a member v and its right sibling w.
 fn slack(gap: u32, v: usize, w: usize, halves: &[u16], xs: &[i64]) -> i64
     requires { (gap ≤ max_gap) × (length halves.now ≡ length xs.now) × (v < length xs.now) × (w < length xs.now) × SizedTo 134217728 xs.now }
     ensures { result ≡ lists.slack gap halves.now xs.now v w }
 {
-    let apart = wide(halves[v]) + gap as usize + wide(halves[w]);
-    minus(difference(xs[w], xs[v]), apart as u64)
+    let apart = u32::from(halves[v]) + gap + u32::from(halves[w]);
+    xs[w] - xs[v] - i64::from(apart)
 }
 
 // Collects them along a chain of places in `order` and `right`. Gives how many there are.
@@ -40,10 +37,15 @@ pub fn slacks(
     let mut s: usize = 0;
     let mut i = first;
     while i < link.len() {
-        let x = slack(gap, wide(order[i]), wide(right[i]), halves, xs);
-        out[s] = x;
+        out[s] = slack(
+            gap,
+            usize::from(order[i]),
+            usize::from(right[i]),
+            halves,
+            xs,
+        );
         s += 1;
-        i = wide(link[i]);
+        i = usize::from(link[i]);
     }
     s
 }
@@ -54,9 +56,10 @@ fn offset(c: u32, a: usize, b: usize, classes: &[u32], xs: &[i64]) -> i64
     ensures { result ≡ lists.offset c classes.now xs.now a b }
 {
     if classes[a] == c {
-        return difference(xs[b], xs[a]);
+        xs[b] - xs[a]
+    } else {
+        xs[a] - xs[b]
     }
-    difference(xs[a], xs[b])
 }
 
 // Collects them along a chain of segments. Gives how many there are.
@@ -78,10 +81,9 @@ pub fn offsets(
     let mut s: usize = 0;
     let mut i = first;
     while i < link.len() {
-        let x = offset(c, index(uppers[i]), index(lowers[i]), classes, xs);
-        out[s] = x;
+        out[s] = offset(c, uppers[i] as usize, lowers[i] as usize, classes, xs);
         s += 1;
-        i = wide(link[i]);
+        i = usize::from(link[i]);
     }
     s
 }

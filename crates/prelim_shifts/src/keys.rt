@@ -5,21 +5,18 @@ ghost use Rattle.plan.specs.inner.Graph.{Below};
 ghost use Rattle.prelim_classes.specs.inner.Links.{Bucketed};
 ghost use Rattle.prelim_shifts.specs.inner.Shifts.{gap_key, offset_key, keys_by, AtMost};
 
-use ints::wide;
-use prelim_classes::links::{index, put_first};
+use prelim_classes::links::put_first;
 
 // The class for whose shift v counts by its right sibling w, 0 if for none.
 fn gap_key(v: usize, w: usize, classes: &[u32]) -> u32
     requires { v < length classes.now }
     ensures { result ≡ gap_key classes.now v w }
 {
-    if w >= classes.len() {
-        return 0;
+    if w < classes.len() && classes[w] != classes[v] {
+        classes[v]
+    } else {
+        0
     }
-    if classes[w] == classes[v] {
-        return 0;
-    }
-    classes[v]
 }
 
 // The places of the pairs that count for each class, as chains.
@@ -28,11 +25,9 @@ pub fn link_pairs(order: &[u16], right: &[u16], classes: &[u32], head: &mut [u16
     requires below { Below (length classes.now) order.now × AtMost max_levels classes.now × (length link.old ≡ length classes.now) × (head.old ≡ replicate 65 2048) }
     ensures { Bucketed (keys_by (gap_key classes.now) order.now right.now) head.new link.new }
 {
-    let mut i = order.len();
-    while i > 0 {
-        i -= 1;
-        let k = gap_key(wide(order[i]), wide(right[i]), classes);
-        put_first(index(k), i, head, link);
+    for i in (0..order.len()).rev() {
+        let k = gap_key(usize::from(order[i]), usize::from(right[i]), classes);
+        put_first(k as usize, i, head, link);
     }
 }
 
@@ -41,13 +36,11 @@ fn offset_key(a: usize, b: usize, classes: &[u32]) -> u32
     requires { (a < length classes.now) × (b < length classes.now) }
     ensures { result ≡ offset_key classes.now a b }
 {
-    if classes[b] < classes[a] {
-        return classes[a];
+    if classes[a] == classes[b] {
+        0
+    } else {
+        classes[a].max(classes[b])
     }
-    if classes[a] < classes[b] {
-        return classes[b];
-    }
-    0
 }
 
 // The places of the segments that count for each class, as chains.
@@ -62,10 +55,8 @@ pub fn link_segments(
     requires at_most { AtMost max_levels classes.now × (length link.old ≡ length uppers.now) × (head.old ≡ replicate 65 2048) }
     ensures { Bucketed (keys_by (offset_key classes.now) uppers.now lowers.now) head.new link.new }
 {
-    let mut i = uppers.len();
-    while i > 0 {
-        i -= 1;
-        let k = offset_key(index(uppers[i]), index(lowers[i]), classes);
-        put_first(index(k), i, head, link);
+    for i in (0..uppers.len()).rev() {
+        let k = offset_key(uppers[i] as usize, lowers[i] as usize, classes);
+        put_first(k as usize, i, head, link);
     }
 }

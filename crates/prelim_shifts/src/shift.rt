@@ -10,7 +10,6 @@ ghost use Rattle.prelim_shifts.specs.inner.Shifts as lists;
 use crate::collect::{offsets, slacks};
 use crate::keys::{link_pairs, link_segments};
 use crate::middle::{least, middle};
-use ints::{sum, wide};
 use plan::data::Plan;
 use prelim_classes::links::{NONE, bucket};
 
@@ -24,9 +23,8 @@ fn move_all(d: i64, first: usize, link: &[u16], xs: &mut [i64])
 {
     let mut v = first;
     while v < link.len() {
-        let x = sum(xs[v], d);
-        xs[v] = x;
-        v = wide(link[v]);
+        xs[v] += d;
+        v = usize::from(link[v]);
     }
 }
 
@@ -98,17 +96,16 @@ fn shift_each(
         uppers.now lowers.now classes.now xs.old xs.new }
 {
     let mut buffer = [0i64; Plan::MAX_SEGMENTS];
-    let mut c: usize = 1;
-    while c < pair_head.len() {
+    for c in 1..pair_head.len() {
         let d = shift_of(
             c as u32,
             gap,
-            wide(pair_head[c]),
+            usize::from(pair_head[c]),
             pair_link,
             order,
             right,
             halves,
-            wide(segment_head[c]),
+            usize::from(segment_head[c]),
             segment_link,
             uppers,
             lowers,
@@ -116,8 +113,7 @@ fn shift_each(
             xs,
             &mut buffer,
         );
-        move_all(d, wide(member_head[c]), member_link, xs);
-        c += 1;
+        move_all(d, usize::from(member_head[c]), member_link, xs);
     }
 }
 

@@ -1,5 +1,5 @@
 -- How many numbers of a list do not exceed z: by such counts a program finds the ⌈s/2⌉-th smallest without sorting.
-use Rattle.std.specs.Prelude.{cond, List, [], ◌∷◌, ℕ, suc, ◌+◌, ◌<◌, length, get_or, set, ℤ, pos, ◌+ℤ◌}
+use Rattle.std.specs.Prelude.{cond, List, [], ◌∷◌, ℕ, suc, ◌<◌, length, get_or, set, ℤ, pos, ◌+ℤ◌}
 use Rattle.std.specs.Int.Signed.{le_z}
 use Rattle.ints.specs.Ints.{◌⊑◌}
 
