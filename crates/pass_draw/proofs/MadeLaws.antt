@@ -13,30 +13,9 @@ use Rattle.passes.specs.Stored.{placings_from}
 use Rattle.demand3.proofs.Theorem as theorem
 use Rattle.pass_list.proofs.Decoded.{decoded}
 use Rattle.plan.specs.inner.Held.{HoldsPlan}
-use Rattle.pass_tables.specs.inner.Moments.{Some}
 use Rattle.pass_list.specs.inner.Listing.{columns}
-use Rattle.pass_draw.specs.inner.Drawn.{Wanted, Drawn, Unlisted, plan_lists, Outset}
-use Rattle.pass_draw.specs.inner.Made.{Blank, Made, BlankIfWanted, MadeIfWanted, drawing_at}
-
--- The arrays of an empty list.
-pub room : {gap : ℕ} {ns : List ℕ} {vias : List Bool} {halves uppers lowers ratings : List ℕ} {xs ys : List ℤ} {passes levels counts vertices : List ℕ} {positions : List ℤ}
-    → Blank gap ns vias halves uppers lowers ratings xs ys passes levels counts vertices positions → BlankIfWanted gap ns vias halves uppers lowers ratings xs ys passes levels counts vertices positions
-room b = record {
-  some = b.some;
-  preliminary_room = b.preliminary_room;
-  final_room = b.final_room;
-  no_list = λ w. record { no_passes = b.no_passes; no_levels = b.no_levels; no_sizes = b.no_counts; no_vertices = b.no_vertices; no_positions = b.no_positions };
-}
-
--- With the preliminary positions in place the three passes can begin.
-pub ready : {gap : ℕ} {ns : List ℕ} {vias : List Bool} {halves uppers lowers ratings : List ℕ} {xs ys at : List ℤ} {passes levels counts vertices : List ℕ} {positions : List ℤ}
-    → (b : BlankIfWanted gap ns vias halves uppers lowers ratings xs ys passes levels counts vertices positions)
-    → at ≡ spec.preliminary b.some.plan
-    → Some (Outset (plan_lists gap ns vias halves uppers lowers ratings) at) × (Wanted (columns passes levels counts vertices positions) → Unlisted (columns passes levels counts vertices positions))
-ready b e = (
-  record { it = b.some.plan; is = record { lists = b.some.lists.lists; ratings_are = b.some.lists.ratings_are; preliminaries = e } },
-  b.no_list,
-)
+use Rattle.pass_draw.specs.inner.Drawn.{Wanted, Drawn}
+use Rattle.pass_draw.specs.inner.Made.{Made, MadeIfWanted, drawing_at}
 
 preliminary-of : (p : PlanData) → (drawing_of p).preliminary ≡ spec.preliminary p
 unfolding drawing_of

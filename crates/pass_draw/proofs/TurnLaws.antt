@@ -5,7 +5,8 @@ use mathlib.Core.Bool.{Bool, true}
 use mathlib.Core.List.{List}
 use native.Mathlib.Omega.{arith}
 use borrow.Author.Tests.{eq-eqb, ne_eqb}
-use lib.ListN.{length}
+use lib.ListN.{length, take}
+use lib.Seq.{length-take-le}
 use lib.IntN.{ℤ}
 use Rattle.ints.specs.Ratings.{all_ratings}
 use Rattle.run_columns.specs.inner.Sums.{ratings_between}
@@ -20,13 +21,18 @@ use Rattle.pass_tables.proofs.Near.{near-above, near-below}
 use Rattle.plan.proofs.HeldLaws.{bounds as proper}
 use Rattle.pass_visits.specs.inner.Passing.{pass_work, PassNext}
 use Rattle.plan.proofs.CountLaws.{by-same}
-use Rattle.pass_draw.specs.inner.Turn.{Graph, TurnNext}
+use Rattle.pass_draw.specs.inner.Turn.{Graph, Lent, TurnNext}
 
 -- tables cut to n vertices and e segments
 pub record CutTo (n e : ℕ) (first ends sums : List ℕ) : Type 0 where
   pub rows : length first ≡ n + 1
   pub others : length ends ≡ e
   pub ratings : length sums ≡ e + 1
+
+-- they stay so when they are written
+pub still_cut : {n e : ℕ} {first ends sums first' ends' sums' : List ℕ} → CutTo n e first ends sums
+    → length first' ≡ length first → length ends' ≡ length ends → length sums' ≡ length sums → CutTo n e first' ends' sums'
+still_cut t f g h = record { rows = f ∙ t.rows; others = g ∙ t.others; ratings = h ∙ t.ratings }
 
 module _ {q : ℕ} {h : Graph} {at : List ℤ} {apart : List ℕ} {marks : List Bool} {m : AtPass} (k : TurnNext q h at apart marks m) where
   abbrev p : PlanData
@@ -64,6 +70,20 @@ module _ {q : ℕ} {h : Graph} {at : List ℤ} {apart : List ℕ} {marks : List 
 
   pub vertices-few : length vias + 1 ≤ 1025
   vertices-few = omega (arith, ap length k.vias_are, limits.vertices)
+
+  -- tables for any plan are long enough
+  module _ {first ends sums : List ℕ} (t : Lent first ends sums) where
+    pub rows_fit : length vias + 1 ≤ length first
+    rows_fit = omega (arith, t.rows, vertices-few)
+
+    pub others_fit : length uppers ≤ length ends
+    others_fit = omega (arith, t.others, segments-few)
+
+    pub ratings_fit : length uppers + 1 ≤ length sums
+    ratings_fit = omega (arith, t.ratings, segments-few)
+
+    pub cut : CutTo (length vias) (length uppers) (take (length vias + 1) first) (take (length uppers) ends) (take (length uppers + 1) sums)
+    cut = record { rows = length-take-le _ _ rows_fit; others = length-take-le _ _ others_fit; ratings = length-take-le _ _ ratings_fit }
 
   module _ {first ends sums : List ℕ} (t : CutTo (length vias) (length uppers) first ends sums) where
     pub sortable : Sortable uppers lowers h.ratings first ends sums × Sortable lowers uppers h.ratings first ends sums

@@ -10,11 +10,7 @@ pub fn copy_positions(from: &[i64], to: &mut [i64])
     requires { length to.old ≡ length from.now }
     ensures { to.new ≡ from.now }
 {
-    let mut i: usize = 0;
-    while i < from.len() {
-        to[i] = from[i];
-        i += 1;
-    }
+    to.copy_from_slice(from);
 }
 
 // Draws, and answers how many placings were listed. The arrays of the list are 0 before; where they have no length none is listed.
@@ -40,7 +36,7 @@ pub fn make_drawing(
         → MadeIfWanted p result preliminary.new finals.new passes.new levels.new counts.new vertices.new positions.new }
 {
     preliminary_positions(gap, lengths, vias, halves, uppers, lowers, preliminary);
-    copy_positions(preliminary, finals);
+    finals.copy_from_slice(preliminary);
     let list = three_passes(
         gap, lengths, vias, halves, uppers, lowers, ratings, finals, passes, levels, counts,
         vertices, positions,

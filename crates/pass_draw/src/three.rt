@@ -1,11 +1,10 @@
 // The three passes one after another.
-ghost use Rattle.std.specs.Prelude.{◌≡◌, ◌≤◌, length};
 ghost use Rattle.pass_tables.specs.inner.Moments.{Some, Leaves};
 ghost use Rattle.pass_visits.specs.inner.Passing.{PassDone};
 ghost use Rattle.pass_list.specs.inner.Listing.{columns};
-ghost use Rattle.pass_list.specs.inner.Ended.{Copied, Ending, ending, PassEnding, PassListed};
-ghost use Rattle.pass_draw.specs.inner.Turn.{Graph, graph, Lent, TurnNext};
-ghost use Rattle.pass_draw.specs.inner.Drawn.{Wanted, Drawn, Begun, begun, AtStart, AtFirst, Unlisted, PlanLists, plan_lists, Outset};
+ghost use Rattle.pass_list.specs.inner.Ended.{ending, PassEnding, PassListed};
+ghost use Rattle.pass_draw.specs.inner.Turn.{graph, Lent, TurnNext};
+ghost use Rattle.pass_draw.specs.inner.Drawn.{Wanted, Drawn, begun, AtStart, AtFirst, Unlisted, plan_lists, Outset};
 
 use pass_list::pass::{Listed, list_pass};
 use pass_neighbours::neighbours;
@@ -14,18 +13,6 @@ use pass_tables::distances::distances;
 use pass_tables::slack::mark_loose;
 use pass_visits::pass::pass;
 use plan::data::Plan;
-
-// Keeps the marks.
-fn copy_marks(marks: &[bool], had: &mut [bool])
-    requires { length marks.now ≤ length had.old }
-    ensures { Copied marks.now had.new }
-{
-    let mut v: usize = 0;
-    while v < marks.len() {
-        had[v] = marks[v];
-        v += 1;
-    }
-}
 
 // Pass q: the neighbours that it goes by, in tables that are long enough for any plan, then its visits.
 fn run_pass(
@@ -48,28 +35,11 @@ fn run_pass(
         Leaves (TurnNext q h at.old apart.old marks.old)
         (PassDone q at.new apart.new marks.new) }
 {
-    let n = vias.len() + 1;
-    let e = uppers.len();
-    neighbours(
-        q,
-        uppers,
-        lowers,
-        ratings,
-        &mut first[..n],
-        &mut ends[..e],
-        &mut sums[..e + 1],
-    );
-    pass(
-        q,
-        starts,
-        vias,
-        &first[..n],
-        &ends[..e],
-        &sums[..e + 1],
-        at,
-        apart,
-        marks,
-    );
+    let first = &mut first[..vias.len() + 1];
+    let ends = &mut ends[..uppers.len()];
+    let sums = &mut sums[..uppers.len() + 1];
+    neighbours(q, uppers, lowers, ratings, first, ends, sums);
+    pass(q, starts, vias, first, ends, sums, at, apart, marks);
 }
 
 // Lists the placed runs of pass q, if the list is wanted.
@@ -93,7 +63,7 @@ fn list_wanted(
         Wanted k.list → Leaves (PassEnding q list.placings list.boxes starts.now k) (PassListed q result.placings result.boxes k
         (columns passes.new levels.new sizes.new vertices.new positions.new)) }
 {
-    if passes.len() == 0 {
+    if passes.is_empty() {
         return list;
     }
     list_pass(
@@ -133,9 +103,8 @@ fn run_passes(
         placings: 0,
         boxes: 0,
     };
-    let mut q: u16 = 1;
-    while q <= 3 {
-        copy_marks(marks, &mut had);
+    for q in 1..=3 {
+        had[..marks.len()].copy_from_slice(marks);
         run_pass(
             q, starts, vias, uppers, lowers, ratings, &mut first, &mut ends, &mut sums, at, apart,
             marks,
@@ -143,7 +112,6 @@ fn run_passes(
         listed = list_wanted(
             q, starts, vias, &had, marks, at, listed, passes, levels, sizes, vertices, positions,
         );
-        q += 1;
     }
     listed
 }
@@ -172,22 +140,11 @@ fn run_with_starts(
         Leaves (AtStart k) (Drawn result.placings result.boxes at.new
         (columns passes.new levels.new sizes.new vertices.new positions.new)) }
 {
-    let k = lengths.len() + 1;
     let mut starts = [0u16; Plan::MAX_LEVELS + 1];
-    level_starts(lengths, &mut starts[..k]);
+    let starts = &mut starts[..lengths.len() + 1];
+    level_starts(lengths, starts);
     run_passes(
-        &starts[..k],
-        vias,
-        uppers,
-        lowers,
-        ratings,
-        at,
-        apart,
-        marks,
-        passes,
-        levels,
-        sizes,
-        vertices,
+        starts, vias, uppers, lowers, ratings, at, apart, marks, passes, levels, sizes, vertices,
         positions,
     )
 }
@@ -218,21 +175,12 @@ pub fn three_passes(
     let n = vias.len();
     let mut apart = [0u64; Plan::MAX_VERTICES];
     let mut marks = [false; Plan::MAX_VERTICES];
-    distances(gap, lengths, halves, &mut apart[..n]);
-    mark_loose(lengths, vias, &apart[..n], at, &mut marks[..n]);
+    let apart = &mut apart[..n];
+    let marks = &mut marks[..n];
+    distances(gap, lengths, halves, apart);
+    mark_loose(lengths, vias, apart, at, marks);
     run_with_starts(
-        lengths,
-        vias,
-        uppers,
-        lowers,
-        ratings,
-        at,
-        &mut apart[..n],
-        &mut marks[..n],
-        passes,
-        levels,
-        sizes,
-        vertices,
+        lengths, vias, uppers, lowers, ratings, at, apart, marks, passes, levels, sizes, vertices,
         positions,
     )
 }

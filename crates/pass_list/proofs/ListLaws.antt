@@ -1,8 +1,8 @@
 -- One run, listed or not. Assumes nothing.
 use Prim.Native.Nat.{ℕ, ◌+◌, ◌-◌, ◌≤◌, ◌<◌}
-use mathlib.Core.Path.{◌≡◌, sym, ◌∙◌, ap, subst}
+use mathlib.Core.Path.{◌≡◌, sym, subst}
 use mathlib.Core.Bool.{Bool, true, false, not, ◌&&◌}
-use mathlib.Core.List.{List, [], ◌∷◌, ◌++◌, append-nil}
+use mathlib.Core.List.{List, [], ◌∷◌, ◌++◌}
 use native.Mathlib.Omega.{arith}
 use borrow.Author.Tests.{lt-ltb, le-ltb}
 use lib.Dec.{eqb, ltb}
@@ -29,9 +29,6 @@ module _ (q start from end to : ℕ) (had marks : List Bool) where
 
 -- ---- the list then
 module _ (placed : Bool) (q l from end : ℕ) (at : List ℤ) where
-  if-not : placed ≡ false → placing_if placed q l from end at ≡ []
-  if-not e = rw e
-
   pub if-empty : end ≤ from → placing_if placed q l from end at ≡ []
   if-empty h = rw (le-ltb from end h, and_no placed)
 
@@ -39,15 +36,6 @@ module _ (placed : Bool) (q l from end : ℕ) (at : List ℤ) where
   if_some e h = rw (e, lt-ltb from end h)
 
   module _ {before : List Placing} {n b : ℕ} {g : Columns} (s : Stored n b g before) where
-    none : placing_if placed q l from end at ≡ [] → Stored n b g (before ++ placing_if placed q l from end at)
-    none e = subst (λ (x : List Placing). Stored n b g x) (sym (append-nil before) ∙ ap (λ (y : List Placing). before ++ y) (sym e)) s
-
-    pub stored-skipped : placed ≡ false → Stored n b g (before ++ placing_if placed q l from end at)
-    stored-skipped e = none (if-not e)
-
-    pub stored-empty : end ≤ from → Stored n b g (before ++ placing_if placed q l from end at)
-    stored-empty h = none (if-empty h)
-
     pub stored_more : placed ≡ true → from < end → {g' : Columns}
         → Lies (before ++ placing_of q l from end at ∷ []) g'
         → Stored (n + 1) (b + (end - from)) g' (before ++ placing_if placed q l from end at)

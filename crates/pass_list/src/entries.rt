@@ -1,5 +1,5 @@
 // The list of placings: the boxes of all placings lie one after another, each with its vertex and its position after.
-ghost use Rattle.std.specs.Prelude.{◌≡◌, ◌++◌, ◌+◌, ◌-◌, ◌<◌, ◌≤◌, length, take, drop};
+ghost use Rattle.std.specs.Prelude.{◌≡◌, ◌++◌, ◌+◌, ◌-◌, ◌≤◌, length, take, drop};
 ghost use Rattle.plan.specs.Plan.{numbers};
 ghost use Rattle.passes.specs.State.{position_of};
 ghost use Rattle.pass_tables.specs.inner.Tables.{along};
@@ -10,10 +10,8 @@ pub fn list_vertices(from: usize, start: usize, end: usize, vertices: &mut [u16]
     ensures { (take end vertices.new ≡ take start vertices.old ++ numbers from (end - start))
         × (drop end vertices.new ≡ drop end vertices.old) }
 {
-    let mut k = start;
-    while k < end {
-        vertices[k] = (from + (k - start)) as u16;
-        k += 1;
+    for (i, v) in vertices[start..end].iter_mut().enumerate() {
+        *v = (from + i) as u16;
     }
 }
 
@@ -23,9 +21,5 @@ pub fn list_positions(at: &[i64], from: usize, start: usize, end: usize, positio
     ensures { (take end positions.new ≡ take start positions.old ++ along (position_of at.now) from (end - start))
         × (drop end positions.new ≡ drop end positions.old) }
 {
-    let mut k = start;
-    while k < end {
-        positions[k] = at[from + (k - start)];
-        k += 1;
-    }
+    positions[start..end].copy_from_slice(&at[from..from + (end - start)]);
 }

@@ -1,12 +1,11 @@
 // What a pass adds to the list, read off when it ends.
 ghost use Rattle.std.specs.Prelude.{◌≡◌, ◌++◌, ◌≤◌, length};
 ghost use Rattle.pass_tables.specs.inner.Moments.{Some, Leaves};
-ghost use Rattle.pass_list.specs.inner.Listing.{Columns, columns, Stored};
+ghost use Rattle.pass_list.specs.inner.Listing.{columns, Stored};
 ghost use Rattle.pass_list.specs.inner.Added.{Arrays};
-ghost use Rattle.pass_list.specs.inner.Ended.{placed_by, placing_if, Fits, Ending, ending, LevelEnding, LevelListed, PassEnding, PassListed};
+ghost use Rattle.pass_list.specs.inner.Ended.{placed_by, placing_if, Fits, ending, LevelEnding, LevelListed, PassEnding, PassListed};
 
 use crate::placing::list_placing;
-use ints::wide;
 use pass_neighbours::order::turn;
 use pass_tables::runs::run_end;
 
@@ -144,11 +143,10 @@ pub fn list_pass(
 {
     let n = starts.len() - 1;
     let mut listed = list;
-    let mut k: usize = 0;
-    while k < n {
+    for k in 0..n {
         let i = turn(q, k, n);
-        let start = wide(starts[i]);
-        let to = wide(starts[i + 1]);
+        let start = usize::from(starts[i]);
+        let to = usize::from(starts[i + 1]);
         listed = list_level(
             q,
             (i + 1) as u16,
@@ -165,7 +163,6 @@ pub fn list_pass(
             vertices,
             positions,
         );
-        k += 1;
     }
     listed
 }

@@ -1,7 +1,7 @@
 // One more placing in the list.
-ghost use Rattle.std.specs.Prelude.{◌≡◌, [], ◌∷◌, ◌++◌, length};
+ghost use Rattle.std.specs.Prelude.{[], ◌∷◌, ◌++◌, length};
 ghost use Rattle.pass_tables.specs.inner.Moments.{Leaves};
-ghost use Rattle.pass_list.specs.inner.Listing.{Columns, columns, Lies, Stored};
+ghost use Rattle.pass_list.specs.inner.Listing.{columns, Lies, Stored};
 ghost use Rattle.pass_list.specs.inner.Added.{placing_of, ListRoom, Arrays};
 
 use crate::entries::{list_positions, list_vertices};

@@ -26,7 +26,7 @@ pub fn neighbours(
 {
     if q == 2 {
         rows(uppers, lowers, ratings, first, ends, sums);
-        return;
+    } else {
+        rows(lowers, uppers, ratings, first, ends, sums);
     }
-    rows(lowers, uppers, ratings, first, ends, sums);
 }

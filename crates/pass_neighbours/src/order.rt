@@ -16,12 +16,10 @@ pub fn level_starts(lengths: &[u16], starts: &mut [u16])
     requires { (length starts.old ≡ length lengths.now + 1) × (sum lengths.now ≤ 1024) }
     ensures { (i : ℕ) → i ≤ length lengths.now → get_or starts.new i 0 ≡ sum (take i lengths.now) }
 {
-    let mut from: u16 = 0;
-    let mut i: usize = 0;
     starts[0] = 0;
-    while i < lengths.len() {
-        from = from + lengths[i];
-        i += 1;
-        starts[i] = from;
+    let mut from: u16 = 0;
+    for (i, n) in lengths.iter().enumerate() {
+        from += *n;
+        starts[i + 1] = from;
     }
 }

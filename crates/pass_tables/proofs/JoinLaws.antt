@@ -7,7 +7,7 @@ use native.Mathlib.Omega.{arith}
 use lib.ListN.{length, get_or, set}
 use lib.Seq.{get_or-set_same, get_or-set_other}
 use Rattle.ints.proofs.Laws.{cases}
-use Rattle.pass_tables.specs.inner.Joins.{joined_at, or_else, last_in, first_in, one_if, marked_in}
+use Rattle.pass_tables.specs.inner.Joins.{or_else, last_in, first_in, one_if, marked_in}
 
 -- ---- a table that a loop fills, up or down
 module _ (xs : List ℕ) (v a : ℕ) (g : ℕ → ℕ) (h : v < length xs) (e : a ≡ g v) where
@@ -52,15 +52,3 @@ module _ (marks : List Bool) where
 pub one-small : (b : Bool) → one_if b ≤ 1
 one-small true = omega arith
 one-small false = omega arith
-
--- ---- the via joined to v
-module _ (vias : List Bool) (first ends : List ℕ) (v : ℕ) where
-  pub joined-none : get_or vias v false ≡ false → 2048 ≡ joined_at vias first ends v
-  joined-none e = rw e
-
-  module _ (w : ℕ) (e : get_or vias v false ≡ true) (f : w ≡ get_or ends (get_or first v 0) 0) where
-    pub joined-via : get_or vias w false ≡ true → w ≡ joined_at vias first ends v
-    joined-via g = rw (e, ← f, g)
-
-    pub joined-box : get_or vias w false ≡ false → 2048 ≡ joined_at vias first ends v
-    joined-box g = rw (e, ← f, g)

@@ -1,29 +1,20 @@
 -- The runs of a level that are still to be visited: the first of them ends at the next via or at the level's end, and the others
 -- begin after that. Assumes nothing.
 use Prim.Native.Nat.{ℕ, suc, ◌+◌, ◌-◌, ◌<◌, ◌≤◌}
-use mathlib.Core.Path.{◌≡◌, refl, sym, ◌∙◌, ap}
-use mathlib.Core.Bool.{Bool, true, false}
+use mathlib.Core.Path.{◌≡◌, refl, ap}
 use mathlib.Core.List.{List, [], ◌∷◌}
 use mathlib.Core.Option.{Option, none, some}
 use native.Mathlib.Omega.{arith}
-use lib.ListN.{length, get_or}
-use Rattle.ints.proofs.Laws.{cases}
+use lib.ListN.{length}
 use Rattle.plan.specs.Plan.{PlanData, numbers}
 use Rattle.passes.specs.Runs.{Run, run, runs_on}
-use Rattle.plan.proofs.All.{no_true}
 use Rattle.plan.specs.inner.Levels.{first_on, size_on}
 use Rattle.plan.proofs.Levels.{length-numbers}
 use Rattle.passes.specs.inner.Runs.{LeftEnd, no-left, via-left, IsRun}
 use Rattle.passes.proofs.RunsOn.{RunsTo, last, next, level-runs}
 use Rattle.pass_tables.specs.inner.Tables.{next_via}
-use Rattle.pass_tables.proofs.RunLaws.{next as next-via}
+use Rattle.pass_tables.proofs.RunLaws.{next-is}
 use Rattle.pass_tables.specs.inner.Moments.{RunIs}
-
--- the first via after boxes, or the end
-next-is : (vias : List Bool) (v n w : ℕ) → v ≤ w → w ≤ v + n → ((u : ℕ) → v ≤ u → u < w → get_or vias u false ≡ false) → (w < v + n → get_or vias w false ≡ true) → next_via vias v n ≡ w
-next-is vias v n w h k f t = let m = next-via vias v n in cases (next_via vias v n) w
-    (λ i. cases w (next_via vias v n) (λ j. omega arith) (λ j. no_true (sym (f (next_via vias v n) m.low j) ∙ m.via (omega arith))))
-    (λ i. no_true (sym (m.boxes w h i) ∙ t (omega (arith, m.high))))
 
 -- the via before a run tells where its boxes begin
 same_first : {p : PlanData} {b : ℕ} {o : Option ℕ} {low low' first first' : ℕ} → LeftEnd p b o low first → LeftEnd p b o low' first' → first ≡ first'

@@ -30,7 +30,7 @@ use Rattle.passes.proofs.Trace.{start-apart}
 use Rattle.pass_tables.specs.inner.Tables.{total, next_via, is_loose, loose_from, starts_loose, along, levelwise}
 use Rattle.pass_tables.proofs.LevelLaws.{along-length, levelwise-get}
 use Rattle.pass_tables.proofs.RowLaws.{total-same}
-use Rattle.pass_tables.proofs.RunLaws.{next as next-via}
+use Rattle.pass_tables.proofs.RunLaws.{next as next-via, next-is}
 use Rattle.pass_tables.proofs.RunEnds.{left-on, right_of}
 use Rattle.pass_tables.specs.inner.Moments.{BoundedAt, Unsettled}
 
@@ -71,12 +71,6 @@ span-total p ds v (suc n) f =
     span-total p ds (v + 1) n (λ u h k. f u (omega arith) (omega arith))
     ∙ total-same (λ (i : ℕ). get_or ds (v + 1 + i) 0) (λ (i : ℕ). get_or ds (v + suc i) 0) n (λ i h. let g : v + 1 + i ≡ v + suc i = omega arith in ap (λ (u : ℕ). get_or ds u 0) g) in
     ap (λ (m : ℕ). doubled p v (v + 1) + m) more ∙ ap (λ (m : ℕ). m + total (λ (i : ℕ). get_or ds (v + suc i) 0) n) (sym here) ∙ sym (total_left (λ (i : ℕ). get_or ds (v + i) 0) n)
-
--- ---- the next via
-next-is : (vias : List Bool) (v n w : ℕ) → v ≤ w → w < v + n → ((u : ℕ) → v ≤ u → u < w → get_or vias u false ≡ false) → get_or vias w false ≡ true → next_via vias v n ≡ w
-next-is vias v n w h k f t = let m = next-via vias v n in cases (next_via vias v n) w
-    (λ i. cases w (next_via vias v n) (λ j. omega arith) (λ j. no_true (sym (f (next_via vias v n) m.low j) ∙ m.via (omega arith))))
-    (λ i. no_true (sym (m.boxes w h i) ∙ t))
 
 or-false : (b : Bool) → b || false ≡ b
 or-false true = refl
@@ -121,7 +115,7 @@ module _ (p : PlanData) where
         let h = right-at w i.ends f in
         let b = bounds i in
         let n : next_via p.vias (v + 1) (to - (v + 1)) ≡ w =
-        next-is p.vias (v + 1) (to - (v + 1)) w (omega arith) (omega arith) (λ u j k. i.plain u (omega arith) (omega arith)) (right-via i w f) in
+        next-is p.vias (v + 1) (to - (v + 1)) w (omega arith) (omega arith) (λ u j k. i.plain u (omega arith) (omega arith)) (λ k. right-via i w f) in
         ap (λ (t : Bool). cond t (loose_from ds (preliminary p) v (next_via p.vias (v + 1) (to - (v + 1))) to) false) (left-via i v e)
         ∙ ap (λ (u : ℕ). loose_from ds (preliminary p) v u to) n
         ∙ ap (λ (t : Bool). cond t (is_loose ds (preliminary p) v w) false) (lt-ltb w to (omega arith))

@@ -21,7 +21,7 @@ between-at (s ∷ []) i h = absurd (omega arith)
 between-at (s ∷ t ∷ ss) zero h = refl
 between-at (s ∷ t ∷ ss) (suc i) h = between-at (t ∷ ss) i (omega arith)
 
-total-high : (f : ℕ → ℕ) (m n : ℕ) → ((v : ℕ) → f v ≤ m) → total f n ≤ m * n
+pub total-high : (f : ℕ → ℕ) (m n : ℕ) → ((v : ℕ) → f v ≤ m) → total f n ≤ m * n
 unfolding total
 total-high f m zero h = omega arith
 total-high f m (suc n) h = omega (arith, total-high f m n h, h n)

@@ -2,10 +2,7 @@
 // joined to v, likewise on the right, and every bounded run between those two w's is settled". Neighbours on the preceding
 // level are read row by row, as `rows` makes them.
 ghost use Rattle.std.specs.Prelude.{◌≡◌, ℕ, ◌+◌, ◌-◌, ◌<◌, ◌≤◌, length, get_or};
-ghost use Rattle.pass_tables.specs.inner.Joins.{Readable, joined_at, Joinable, last_in, first_in, or_else, one_if, marked_in, ready_by};
-
-use crate::rows::index;
-use ints::wide;
+ghost use Rattle.pass_tables.specs.inner.Joins.{Readable, joined_at, Joinable, last_in, first_in, or_else, marked_in, ready_by};
 
 // No vertex has this number.
 pub const NONE: u32 = 2048;
@@ -18,11 +15,8 @@ fn joined_via(vias: &[bool], first: &[u16], ends: &[u32], v: usize) -> u32
     if !vias[v] {
         return NONE;
     }
-    let w = ends[wide(first[v])];
-    if vias[index(w)] {
-        return w;
-    }
-    NONE
+    let w = ends[usize::from(first[v])];
+    if vias[w as usize] { w } else { NONE }
 }
 
 fn or_else(w: u32, other: u32) -> u32
@@ -44,11 +38,9 @@ pub fn nearest_before(
     ensures { (v : ℕ) → from ≤ v → v < to → get_or before.new v 0 ≡ last_in (joined_at vias.now first.now ends.now) from (v + 1 - from) }
 {
     let mut last = NONE;
-    let mut v = from;
-    while v < to {
+    for v in from..to {
         last = or_else(joined_via(vias, first, ends, v), last);
         before[v] = last;
-        v += 1;
     }
 }
 
@@ -65,18 +57,10 @@ pub fn nearest_after(
     ensures { (v : ℕ) → from ≤ v → v < to → get_or after.new v 0 ≡ first_in (joined_at vias.now first.now ends.now) v (to - v) }
 {
     let mut last = NONE;
-    let mut v = to;
-    while v > from {
-        v -= 1;
+    for v in (from..to).rev() {
         last = or_else(joined_via(vias, first, ends, v), last);
         after[v] = last;
     }
-}
-
-fn one_if(b: bool) -> u16
-    ensures { result ≡ one_if b }
-{
-    if b { 1 } else { 0 }
 }
 
 // Of each vertex from `from` up to `to`, how many marked ones come before it there.
@@ -85,11 +69,9 @@ pub fn count_marks(marks: &[bool], from: usize, to: usize, counts: &mut [u16])
     ensures { (v : ℕ) → from ≤ v → v < to → get_or counts.new v 0 ≡ marked_in marks.now from (v - from) }
 {
     let mut count: u16 = 0;
-    let mut v = from;
-    while v < to {
+    for v in from..to {
         counts[v] = count;
-        count += one_if(marks[v]);
-        v += 1;
+        count += u16::from(marks[v]);
     }
 }
 
@@ -100,11 +82,5 @@ pub fn is_ready(before: &[u32], after: &[u32], counts: &[u16], a: usize, b: usiz
 {
     let u = before[a];
     let w = after[b];
-    if u == NONE {
-        return false;
-    }
-    if w == NONE {
-        return false;
-    }
-    counts[index(u)] == counts[index(w)]
+    u != NONE && w != NONE && counts[u as usize] == counts[w as usize]
 }

@@ -7,12 +7,5 @@ pub fn run_end(vias: &[bool], from: usize, to: usize) -> usize
     requires { (from ≤ to) × (to ≤ length vias.now) }
     ensures { result ≡ next_via vias.now from (to - from) }
 {
-    let mut v = from;
-    while v < to {
-        if vias[v] {
-            return v;
-        }
-        v += 1;
-    }
-    v
+    (from..to).find(|v| vias[*v]).unwrap_or(to)
 }

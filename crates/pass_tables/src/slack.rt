@@ -4,20 +4,13 @@ ghost use Rattle.ints.specs.Lists.{sum};
 ghost use Rattle.pass_tables.specs.inner.Tables.{total, along, levelwise, loose_from, starts_loose, Measured};
 
 use crate::runs::run_end;
-use ints::{too_near, wide};
 
 // The distance of v and w, "the sum between them".
 fn span(doubled: &[u64], v: usize, w: usize) -> u64
     requires { (v ≤ w) × (w ≤ length doubled.now) × (length doubled.now ≤ 1024) × ((u : ℕ) → get_or doubled.now u 0 ≤ 1000) }
     ensures { (result ≡ total (λ (i : ℕ). get_or doubled.now (v + i) 0) (w - v)) × (result ≤ 1024000) }
 {
-    let mut sum: u64 = 0;
-    let mut u = v;
-    while u < w {
-        sum += doubled[u];
-        u += 1;
-    }
-    sum
+    doubled[v..w].iter().sum()
 }
 
 // Whether a bounded run with slack starts at via v, w being the next via on the level or its end `to`.
@@ -25,14 +18,7 @@ fn is_loose(doubled: &[u64], at: &[i64], v: usize, w: usize, to: usize) -> bool
     requires { (v ≤ w) × (to ≤ length doubled.now) × Measured doubled.now at.now }
     ensures { result ≡ loose_from doubled.now at.now v w to }
 {
-    if w >= to {
-        return false;
-    }
-    let d = span(doubled, v, w);
-    if too_near(at[v], at[w], d) {
-        return true;
-    }
-    !too_near(at[v], at[w], d + 1)
+    w < to && at[w] - at[v] != span(doubled, v, w) as i64
 }
 
 // Whether a bounded run with slack starts at v.
@@ -40,10 +26,7 @@ fn starts_loose(vias: &[bool], doubled: &[u64], at: &[i64], v: usize, to: usize)
     requires { (v < to) × (to ≤ length vias.now) × (length vias.now ≡ length doubled.now) × Measured doubled.now at.now }
     ensures { result ≡ starts_loose vias.now doubled.now at.now v to }
 {
-    if !vias[v] {
-        return false;
-    }
-    is_loose(doubled, at, v, run_end(vias, v + 1, to), to)
+    vias[v] && is_loose(doubled, at, v, run_end(vias, v + 1, to), to)
 }
 
 // Marks where such runs start on the level whose vertices stand from `from` up to `to`.
@@ -60,10 +43,8 @@ fn mark_level(
     ensures { take to marks.new ≡ take from marks.old
         ++ along (λ (v : ℕ). starts_loose vias.now doubled.now at.now v to) from (to - from) }
 {
-    let mut v = from;
-    while v < to {
+    for v in from..to {
         marks[v] = starts_loose(vias, doubled, at, v, to);
-        v += 1;
     }
 }
 
@@ -74,11 +55,9 @@ pub fn mark_loose(sizes: &[u16], vias: &[bool], doubled: &[u64], at: &[i64], mar
     ensures { marks.new ≡ levelwise (λ (v to : ℕ). starts_loose vias.now doubled.now at.now v to) 0 sizes.now }
 {
     let mut from: usize = 0;
-    let mut i: usize = 0;
-    while i < sizes.len() {
-        let to = from + wide(sizes[i]);
+    for size in sizes {
+        let to = from + usize::from(*size);
         mark_level(vias, doubled, at, from, to, marks);
         from = to;
-        i += 1;
     }
 }

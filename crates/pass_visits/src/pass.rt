@@ -7,7 +7,6 @@ ghost use Rattle.pass_visits.specs.inner.Visits.{LevelDone};
 ghost use Rattle.pass_visits.specs.inner.Passing.{PassWork, pass_work, TableRoom, TablesMade, LevelNext, PassNext, PassDone};
 
 use crate::level::visit_level;
-use ints::wide;
 use pass_neighbours::order::turn;
 use pass_tables::ready::{count_marks, nearest_after, nearest_before};
 use plan::data::Plan;
@@ -17,14 +16,7 @@ fn any_marked(marks: &[bool], from: usize, to: usize) -> bool
     requires { to ≤ length marks.now }
     ensures { result ≡ false → (v : ℕ) → from ≤ v → v < to → get_or marks.now v false ≡ false }
 {
-    let mut v = from;
-    while v < to {
-        if marks[v] {
-            return true;
-        }
-        v += 1;
-    }
-    false
+    (from..to).any(|v| marks[v])
 }
 
 // The tables that tell which runs of the level from `start` up to `to` are ready, if that is asked of any: of an unsettled one, and not
@@ -132,11 +124,10 @@ pub fn pass(
     let n = starts.len() - 1;
     let mut low: usize = 0;
     let mut high: usize = 0;
-    let mut k: usize = 0;
-    while k < n {
+    for k in 0..n {
         let i = turn(q, k, n);
-        let start = wide(starts[i]);
-        let to = wide(starts[i + 1]);
+        let start = usize::from(starts[i]);
+        let to = usize::from(starts[i + 1]);
         enter_level(
             q,
             Stretch {
@@ -157,6 +148,5 @@ pub fn pass(
         );
         low = start;
         high = to;
-        k += 1;
     }
 }

@@ -3,7 +3,7 @@ ghost use Rattle.std.specs.Prelude.{◌≡◌};
 ghost use Rattle.report.specs.Numbers.{positions_by};
 ghost use Rattle.report_numbers.specs.inner.Words.{Takes, Numberable, Numbered};
 
-use ints::{total, wide};
+use ints::total;
 use plan_renumber::gather;
 
 // Positions by number. `m` has the number of each vertex.
@@ -11,11 +11,8 @@ fn positions_by(m: &[u16], xs: &[i64], out: &mut [i64])
     requires { Takes m.now xs.now out.old }
     ensures { out.new ≡ positions_by m.now xs.now }
 {
-    let mut v: usize = 0;
-    while v < m.len() {
-        let n = wide(m[v]);
-        out[n] = xs[v];
-        v += 1;
+    for (v, n) in m.iter().enumerate() {
+        out[usize::from(*n)] = xs[v];
     }
 }
 

@@ -30,28 +30,19 @@ pub fn put_line_by(
     let mut starts = [0i64; Plan::MAX_VERTICES];
     let mut ends = [0i64; Plan::MAX_VERTICES];
     let mut names = [0u16; Drawing::MAX_LISTED];
-    let v = m.len();
+    let starts = &mut starts[..m.len()];
+    let ends = &mut ends[..m.len()];
     in_numbers(
         m,
         counts,
         preliminary,
         finals,
         vertices,
-        &mut starts[..v],
-        &mut ends[..v],
+        starts,
+        ends,
         &mut names,
     );
     put_report_line(
-        spacing,
-        sizes,
-        &starts[..v],
-        &ends[..v],
-        passes,
-        levels,
-        counts,
-        &names,
-        positions,
-        n,
-        out,
+        spacing, sizes, starts, ends, passes, levels, counts, &names, positions, n, out,
     )
 }

@@ -7,13 +7,7 @@ use Rattle.pass_visits.proofs.pass.pass.Goals as goal
 
 -- src/pass.rt:136:5
 pub loop-k-init : goal.loop-k-init
-loop-k-init g c = let a = c.args in let e = c.requires.0 in (
-  (λ m x. subst (λ (w : PassWork). Turned a.q 0 0 0 w.at w.apart w.marks m) (sym e) (turned-start x)),
-  omega arith,
-  search rules,
-  search rules,
-  search rules,
-)
+loop-k-init g c m x = subst (λ (w : PassWork). Turned c.args.q 0 0 0 w.at w.apart w.marks m) (sym c.requires.0) (turned-start x)
 
 -- src/pass.rt:140:9
 pub enter_level-requires : goal.enter_level-requires
@@ -22,35 +16,29 @@ enter_level-requires g c = let s = c.requires.1 in let x = s.is in let l = c.loo
     let e : n ≡ s.it.plan.levels = omega (arith, (starts-many x).0) in
     let h : l.k < s.it.plan.levels = omega (arith, c.loop-k-test.true, e) in
     let i : c.turn-i.result ≡ turn_of a.q l.k s.it.plan.levels = c.turn-i.ensures ∙ ap (turn_of a.q l.k) e in
-    let f = c.wide-start.ensures ∙ ap (λ (j : ℕ). get_or a.starts.now j 0) i in
-    let u = c.wide-to.ensures ∙ ap (λ (j : ℕ). get_or a.starts.now (j + 1) 0) i in
-    let t = l.invariant.0 s.it x in (
+    let f = c.from-start.ensures ∙ ap (λ (j : ℕ). get_or a.starts.now j 0) i in
+    let u = c.from-to.ensures ∙ ap (λ (j : ℕ). get_or a.starts.now (j + 1) 0) i in
+    let t = l.invariant s.it x in (
       ap (λ (w : PassWork). pass_work w.first w.ends w.sums l.at l.apart l.marks) c.requires.0,
       (
-        record { it = _; is = level-next x t h c.wide-start.result c.wide-to.result f u },
-        record { lefts = l.invariant.2; rights = l.invariant.3; numbers = l.invariant.4 },
+        record { it = _; is = level-next x t h c.from-start.result c.from-to.result f u },
+        record { lefts = search rules; rights = search rules; numbers = search rules },
       ),
     )
 
 -- src/pass.rt:136:5
 pub loop-k-preserved : goal.loop-k-preserved
-loop-k-preserved g c = let l = c.loop-k in let a = c.args in (
-  (λ m x. let t = l.invariant.0 m x in
-      let n = length a.starts.now - 1 in
-      let e : n ≡ m.plan.levels = omega (arith, (starts-many x).0) in
-      let h : l.k < m.plan.levels = omega (arith, c.loop-k-test.true, e) in
-      let i : c.turn-i.result ≡ turn_of a.q l.k m.plan.levels = c.turn-i.ensures ∙ ap (turn_of a.q l.k) e in
-      let f = c.wide-start.ensures ∙ ap (λ (j : ℕ). get_or a.starts.now j 0) i in
-      let u = c.wide-to.ensures ∙ ap (λ (j : ℕ). get_or a.starts.now (j + 1) 0) i in
-      turned-next x t h c.wide-start.result c.wide-to.result f u
-      (c.enter_level.ensures _ (level-next x t h c.wide-start.result c.wide-to.result f u))),
-  omega (arith, c.loop-k-test.true),
-  ◌∙◌ {b = length l.before} c.enter_level.auto.before l.invariant.2,
-  ◌∙◌ {b = length l.after} c.enter_level.auto.after l.invariant.3,
-  ◌∙◌ {b = length l.counts} c.enter_level.auto.counts l.invariant.4,
-)
+loop-k-preserved g c m x = let l = c.loop-k in let a = c.args in
+    let t = l.invariant m x in
+    let n = length a.starts.now - 1 in
+    let e : n ≡ m.plan.levels = omega (arith, (starts-many x).0) in
+    let h : l.k < m.plan.levels = omega (arith, c.loop-k-test.true, e) in
+    let i : c.turn-i.result ≡ turn_of a.q l.k m.plan.levels = c.turn-i.ensures ∙ ap (turn_of a.q l.k) e in
+    let f = c.from-start.ensures ∙ ap (λ (j : ℕ). get_or a.starts.now j 0) i in
+    let u = c.from-to.ensures ∙ ap (λ (j : ℕ). get_or a.starts.now (j + 1) 0) i in
+    turned-next x t h c.from-start.result c.from-to.result f u (c.enter_level.ensures _ (level-next x t h c.from-start.result c.from-to.result f u))
 
 -- src/pass.rt:112:1
 pub returns : goal.returns
 returns g c m x = let l = c.loop-k in let e : length c.args.starts.now - 1 ≡ m.plan.levels = omega (arith, (starts-many x).0) in
-    turned-end x (l.invariant.0 m x) (omega (arith, c.loop-k-test.false, e)) (omega (arith, l.invariant.1, e))
+    turned-end x (l.invariant m x) (omega (arith, c.loop-k-test.false, e)) (omega (arith, e))

@@ -1,5 +1,4 @@
 -- `pass_visits::pass::pass`: at every turn the levels before it are visited, and the last of them stands from `low` up to `high`.
-use Rattle.std.proofs.Common.{◌≡◌, ◌≤◌, ◌-◌, length}
 use Rattle.pass_tables.specs.inner.Moments.{Leaves}
 use Rattle.pass_visits.specs.inner.Passing.{pass_work, PassNext}
 use Rattle.pass_visits.proofs.PassLaws.{Turned}
@@ -10,9 +9,4 @@ abbrev pub ghost-enter_level : goal.ghost-enter_level
 ghost-enter_level g a = pass_work g.k.first g.k.ends g.k.sums a.at.now a.apart.now a.marks.now
 
 abbrev pub invariant-loop-k : goal.invariant-loop-k
-invariant-loop-k g l =
-    Leaves (PassNext l.q l.starts l.vias g.k) (Turned l.q l.k l.low l.high l.at l.apart l.marks) × (l.k ≤ l.n)
-    × (length l.before ≡ 1024) × (length l.after ≡ 1024) × (length l.counts ≡ 1024)
-
-abbrev pub decreases-loop-k : goal.decreases-loop-k
-decreases-loop-k g l = l.n - l.k
+invariant-loop-k g l = Leaves (PassNext l.q l.starts l.vias g.k) (Turned l.q l.k l.low l.high l.at l.apart l.marks)
