@@ -71,7 +71,7 @@ pub fn mark(
     ensures { IsMark spacing sizes.now vias.now halves.now uppers.now lowers.now finals.now n result }
 {
     let mut height = [0u64; Plan::MAX_VERTICES];
-    let v = vias.len();
-    heights(spacing, sizes, &mut height[..v]);
-    mark_at(&height[..v], vias, halves, uppers, lowers, finals, n)
+    let height = &mut height[..vias.len()];
+    heights(spacing, sizes, height);
+    mark_at(height, vias, halves, uppers, lowers, finals, n)
 }

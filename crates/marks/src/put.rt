@@ -47,11 +47,9 @@ fn put_each(
     ensures { AreMarksAt heights.now vias.now halves.now uppers.now lowers.now finals.now
         out.old out.new }
 {
-    let mut n: usize = 0;
-    while n < vias.len() + uppers.len() {
+    for n in 0..vias.len() + uppers.len() {
         let m = mark_at(heights, vias, halves, uppers, lowers, finals, n);
         put_mark(m, 5 * n, out);
-        n += 1;
     }
 }
 
@@ -71,7 +69,7 @@ pub fn put_marks(
         out.old out.new }
 {
     let mut height = [0u64; Plan::MAX_VERTICES];
-    let v = vias.len();
-    heights(spacing, sizes, &mut height[..v]);
-    put_each(&height[..v], vias, halves, uppers, lowers, finals, out);
+    let height = &mut height[..vias.len()];
+    heights(spacing, sizes, height);
+    put_each(height, vias, halves, uppers, lowers, finals, out);
 }

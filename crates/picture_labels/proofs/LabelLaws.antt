@@ -1,16 +1,20 @@
 -- Labels by their cases: digits, places of rows, rows one after another.
 use mathlib.Core.Path.{◌≡◌, refl}
 use mathlib.Core.List.{List, [], ◌∷◌, ◌++◌}
-use Prim.Native.Nat.{ℕ, ◌+◌, ◌/◌, ◌≤◌, ◌<◌}
+use Prim.Native.Nat.{ℕ, ◌+◌, ◌-◌, ◌/◌, ◌≤◌, ◌<◌}
+use mathlib.Core.Bool.{Bool}
 use native.Mathlib.Omega.{arith}
-use lib.ListN.{length, get_or-eq_default}
+use lib.ListN.{length, take, drop, get_or-eq_default}
 use lib.IntN.{ℤ}
 use Rattle.text.specs.Bytes.{bytes}
 use Rattle.text.specs.Decimal.{decimal}
 use Rattle.text.proofs.DecimalLaws.{decimal-one}
 use Rattle.text_write.proofs.Written.{decimal-longer}
 use Rattle.picture_rows.specs.Escape.{escaped}
-use Rattle.picture_rows.specs.Rows.{Row}
+use Rattle.script_words.specs.inner.Ends.{between}
+use Rattle.picture_rows.specs.inner.Found.{FirstRow}
+use Rattle.picture_rows.specs.Rows.{Row, row, rows}
+use Rattle.picture_rows.proofs.RowLaws.{row_on}
 use Rattle.picture_labels.specs.Label.{title_of, offset, element_of, letters, elements, number_size, name_size, rows_of, centred, label_of}
 
 -- ---- digits
@@ -85,6 +89,14 @@ module _ (x : ℤ) (y size k : ℕ) where
   pub elements-none : {rs : List Row} → rs ≡ [] → elements x y size k rs ≡ []
   unfolding elements
   elements-none e = rw e
+
+-- the first row of what is left of a name, and those after it
+pub elements-next : (x : ℤ) (y size k cols left : ℕ) (name : List ℕ) (start : ℕ) {end : ℕ} {cut : Bool} {next : ℕ} → FirstRow cols left (between start (length name) name) end cut next
+    → elements x y size k (rows cols left (drop start name))
+    ≡ element_of x y size k (letters (row (take (start + end - start) (drop start name)) cut)) ++ elements x y size (k + 2) (rows cols (left - 1) (drop (start + next) name))
+elements-next x y size k cols left name start {end} f =
+    let e : start + end - start ≡ end = omega arith in
+    rw e (elements-on x y size k (row_on cols left name start f))
 
 pub five : (k : ℕ) → (k ≡ 0 → ⊥) → (k ≡ 1 → ⊥) → (k ≡ 2 → ⊥) → (k ≡ 3 → ⊥) → (k ≡ 4 → ⊥) → 5 ≤ k
 five k a b c d e = omega arith

@@ -10,26 +10,19 @@ use picture_rows::escape::put_escaped;
 use text_write::number::put_word;
 
 // The place of a row.
+#[tactic(auto, unfolding(crate::specs::Label::offset))]
 fn put_offset(out: &mut [u8], at: usize, k: u32) -> usize
     requires { Room (offset k) out.old at }
     ensures { Wrote (offset k) out.old at result out.new }
 {
-    if k == 0 {
-        return put_word(out, at, b"-.85");
+    match k {
+        0 => put_word(out, at, b"-.85"),
+        1 => put_word(out, at, b"-.25"),
+        2 => put_word(out, at, b".35"),
+        3 => put_word(out, at, b".95"),
+        4 => put_word(out, at, b"1.55"),
+        _ => at,
     }
-    if k == 1 {
-        return put_word(out, at, b"-.25");
-    }
-    if k == 2 {
-        return put_word(out, at, b".35");
-    }
-    if k == 3 {
-        return put_word(out, at, b".95");
-    }
-    if k == 4 {
-        return put_word(out, at, b"1.55");
-    }
-    at
 }
 
 // What stands before the letters.

@@ -18,7 +18,7 @@ pub fn put_title(out: &mut [u8], at: usize, number: u32, name: &[u8]) -> usize
     requires { Room (title_of number name.now) out.old at }
     ensures { Wrote (title_of number name.now) out.old at result out.new }
 {
-    if name.len() == 0 {
+    if name.is_empty() {
         return put_decimal(out, at, number as u64);
     }
     let next = put_then(out, at, number as u64, b" ");
@@ -41,18 +41,15 @@ fn put_rows(
 {
     let mut at = from;
     let mut start: usize = 0;
-    let mut left: u32 = 3;
-    let mut k = first;
-    while left > 0 {
+    for count in 0..3 {
         if name.len() <= start {
             return at;
         }
-        let r = first_row(&name[start..], cols, left);
+        let r = first_row(&name[start..], cols, 3 - count);
         let end = start + r.end;
+        let k = first + 2 * count;
         at = put_row(out, at, x, y, size, k, &name[start..end], r.cut);
         start += r.next;
-        left -= 1;
-        k += 2;
     }
     at
 }
@@ -100,7 +97,7 @@ pub fn put_label(
     requires { InLimits x y hw measure number × Room (label_of x y hw measure number name.now) out.old at }
     ensures { Wrote (label_of x y hw measure number name.now) out.old at result out.new }
 {
-    if name.len() == 0 {
+    if name.is_empty() {
         return put_number(out, at, x, y, hw, measure, number);
     }
     put_name(out, at, x, y, hw, measure, name)

@@ -6,12 +6,6 @@ ghost use Rattle.picture_labels.specs.Label.{number_size, name_size, columns_in}
 
 use picture_rows::columns::widest;
 
-fn lesser(a: u64, b: u64) -> u64
-    ensures { result ≡ min a b }
-{
-    if b < a { b } else { a }
-}
-
 // How many digits a number has.
 fn digits(n: u32) -> u64
     requires { n < 10000 }
@@ -34,28 +28,21 @@ pub fn number_size(hw: u16, measure: u32, number: u32) -> u64
     requires { number < 10000 }
     ensures { result ≡ number_size hw measure number }
 {
-    lesser(200 * measure as u64, 3000 * hw as u64 / digits(number))
+    (200 * measure as u64).min(3000 * hw as u64 / digits(number))
 }
 
 // The columns of the widest word, at least 1 and at most 12.
 fn asked(name: &[u8]) -> u64
     ensures { (result ≡ max 1 (min 12 (rows.widest name.now))) × (1 ≤ result) × (result ≤ 12) }
 {
-    let wide = widest(name);
-    if wide < 1 {
-        return 1;
-    }
-    if 12 < wide {
-        return 12;
-    }
-    wide as u64
+    widest(name).clamp(1, 12) as u64
 }
 
 // The height of a name's letters.
 pub fn name_size(hw: u16, measure: u32, name: &[u8]) -> u64
     ensures { result ≡ name_size hw measure name.now }
 {
-    lesser(100 * measure as u64, 3000 * hw as u64 / asked(name))
+    (100 * measure as u64).min(3000 * hw as u64 / asked(name))
 }
 
 // The columns of a row.

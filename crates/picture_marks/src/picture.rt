@@ -35,23 +35,11 @@ pub fn put_picture(
         out.old 0 result out.new }
 {
     let mut height = [0u64; Plan::MAX_VERTICES];
-    let v = vias.len();
-    heights(spacing, sizes, &mut height[..v]);
+    let height = &mut height[..vias.len()];
+    heights(spacing, sizes, height);
     let u = measure(gap, spacing, halves);
     let high = spacing as u64 * (sizes.len() - 1) as u64 + u as u64;
     put_document(
-        out,
-        u,
-        high,
-        &height[..v],
-        vias,
-        halves,
-        uppers,
-        lowers,
-        ratings,
-        finals,
-        names,
-        starts,
-        ends,
+        out, u, high, height, vias, halves, uppers, lowers, ratings, finals, names, starts, ends,
     )
 }

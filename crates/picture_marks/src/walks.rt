@@ -7,7 +7,6 @@ ghost use Rattle.picture_names.specs.inner.Indexed.{name_at};
 ghost use Rattle.picture_marks.specs.inner.Listed.{Stands, line_between, lines_in, LinesAsked, vertex_bend, bends_in, BendsAsked, vertex_box, boxes_in, BoxesAsked};
 
 use picture_elements::elements::{put_bend, put_box, put_line};
-use plan::numbers::wide;
 
 // The line with this rating from vertex a down to vertex b.
 fn put_segment(
@@ -46,8 +45,7 @@ pub fn put_lines(
         out.old at result out.new }
 {
     let mut next = at;
-    let mut k: usize = 0;
-    while k < uppers.len() {
+    for (k, upper) in uppers.iter().enumerate() {
         next = put_segment(
             out,
             next,
@@ -55,10 +53,9 @@ pub fn put_lines(
             ratings[k],
             heights,
             finals,
-            wide(uppers[k]),
-            wide(lowers[k]),
+            *upper as usize,
+            lowers[k] as usize,
         );
-        k += 1;
     }
     next
 }
@@ -95,10 +92,8 @@ pub fn put_bends(
     ensures { Wrote (bends_in measure heights.now vias.now finals.now) out.old at result out.new }
 {
     let mut next = at;
-    let mut v: usize = 0;
-    while v < vias.len() {
+    for v in 0..vias.len() {
         next = put_via(out, next, measure, heights, vias, finals, v);
-        v += 1;
     }
     next
 }
@@ -125,8 +120,8 @@ fn put_boxed(
     if vias[v] {
         return at;
     }
-    let from = wide(starts[v]);
-    let to = wide(ends[v]);
+    let from = starts[v] as usize;
+    let to = ends[v] as usize;
     put_box(
         out,
         at,
@@ -158,12 +153,10 @@ pub fn put_boxes(
         (name_at names.now starts.now ends.now)) out.old at result out.new }
 {
     let mut next = at;
-    let mut v: usize = 0;
-    while v < vias.len() {
+    for v in 0..vias.len() {
         next = put_boxed(
             out, next, measure, heights, vias, halves, finals, names, starts, ends, v,
         );
-        v += 1;
     }
     next
 }

@@ -8,9 +8,9 @@ use native.Mathlib.Decide.{dec_lt, ℕ_discrete}
 use native.Mathlib.Numerals.{add-one}
 use borrow.Author.Tests.{eq-eqb, ne_eqb, le-leb, lt-leb}
 use lib.Dec.{eqb}
-use lib.ListN.{length, get_or, set, take, drop, replicate, length-take, length-drop, length-set, length-replicate, get_or-replicate, get_or-eq_default}
+use lib.ListN.{length, get_or, set, take, drop, length-take, length-drop, length-set, get_or-eq_default}
 use lib.Seq.{drop-drop, get_or-set_same, get_or-set_other}
-use Rattle.ints.proofs.Lists.{get_or-either, drop-take}
+use Rattle.ints.proofs.Lists.{drop-take}
 use Rattle.ints.proofs.Tests.{and_left}
 use Rattle.text.specs.Bytes.{bytes}
 use Rattle.text.specs.Parser.{Got, got, nothing}
@@ -92,9 +92,6 @@ box-inside vias v e = elim (dec_lt v (length vias)) [
 module _ (vias : List Bool) (v : ℕ) where
   pub box-none : length vias ≤ v → is_box vias v ≡ false
   box-none h = ap not (get_or-eq_default vias true h)
-
-  pub box-is : (t : Bool) → v < length vias → get_or vias v false ≡ t → is_box vias v ≡ not t
-  box-is t h e = ap not (get_or-either vias v true false h ∙ e)
 
 place-empty : (text : List ℕ) (s e : ℕ) → s ≤ e → e ≤ length text → is_empty (take (e - s) (drop s text)) ≡ eqb s e
 place-empty text s e h k = empty-long (take (e - s) (drop s text)) ∙ elim (ℕ_discrete s e) [
@@ -206,23 +203,6 @@ module _ (vias : List Bool) (text : List ℕ) (from to : ℕ) (starts ends : Lis
           (omega (arith, free-inside t)) o i (omega (arith, s.inside, length-take (to - from) (drop from text))));
     }
 
--- ---- no names yet
-pub none-held : (text starts ends : List ℕ) (n m k : ℕ) → starts ≡ replicate m 0 → ends ≡ replicate k 0 → n ≤ m → n ≤ k → HoldsNames text starts ends (replicate n [])
-none-held text starts ends n m k s e ls le = record {
-  names = λ v h. rw (at-start v h, at-end v h) (sym (get_or-replicate n v [] [] (below v h)));
-  ordered = λ v h. rw (at-start v h, at-end v h) (omega arith);
-  inside = λ v h. rw (at-end v h) (omega arith);
-}
-  where
-    below : (v : ℕ) → v < length (replicate {A = List ℕ} n []) → v < n
-    below v h = omega (arith, h, length-replicate {A = List ℕ} n [])
-
-    at-start : (v : ℕ) → v < length (replicate {A = List ℕ} n []) → get_or starts v 0 ≡ 0
-    at-start v h = ap (λ (l : List ℕ). get_or l v 0) s ∙ get_or-replicate m v 0 0 (omega (arith, below v h))
-
-    at-end : (v : ℕ) → v < length (replicate {A = List ℕ} n []) → get_or ends v 0 ≡ 0
-    at-end v h = ap (λ (l : List ℕ). get_or l v 0) e ∙ get_or-replicate k v 0 0 (omega (arith, below v h))
-
 -- ---- between two lines: the names so far, and what the lines from here on give
 pub record SoFar (vias : List Bool) (text starts ends : List ℕ) (from line : ℕ) : Type 0 where
   pub names : List (List ℕ)
@@ -231,9 +211,6 @@ pub record SoFar (vias : List Bool) (text starts ends : List ℕ) (from line : �
   pub rest : lines_named vias text ≡ names_from line vias names (parts 10 (drop from text))
 
 module _ (vias : List Bool) (text starts ends : List ℕ) where
-  pub nothing_read : HoldsNames text starts ends (replicate (length vias) []) → SoFar vias text starts ends 0 1
-  nothing_read h = record { names = replicate (length vias) []; count = length-replicate (length vias) []; holds = h; rest = refl }
-
   refused-here : (n : Names) (line : ℕ) → n ≡ bad line → Indexed n text starts ends (Bad line)
   refused-here n line e = record { answer = sym (ap answer_of e); holds = λ l q. absurd (other l q) }
     where

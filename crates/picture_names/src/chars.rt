@@ -6,85 +6,64 @@ ghost use Rattle.picture_names.specs.Chars.{begun_four, begun_wide, is_name, is_
 use crate::types::Seen;
 
 // First bytes of four.
+#[tactic(auto, unfolding(crate::specs::Chars::begun_four))]
 fn begun_four(b: u8) -> Seen
     ensures { result ≡ begun_four b }
 {
-    if b <= 0xF0 {
-        return Seen::AfterF0;
+    match b {
+        0..=0xF0 => Seen::AfterF0,
+        0xF1..=0xF3 => Seen::Three,
+        0xF4 => Seen::AfterF4,
+        _ => Seen::Bad,
     }
-    if b <= 0xF3 {
-        return Seen::Three;
-    }
-    if b <= 0xF4 {
-        return Seen::AfterF4;
-    }
-    Seen::Bad
 }
 
 // First bytes of three or four.
+#[tactic(auto, unfolding(crate::specs::Chars::begun_wide))]
 fn begun_wide(b: u8) -> Seen
     ensures { result ≡ begun_wide b }
 {
-    if b <= 0xE0 {
-        return Seen::AfterE0;
+    match b {
+        0..=0xE0 => Seen::AfterE0,
+        0xE1..=0xEC => Seen::Two,
+        0xED => Seen::AfterED,
+        0xEE => Seen::Two,
+        0xEF => Seen::AfterEF,
+        _ => begun_four(b),
     }
-    if b <= 0xEC {
-        return Seen::Two;
-    }
-    if b <= 0xED {
-        return Seen::AfterED;
-    }
-    if b <= 0xEE {
-        return Seen::Two;
-    }
-    if b <= 0xEF {
-        return Seen::AfterEF;
-    }
-    begun_four(b)
 }
 
 // A character's first byte.
+#[tactic(auto, unfolding(crate::specs::Chars::begun))]
 fn begun(b: u8) -> Seen
     ensures { result ≡ spec.begun b }
 {
-    if b <= 0x20 {
-        return Seen::Bad;
+    match b {
+        0..=0x20 => Seen::Bad,
+        0x21..=0x7E => Seen::Inside,
+        0x7F..=0xC1 => Seen::Bad,
+        0xC2..=0xDF => Seen::One,
+        _ => begun_wide(b),
     }
-    if b <= 0x7E {
-        return Seen::Inside;
-    }
-    if b <= 0xC1 {
-        return Seen::Bad;
-    }
-    if b <= 0xDF {
-        return Seen::One;
-    }
-    begun_wide(b)
 }
 
 // A byte from lo to hi.
+#[tactic(auto, unfolding(crate::specs::Chars::ranged))]
 fn ranged(lo: u8, hi: u8, b: u8, next: Seen) -> Seen
     ensures { result ≡ spec.ranged lo hi b next }
 {
-    if b < lo {
-        return Seen::Bad;
-    }
-    if hi < b {
-        return Seen::Bad;
-    }
-    next
+    if lo <= b && b <= hi { next } else { Seen::Bad }
 }
 
 // After a character that is no space.
+#[tactic(auto, unfolding(crate::specs::Chars::seen_more))]
 fn within_word(b: u8) -> Seen
     ensures { result ≡ seen_more Seen.Inside b }
 {
-    if b == b' ' {
-        return Seen::Start;
-    }
-    begun(b)
+    if b == b' ' { Seen::Start } else { begun(b) }
 }
 
+#[tactic(auto, unfolding(crate::specs::Chars::seen_more))]
 fn after_ef(b: u8) -> Seen
     ensures { result ≡ seen_more Seen.AfterEF b }
 {
@@ -95,6 +74,7 @@ fn after_ef(b: u8) -> Seen
 }
 
 // One byte more.
+#[tactic(auto, unfolding(crate::specs::Chars::seen_more))]
 fn more(s: Seen, b: u8) -> Seen
     ensures { result ≡ seen_more s b }
 {
@@ -117,30 +97,11 @@ fn more(s: Seen, b: u8) -> Seen
 fn is_whole(s: Seen) -> bool
     ensures { result ≡ is_whole s }
 {
-    match s {
-        Seen::Start => false,
-        Seen::Inside => true,
-        Seen::One => false,
-        Seen::Two => false,
-        Seen::Three => false,
-        Seen::AfterE0 => false,
-        Seen::AfterED => false,
-        Seen::AfterEF => false,
-        Seen::AfterEFBF => false,
-        Seen::AfterF0 => false,
-        Seen::AfterF4 => false,
-        Seen::Bad => false,
-    }
+    matches!(s, Seen::Inside)
 }
 
 pub fn is_name(name: &[u8]) -> bool
     ensures { result ≡ is_name name.now }
 {
-    let mut s = Seen::Start;
-    let mut i: usize = 0;
-    while i < name.len() {
-        s = more(s, name[i]);
-        i += 1;
-    }
-    is_whole(s)
+    is_whole(name.iter().fold(Seen::Start, |s, b| more(s, *b)))
 }

@@ -7,17 +7,6 @@ use crate::line::read_line;
 use crate::types::NamesAnswer;
 use script_words::parts::end_of;
 
-// No places.
-fn clear(a: &mut [u32])
-    ensures { a.new ≡ replicate (length a.old) 0 }
-{
-    let mut i: usize = 0;
-    while i < a.len() {
-        a[i] = 0;
-        i += 1;
-    }
-}
-
 // Whether vertex v is a box without a name.
 fn is_free(vias: &[bool], starts: &[u32], ends: &[u32], v: usize) -> bool
     requires { (length vias.now ≤ length starts.now) × (length vias.now ≤ length ends.now) }
@@ -91,7 +80,8 @@ pub fn index_names(names: &[u8], vias: &[bool], starts: &mut [u32], ends: &mut [
     if names.len() > 65536 {
         return NamesAnswer::Bad(0);
     }
-    clear(starts);
-    clear(ends);
+    // No vertex has a place.
+    starts.fill(0);
+    ends.fill(0);
     index_lines(names, vias, starts, ends)
 }

@@ -5,12 +5,11 @@ use mathlib.Core.List.{List, [], ◌∷◌, ◌++◌, map}
 use Prim.Native.Nat.{ℕ, suc, ◌+◌, ◌≤◌, ◌<◌, max}
 use native.Mathlib.Omega.{arith}
 use native.Mathlib.Numerals.{add-one}
-use borrow.Author.Tests.{lt-ltb, le-ltb, eq-eqb, ne_eqb, eqb-true, eqb-false}
+use borrow.Author.Tests.{lt-ltb, le-ltb, eq-eqb, ne_eqb}
 use lib.Dec.{eqb}
 use lib.ListN.{length, get_or, take, drop, drop_of_length-le}
 use lib.Seq.{drop-cons, take-suc}
 use Rattle.ints.specs.Lists.{sum, greatest}
-use Rattle.ints.proofs.Tests.{test}
 use Rattle.script_words.specs.Parts.{parts, onto}
 use Rattle.picture_rows.specs.Rows.{columns_of, columns, widest}
 
@@ -18,10 +17,6 @@ module _ (b : ℕ) where
   pub col-ascii : b < 0x80 → columns_of b ≡ 1
   unfolding columns_of
   col-ascii h = rw (lt-ltb b 0x80 h)
-
-  pub col-later : 0x80 ≤ b → b < 0xC0 → columns_of b ≡ 0
-  unfolding columns_of
-  col-later h k = rw (le-ltb b 0x80 h, lt-ltb b 0xC0 k)
 
   pub col-two : 0xC0 ≤ b → b < 0xE0 → columns_of b ≡ 1
   unfolding columns_of
@@ -74,19 +69,15 @@ module _ (s : List ℕ) (i most w : ℕ) where
   sofar = max most (after w (parts 32 (drop i s)))
 
 module _ (s : List ℕ) (i most w : ℕ) where
-  at-space : i < length s → get_or s i 0 ≡ 32 → sofar s i most w ≡ sofar s (i + 1) (max most w) 0
+  pub at-space : i < length s → get_or s i 0 ≡ 32 → sofar s i most w ≡ sofar s (i + 1) (max most w) 0
   unfolding parts
   at-space h e =
       rw (add-one, drop-cons s i 0 h, eq-eqb (get_or s i 0) 32 e)
       (omega (arith, after_none 32 (drop (suc i) s), columns-none))
 
-  at_byte : i < length s → (get_or s i 0 ≡ 32 → ⊥) → sofar s i most w ≡ sofar s (i + 1) most (w + columns_of (get_or s i 0))
+  pub at_byte : i < length s → (get_or s i 0 ≡ 32 → ⊥) → sofar s i most w ≡ sofar s (i + 1) most (w + columns_of (get_or s i 0))
   unfolding parts
   at_byte h n = rw (add-one, drop-cons s i 0 h, ne_eqb (get_or s i 0) 32 n) (ap (max most) (after-onto w (get_or s i 0) (parts 32 (drop (suc i) s))))
-
-  pub widest-on : i < length s → let t = eqb (get_or s i 0) 32 in
-      sofar s i most w ≡ sofar s (i + 1) (cond t (max most w) most) (cond t 0 (w + columns_of (get_or s i 0)))
-  widest-on h = test (eqb (get_or s i 0) 32) (λ e. rw e (at-space h (eqb-true (get_or s i 0) 32 e))) (λ e. rw e (at_byte h (eqb-false (get_or s i 0) 32 e)))
 
   pub widest-end : length s ≤ i → sofar s i most w ≡ max most w
   unfolding parts greatest

@@ -5,7 +5,6 @@ use Prim.Native.Nat.{ℕ, ◌+◌, ◌*◌, ◌≤◌, ◌<◌}
 use mathlib.Core.Bool.{cond}
 use native.Mathlib.Omega.{arith}
 use native.Mathlib.Numerals.{add-one}
-use borrow.Author.Tests.{eq-eqb, ne_eqb}
 use lib.Dec.{eqb}
 use lib.ListN.{length, get_or, drop, drop_of_length-le, length-append}
 use lib.Seq.{drop-cons}
@@ -14,22 +13,6 @@ use Rattle.text.specs.Bytes.{bytes}
 use Rattle.picture_rows.specs.Escape.{escaped_byte, escaped}
 
 module _ (b : ℕ) where
-  pub is-and : b ≡ 38 → escaped_byte b ≡ bytes "&amp;"
-  unfolding escaped_byte
-  is-and e = rw (eq-eqb b 38 e)
-
-  pub is-less : (b ≡ 38 → ⊥) → b ≡ 60 → escaped_byte b ≡ bytes "&lt;"
-  unfolding escaped_byte
-  is-less n e = rw (ne_eqb b 38 n, eq-eqb b 60 e)
-
-  pub is_greater : (b ≡ 38 → ⊥) → (b ≡ 60 → ⊥) → b ≡ 62 → escaped_byte b ≡ bytes "&gt;"
-  unfolding escaped_byte
-  is_greater n m e = rw (ne_eqb b 38 n, ne_eqb b 60 m, eq-eqb b 62 e)
-
-  pub is_plain : (b ≡ 38 → ⊥) → (b ≡ 60 → ⊥) → (b ≡ 62 → ⊥) → escaped_byte b ≡ b ∷ []
-  unfolding escaped_byte
-  is_plain n m k = rw (ne_eqb b 38 n, ne_eqb b 60 m, ne_eqb b 62 k)
-
   byte-short : length (escaped_byte b) ≤ 5
   unfolding escaped_byte
   byte-short =

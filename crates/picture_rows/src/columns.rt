@@ -1,9 +1,10 @@
 // How wide names are.
-ghost use Rattle.std.specs.Prelude.{◌≡◌, cond, ◌≤◌, max};
+ghost use Rattle.std.specs.Prelude.{◌≡◌, cond, ◌≤◌};
 ghost use Rattle.picture_rows.specs.Rows as spec;
 ghost use Rattle.picture_rows.specs.Rows.{columns_of};
 
 // Columns of a byte.
+#[tactic(auto, unfolding(crate::specs::Rows::columns_of))]
 pub fn columns_of(b: u8) -> usize
     ensures { (result ≡ columns_of b) × (result ≤ 2) }
 {
@@ -19,12 +20,6 @@ pub fn columns_of(b: u8) -> usize
     2
 }
 
-fn greater(a: usize, b: usize) -> usize
-    ensures { result ≡ max a b }
-{
-    if a < b { b } else { a }
-}
-
 pub fn chosen(test: bool, a: usize, b: usize) -> usize
     ensures { result ≡ cond test a b }
 {
@@ -37,12 +32,13 @@ pub fn widest(name: &[u8]) -> usize
 {
     let mut most: usize = 0;
     let mut wide: usize = 0;
-    let mut i: usize = 0;
-    while i < name.len() {
-        let space = name[i] == b' ';
-        most = chosen(space, greater(most, wide), most);
-        wide = chosen(space, 0, wide + columns_of(name[i]));
-        i += 1;
+    for b in name {
+        if *b == b' ' {
+            most = most.max(wide);
+            wide = 0;
+        } else {
+            wide += columns_of(*b);
+        }
     }
-    greater(most, wide)
+    most.max(wide)
 }

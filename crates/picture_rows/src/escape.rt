@@ -15,6 +15,7 @@ fn put_byte(out: &mut [u8], at: usize, b: u8) -> usize
 }
 
 // A byte.
+#[tactic(auto, unfolding(crate::specs::Escape::escaped_byte))]
 fn put_escaped_byte(out: &mut [u8], at: usize, b: u8) -> usize
     requires { Room (escaped_byte b) out.old at }
     ensures { Wrote (escaped_byte b) out.old at result out.new }
@@ -36,10 +37,8 @@ pub fn put_escaped(out: &mut [u8], from: usize, text: &[u8]) -> usize
     ensures { Wrote (escaped text.now) out.old from result out.new }
 {
     let mut at = from;
-    let mut i: usize = 0;
-    while i < text.len() {
-        at = put_escaped_byte(out, at, text[i]);
-        i += 1;
+    for b in text {
+        at = put_escaped_byte(out, at, *b);
     }
     at
 }

@@ -1,10 +1,10 @@
 // Rows of a name.
-ghost use Rattle.std.specs.Prelude.{◌≡◌, ◌-◌, ◌≤◌, ◌<◌, length, get_or};
+ghost use Rattle.std.specs.Prelude.{◌≡◌, ◌-◌, ◌≤◌, ◌<◌, length};
 ghost use Rattle.picture_rows.specs.Rows as spec;
 ghost use Rattle.picture_rows.specs.Rows.{cut_end, is_whole};
 ghost use Rattle.picture_rows.specs.inner.Found.{stops, FirstRow};
 
-use crate::columns::{chosen, columns_of};
+use crate::columns::columns_of;
 use script_words::parts::end_of;
 
 // A row of a name: where it ends, whether it is cut, and where what comes after it begins.
@@ -15,24 +15,11 @@ pub struct Row {
     pub next: usize,
 }
 
-// The byte at a position; behind a name stands a space.
-fn byte_at(name: &[u8], at: usize) -> u8
-    ensures { result ≡ get_or name.now at 32 }
-{
-    if at < name.len() {
-        return name[at];
-    }
-    b' '
-}
-
 // Whether a front can end before a byte: before spaces alone, or before every character.
 fn is_stop(words: bool, b: u8) -> bool
     ensures { result ≡ stops words b }
 {
-    if words {
-        return b == b' ';
-    }
-    0 < columns_of(b)
+    if words { b == b' ' } else { 0 < columns_of(b) }
 }
 
 // The end of the longest front of at most so many columns; 0 if there is none.
@@ -41,12 +28,13 @@ fn longest(name: &[u8], words: bool, most: usize) -> usize
 {
     let mut end: usize = 0;
     let mut wide: usize = 0;
-    let mut i: usize = 0;
-    while i < name.len() {
-        wide += columns_of(name[i]);
-        i += 1;
-        let stop = is_stop(words, byte_at(name, i));
-        end = chosen(stop, chosen(wide <= most, i, end), end);
+    for (i, b) in name.iter().enumerate() {
+        wide += columns_of(*b);
+        // Behind a name stands a space.
+        let next = name.get(i + 1).copied().unwrap_or(b' ');
+        if is_stop(words, next) && wide <= most {
+            end = i + 1;
+        }
     }
     end
 }
@@ -91,7 +79,7 @@ pub fn first_row(name: &[u8], cols: usize, left: u32) -> Row
         };
     }
     let word = end_of(name, b' ', 0);
-    let room = chosen(left == 1, name.len(), word);
+    let room = if left == 1 { name.len() } else { word };
     Row {
         end: cut_end(&name[..room], cols - 1),
         cut: true,
@@ -105,14 +93,11 @@ pub fn count_rows(name: &[u8], cols: usize, most: u32) -> u32
     ensures { result ≡ length (spec.rows cols most name.now) }
 {
     let mut start: usize = 0;
-    let mut left = most;
-    while left > 0 {
+    for count in 0..most {
         if name.len() <= start {
-            return most - left;
+            return count;
         }
-        let r = first_row(&name[start..], cols, left);
-        start += r.next;
-        left -= 1;
+        start += first_row(&name[start..], cols, most - count).next;
     }
-    most - left
+    most
 }

@@ -1,13 +1,14 @@
 -- The greatest number of a list and the extremes of integers, as loops find them; that they are extremes, and how large they are.
 -- Assumes nothing.
-use mathlib.Core.Path.{◌≡◌}
+use mathlib.Core.Path.{◌≡◌, refl}
 use mathlib.Core.Bool.{Bool, true, false, cond}
 use mathlib.Core.List.{List, [], ◌∷◌, map}
 use Prim.Native.Nat.{ℕ, zero, suc, ◌+◌, ◌-◌, ◌*◌, ◌≤◌, ◌<◌, max}
-use native.Mathlib.Numerals.{add-one}
 use native.Mathlib.Omega.{arith}
-use lib.ListN.{length, get_or, drop, drop_of_length-le}
-use lib.Seq.{drop-cons}
+use Rattle.std.specs.Prelude.{fold}
+use Rattle.std.specs.Option.{unwrap_or}
+use Rattle.std.specs.List.{reduce}
+use lib.ListN.{length, get_or}
 use lib.IntN.{ℤ, pos}
 use lib.Signed.{lt_z}
 use Rattle.ints.specs.Lists.{greatest}
@@ -22,14 +23,15 @@ use Rattle.passes.specs.State.{position_of}
 use Rattle.picture_view.specs.Measure.{left_edge, right_edge, least_of, most_of, leftmost, rightmost}
 
 -- ---- the greatest half-width
-module _ (ns : List ℕ) (i : ℕ) where
-  pub greatest-on : i < length ns → greatest (drop i ns) ≡ max (get_or ns i 0) (greatest (drop (i + 1) ns))
-  unfolding greatest
-  greatest-on h = rw (add-one i, drop-cons ns i 0 h)
+greatest-past : (n : ℕ) (ns : List ℕ) → fold max n ns ≡ max n (greatest ns)
+unfolding greatest
+greatest-past n [] = omega arith
+greatest-past n (m ∷ ns) = omega (arith, greatest-past (max n m) ns)
 
-  pub greatest-end : length ns ≤ i → greatest (drop i ns) ≡ 0
-  unfolding greatest
-  greatest-end h = rw (drop_of_length-le ns h)
+pub greatest_is : (ns : List ℕ) → unwrap_or (reduce max ns) 0 ≡ greatest ns
+unfolding greatest
+greatest_is [] = refl
+greatest_is (n ∷ ns) = greatest-past n ns
 
 pub greatest-at : (ns : List ℕ) (i : ℕ) → get_or ns i 0 ≤ greatest ns
 unfolding greatest

@@ -1,36 +1,18 @@
 // How large the parts of a drawing are, and how far it reaches sideways.
-ghost use Rattle.std.specs.Prelude.{◌≡◌, ◌+◌, ◌*◌, ◌≤◌, min, max, pos, ◌+ℤ◌, ◌-ℤ◌};
+ghost use Rattle.std.specs.Prelude.{◌≡◌, ◌+◌, ◌*◌, ◌≤◌, min, pos, ◌+ℤ◌, ◌-ℤ◌};
 ghost use Rattle.ints.specs.Lists.{greatest};
 ghost use Rattle.ints.specs.Ints.{size};
 ghost use Rattle.ints.specs.Reach.{reach};
 ghost use Rattle.picture_view.specs.Measure.{leftmost, rightmost};
 ghost use Rattle.picture_view.specs.inner.Edges.{Edged};
 
-use ints::{greater, lesser, minus, plus};
-
-fn wider(a: u16, b: u16) -> u16
-    ensures { result ≡ max a b }
-{
-    if a < b { b } else { a }
-}
+use ints::{minus, plus};
 
 // The greatest half-width.
 fn greatest_half(halves: &[u16]) -> u16
     ensures { result ≡ greatest halves.now }
 {
-    let mut most: u16 = 0;
-    let mut v: usize = 0;
-    while v < halves.len() {
-        most = wider(most, halves[v]);
-        v += 1;
-    }
-    most
-}
-
-fn shorter(a: u32, b: u32) -> u32
-    ensures { result ≡ min a b }
-{
-    if a < b { a } else { b }
+    halves.iter().copied().max().unwrap_or(0)
 }
 
 // u, the lesser of the spacing and the gap with twice the greatest half-width.
@@ -38,7 +20,7 @@ pub fn measure(gap: u32, spacing: u32, halves: &[u16]) -> u32
     requires { gap ≤ 100 }
     ensures { result ≡ min spacing (gap + 2 * greatest halves.now) }
 {
-    shorter(spacing, gap + 2 * greatest_half(halves) as u32)
+    spacing.min(gap + 2 * greatest_half(halves) as u32)
 }
 
 // The left edge of a vertex, in half steps.
@@ -62,10 +44,8 @@ pub fn left_end(halves: &[u16], finals: &[i64]) -> i64
     ensures { result ≡ leftmost halves.now finals.now }
 {
     let mut least = left_edge(finals[0], halves[0]);
-    let mut v: usize = 0;
-    while v < finals.len() {
-        least = lesser(least, left_edge(finals[v], halves[v]));
-        v += 1;
+    for (v, x) in finals.iter().enumerate() {
+        least = least.min(left_edge(*x, halves[v]));
     }
     least
 }
@@ -76,10 +56,8 @@ pub fn right_end(halves: &[u16], finals: &[i64]) -> i64
     ensures { result ≡ rightmost halves.now finals.now }
 {
     let mut most = right_edge(finals[0], halves[0]);
-    let mut v: usize = 0;
-    while v < finals.len() {
-        most = greater(most, right_edge(finals[v], halves[v]));
-        v += 1;
+    for (v, x) in finals.iter().enumerate() {
+        most = most.max(right_edge(*x, halves[v]));
     }
     most
 }

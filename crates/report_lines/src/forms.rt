@@ -57,10 +57,8 @@ fn put_boxes(out: &mut [u8], from: usize, vertices: &[u16], positions: &[i64]) -
     ensures { Wrote (box_words (boxes_with vertices.now positions.now)) out.old from result out.new }
 {
     let mut at = from;
-    let mut i: usize = 0;
-    while i < vertices.len() {
-        at = put_box(out, at, vertices[i], positions[i]);
-        i += 1;
+    for (i, vertex) in vertices.iter().enumerate() {
+        at = put_box(out, at, *vertex, positions[i]);
     }
     at
 }

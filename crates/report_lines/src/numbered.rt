@@ -5,7 +5,7 @@ ghost use Rattle.report.specs.Lines.{place_line};
 ghost use Rattle.report_lines.specs.inner.Stored.{height_in, placing_of, vertex_line, VertexRoom, AtLineRoom, PlacingRoom, report_line_of, LineRoom};
 
 use crate::forms::{put_at, put_drawing, put_placing};
-use ints::{total, wide};
+use ints::total;
 use plan::data::Plan;
 use plan_checks::levels::heights;
 use text_write::number::put_word;
@@ -39,9 +39,9 @@ fn put_at_line(
     ensures { Wrote (vertex_line preliminary.now finals.now v (height_at spacing sizes.now v)) out.old at result out.new }
 {
     let mut height = [0u64; Plan::MAX_VERTICES];
-    let n = preliminary.len();
-    heights(spacing, sizes, &mut height[..n]);
-    put_vertex(out, at, &height[..n], preliminary, finals, v)
+    let height = &mut height[..preliminary.len()];
+    heights(spacing, sizes, height);
+    put_vertex(out, at, height, preliminary, finals, v)
 }
 
 // The line of the k-th placing, whose boxes start at `start`.
@@ -60,7 +60,7 @@ pub fn put_listed(
     ensures { Wrote (place_line (placing_of passes.now levels.now counts.now vertices.now positions.now k start))
         out.old at result out.new }
 {
-    let end = start + wide(counts[k]);
+    let end = start + usize::from(counts[k]);
     put_placing(
         out,
         at,

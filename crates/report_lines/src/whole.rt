@@ -8,7 +8,6 @@ ghost use Rattle.report_lines.specs.inner.Stored.{height_in, all_vertex_lines, V
 
 use crate::forms::put_drawing;
 use crate::numbered::{put_listed, put_vertex};
-use ints::wide;
 use plan::data::Plan;
 use plan_checks::levels::heights;
 use text_write::number::put_word;
@@ -25,10 +24,8 @@ fn put_vertices(
     ensures { Wrote (all_vertex_lines preliminary.now finals.now (height_in heights.now)) out.old from result out.new }
 {
     let mut at = from;
-    let mut n: usize = 0;
-    while n < preliminary.len() {
+    for n in 0..preliminary.len() {
         at = put_vertex(out, at, heights, preliminary, finals, n);
-        n += 1;
     }
     at
 }
@@ -46,9 +43,9 @@ fn put_at_lines(
     ensures { Wrote (all_vertex_lines preliminary.now finals.now (height_at spacing sizes.now)) out.old at result out.new }
 {
     let mut height = [0u64; Plan::MAX_VERTICES];
-    let n = preliminary.len();
-    heights(spacing, sizes, &mut height[..n]);
-    put_vertices(out, at, &height[..n], preliminary, finals)
+    let height = &mut height[..preliminary.len()];
+    heights(spacing, sizes, height);
+    put_vertices(out, at, height, preliminary, finals)
 }
 
 // The placings' lines.
@@ -67,13 +64,11 @@ fn put_placings(
 {
     let mut at = from;
     let mut start: usize = 0;
-    let mut k: usize = 0;
-    while k < passes.len() {
+    for (k, count) in counts.iter().enumerate() {
         at = put_listed(
             out, at, passes, levels, counts, vertices, positions, k, start,
         );
-        start += wide(counts[k]);
-        k += 1;
+        start += usize::from(*count);
     }
     at
 }

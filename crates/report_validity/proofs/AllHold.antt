@@ -1,40 +1,51 @@
 -- Walks over lists: a test or a sum of the whole list, and of what is left of it after the first i.
 use mathlib.Core.Path.{◌≡◌, refl}
-use mathlib.Core.Bool.{Bool, true, false}
+use mathlib.Core.Bool.{Bool, true, false, false≢true}
 use mathlib.Core.List.{List, [], ◌∷◌}
-use Prim.Native.Nat.{ℕ, ◌+◌, ◌≤◌, ◌<◌}
+use Prim.Native.Nat.{ℕ, ◌<◌}
 use native.Mathlib.Omega.{arith}
-use native.Mathlib.Numerals.{add-one}
-use lib.ListN.{length, get_or, drop, drop_of_length-le}
-use lib.Seq.{drop-cons}
+use lib.ListN.{length, get_or}
+use Rattle.std.proofs.Common.{IsTrue, EachIndex, ◌↔◌, zero, suc}
+use Rattle.ints.proofs.Tests.{cond-left, cond-right}
+use Rattle.report_validity.proofs.RunTests.{both_ways}
 use Rattle.plan.specs.Checks.{every}
 use Rattle.plan.specs.Acceptable.{half_holds, halves_hold}
 
-module _ (t : ℕ → Bool) (xs : List ℕ) (i : ℕ) where
-  pub all-on : i < length xs → t (get_or xs i 0) ≡ true → every t (drop i xs) ≡ every t (drop (i + 1) xs)
+-- an `all` that tests each element, by its place
+module _ (t : ℕ → Bool) where
+  every-at : (xs : List ℕ) → every t xs ≡ true → (k : ℕ) → k < length xs → t (get_or xs k 0) ≡ true
   unfolding every
-  all-on h e = rw (add-one, drop-cons xs i 0 h, e)
+  every-at [] e k h = absurd (omega arith)
+  every-at (x ∷ xs) e zero h = cond-left (t x) (every t xs) e
+  every-at (x ∷ xs) e (suc k) h = every-at xs (cond-right (t x) (every t xs) e) k (omega arith)
 
-  pub all-stop : i < length xs → t (get_or xs i 0) ≡ false → every t (drop i xs) ≡ false
+  every-of : (xs : List ℕ) → ((k : ℕ) → k < length xs → t (get_or xs k 0) ≡ true) → every t xs ≡ true
   unfolding every
-  all-stop h e = rw (drop-cons xs i 0 h, e)
+  every-of [] f = refl
+  every-of (x ∷ xs) f = rw (f 0 (omega arith), every-of xs (λ k h. f (suc k) (omega arith)))
 
-  pub all_end : length xs ≤ i → every t (drop i xs) ≡ true
-  unfolding every
-  all_end h = rw (drop_of_length-le xs h)
+  pub every_is : (xs : List ℕ) (b : Bool) → (IsTrue b ↔ EachIndex xs (λ k. t (get_or xs k 0) ≡ true)) → b ≡ every t xs
+  every_is xs b e = both_ways b (every t xs) (λ h. every-of xs (e.0 h)) (λ h. e.1 (every-at xs h))
 
-module _ (vias : List Bool) (halves : List ℕ) (i : ℕ) (e : length vias ≡ length halves) where
-  pub halves-on : i < length vias → half_holds (get_or vias i false) (get_or halves i 0) ≡ true → halves_hold (drop i vias) (drop i halves) ≡ halves_hold (drop (i + 1) vias) (drop (i + 1) halves)
-  unfolding halves_hold
-  halves-on h t = let k : i < length halves = omega arith in rw (add-one, drop-cons vias i false h, drop-cons halves i 0 k, t)
+-- the same of two lists side by side
+halves-at : (vias : List Bool) (halves : List ℕ) → halves_hold vias halves ≡ true → (k : ℕ) → k < length vias → half_holds (get_or vias k false) (get_or halves k 0) ≡ true
+unfolding halves_hold
+halves-at [] hs e k h = absurd (omega arith)
+halves-at (v ∷ vs) [] e k h = absurd (false≢true e)
+halves-at (v ∷ vs) (x ∷ hs) e zero h = cond-left (half_holds v x) (halves_hold vs hs) e
+halves-at (v ∷ vs) (x ∷ hs) e (suc k) h = halves-at vs hs (cond-right (half_holds v x) (halves_hold vs hs) e) k (omega arith)
 
-  pub halves-stop : i < length vias → half_holds (get_or vias i false) (get_or halves i 0) ≡ false → halves_hold (drop i vias) (drop i halves) ≡ false
-  unfolding halves_hold
-  halves-stop h t = let k : i < length halves = omega arith in rw (drop-cons vias i false h, drop-cons halves i 0 k, t)
+halves-of : (vias : List Bool) (halves : List ℕ) → length vias ≡ length halves
+    → ((k : ℕ) → k < length vias → half_holds (get_or vias k false) (get_or halves k 0) ≡ true) → halves_hold vias halves ≡ true
+unfolding halves_hold
+halves-of [] [] e f = refl
+halves-of [] (x ∷ hs) e f = absurd (omega arith)
+halves-of (v ∷ vs) [] e f = absurd (omega arith)
+halves-of (v ∷ vs) (x ∷ hs) e f = rw (f 0 (omega arith), halves-of vs hs (omega arith) (λ k h. f (suc k) (omega arith)))
 
-  pub halves-end : length vias ≤ i → halves_hold (drop i vias) (drop i halves) ≡ true
-  unfolding halves_hold
-  halves-end h = let k : length halves ≤ i = omega arith in rw (drop_of_length-le vias h, drop_of_length-le halves k)
+pub halves_is : (vias : List Bool) (halves : List ℕ) → length vias ≡ length halves → (b : Bool)
+    → (IsTrue b ↔ EachIndex vias (λ k. half_holds (get_or vias k false) (get_or halves k 0) ≡ true)) → b ≡ halves_hold vias halves
+halves_is vias halves n b e = both_ways b (halves_hold vias halves) (λ h. halves-of vias halves n (e.0 h)) (λ h. e.1 (halves-at vias halves h))
 
 pub halves-apart : (vias : List Bool) (halves : List ℕ) → (length vias ≡ length halves → ⊥) → halves_hold vias halves ≡ false
 unfolding halves_hold

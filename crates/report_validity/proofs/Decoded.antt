@@ -1,11 +1,11 @@
 -- A drawing in arrays, tested part by part: its positions, those listed being as many as the placings have boxes, and each placing.
 -- Assumes nothing.
-use Prim.Native.Nat.{ℕ, suc, ◌+◌, ◌≤◌, ◌<◌}
+use Prim.Native.Nat.{ℕ, suc, ◌+◌, ◌≤◌}
 use mathlib.Core.Path.{◌≡◌, refl, sym, ◌∙◌, ap}
 use mathlib.Core.Bool.{Bool, true, false, cond, ◌&&◌}
 use mathlib.Core.List.{List, [], ◌∷◌, ◌++◌, map, map-append}
 use native.Mathlib.Omega.{arith}
-use borrow.Author.Tests.{le-leb, lt-leb}
+use borrow.Author.Tests.{le-leb}
 use lib.Dec.{eqb, leb}
 use lib.ListN.{length, take, drop, length-map, length-drop}
 use lib.Seq.{take-add, length-take-le}
@@ -103,9 +103,6 @@ placings-are p (q ∷ qs) (l ∷ ls) (c ∷ cs) vs ys e f h k =
 
 -- ---- the whole test
 module _ (p : PlanData) (xs zs : List ℤ) {qs ls cs vs : List ℕ} {ys : List ℤ} (s : StoredList qs ls cs vs ys) where
-  pub many-boxes : max_listed < sum cs → is_stored_drawing p xs zs qs ls cs vs ys ≡ false
-  many-boxes h = rw (lt-leb (sum cs) max_listed h)
-
   pub stored_is : sum cs ≤ max_listed
       → is_stored_drawing p xs zs qs ls cs vs ys ≡ (all_within xs && all_within zs && all_within (take (sum cs) ys) && are_placings p qs ls cs vs)
   unfolding is_drawing drawing_within

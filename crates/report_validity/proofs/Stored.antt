@@ -5,7 +5,7 @@ use mathlib.Core.List.{[], ◌∷◌}
 use Prim.Native.Nat.{ℕ}
 use lib.Dec.{leb}
 use borrow.Author.Tests.{leb-true}
-use Rattle.ints.proofs.Tests.{conj-at, test}
+use Rattle.ints.proofs.Tests.{conj-at}
 use Rattle.plan.specs.Limits.{max_vertices, max_segments}
 use Rattle.plan.specs.Stored.{plan_data}
 use Rattle.plan.specs.Acceptable.{acceptable}

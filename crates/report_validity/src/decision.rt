@@ -11,7 +11,6 @@ ghost use Rattle.report.specs.Refusal13.{is_stored_plan};
 use ints::total;
 use plan::data::Plan;
 use plan::limits::{half_width_fits, numbers_fit, rating_fits};
-use plan::numbers::wide;
 use plan_checks::checks::check_plan;
 
 fn size_holds(n: u16) -> bool
@@ -24,14 +23,7 @@ fn size_holds(n: u16) -> bool
 fn sizes_hold(sizes: &[u16]) -> bool
     ensures { result ≡ every (within 1 max_on_level) sizes.now }
 {
-    let mut i: usize = 0;
-    while i < sizes.len() {
-        if !size_holds(sizes[i]) {
-            return false;
-        }
-        i += 1;
-    }
-    true
+    sizes.iter().all(|n| size_holds(*n))
 }
 
 // A box's half-width is "1 to 200", a via's is 0.
@@ -41,7 +33,7 @@ fn half_holds(via: bool, half: u16) -> bool
     if via {
         half == 0
     } else {
-        half_width_fits(half as u32)
+        half_width_fits(u32::from(half))
     }
 }
 
@@ -49,31 +41,18 @@ fn half_holds(via: bool, half: u16) -> bool
 fn halves_hold(vias: &[bool], halves: &[u16]) -> bool
     ensures { result ≡ halves_hold vias.now halves.now }
 {
-    if vias.len() != halves.len() {
-        return false;
-    }
-    let mut v: usize = 0;
-    while v < vias.len() {
-        if !half_holds(vias[v], halves[v]) {
-            return false;
-        }
-        v += 1;
-    }
-    true
+    vias.len() == halves.len()
+        && vias
+            .iter()
+            .zip(halves)
+            .all(|(via, half)| half_holds(*via, *half))
 }
 
 // Each rating is from 1 to 100.
 fn ratings_hold(ratings: &[u32]) -> bool
     ensures { result ≡ all_ratings ratings.now }
 {
-    let mut i: usize = 0;
-    while i < ratings.len() {
-        if !rating_fits(1, ratings[i]) {
-            return false;
-        }
-        i += 1;
-    }
-    true
+    ratings.iter().all(|w| rating_fits(1, *w))
 }
 
 // Every number and count is within its limit, and the counts agree.
@@ -94,7 +73,7 @@ fn limits_hold(
     if !numbers_fit(levels, gap, spacing) {
         return false;
     }
-    if sizes.len() != wide(levels) {
+    if sizes.len() != levels as usize {
         return false;
     }
     if !sizes_hold(sizes) {
@@ -145,7 +124,7 @@ pub fn is_acceptable(
 pub fn is_plan_of_text(plan: Plan, vertices: usize, segments: usize) -> bool
     ensures { result ≡ is_stored_plan plan vertices segments }
 {
-    let k = wide(plan.levels);
+    let k = plan.levels as usize;
     if Plan::MAX_LEVELS < k {
         return false;
     }

@@ -7,7 +7,6 @@ ghost use Rattle.report_validity.specs.inner.Stored.{OfPlan, StoredLevels};
 ghost use Rattle.report_validity.specs.inner.Tests.{is_run_on, are_placings};
 
 use crate::runs::is_run;
-use ints::wide;
 
 // "a listed pass other than 1 to 3"
 fn is_pass(q: u16) -> bool
@@ -23,7 +22,7 @@ fn is_placing(sizes: &[u16], vias: &[bool], pass: u16, level: u16, boxes: &[u16]
     if !is_pass(pass) {
         return false;
     }
-    is_run(sizes, vias, wide(level), boxes)
+    is_run(sizes, vias, usize::from(level), boxes)
 }
 
 // The boxes of all placings lie one after another.
@@ -40,14 +39,12 @@ pub fn are_placings(
         → result ≡ are_placings p passes.now levels.now counts.now vertices.now }
 {
     let mut at: usize = 0;
-    let mut i: usize = 0;
-    while i < passes.len() {
-        let end = at + wide(counts[i]);
-        if !is_placing(sizes, vias, passes[i], levels[i], &vertices[at..end]) {
+    for (i, pass) in passes.iter().enumerate() {
+        let end = at + usize::from(counts[i]);
+        if !is_placing(sizes, vias, *pass, levels[i], &vertices[at..end]) {
             return false;
         }
         at = end;
-        i += 1;
     }
     true
 }

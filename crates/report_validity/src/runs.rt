@@ -7,7 +7,6 @@ ghost use Rattle.report.specs.Refusal13.{same_numbers};
 ghost use Rattle.report_validity.specs.inner.Stored.{OfPlan, StoredLevels};
 ghost use Rattle.report_validity.specs.inner.Tests.{starts_run, is_whole, is_run_on};
 
-use ints::wide;
 use pass_tables::runs::run_end;
 
 // How many vertices stand on the first n levels.
@@ -15,13 +14,7 @@ fn vertices_before(sizes: &[u16], n: usize) -> usize
     requires { (n ≤ length sizes.now) × (sum sizes.now ≤ max_vertices) }
     ensures { result ≡ sum (take n sizes.now) }
 {
-    let mut v: usize = 0;
-    let mut i: usize = 0;
-    while i < n {
-        v += wide(sizes[i]);
-        i += 1;
-    }
-    v
+    sizes[..n].iter().map(|s| usize::from(*s)).sum()
 }
 
 // Whether these vertices are first, first + 1 and so on.
@@ -29,24 +22,17 @@ fn is_stretch(boxes: &[u16], first: usize) -> bool
     requires { first + length boxes.now ≤ max_vertices }
     ensures { result ≡ same_numbers boxes.now (numbers first (length boxes.now)) }
 {
-    let mut i: usize = 0;
-    while i < boxes.len() {
-        if wide(boxes[i]) != first + i {
-            return false;
-        }
-        i += 1;
-    }
-    true
+    boxes
+        .iter()
+        .enumerate()
+        .all(|(i, b)| usize::from(*b) == first + i)
 }
 
 fn starts_run(vias: &[bool], start: usize, first: usize) -> bool
     requires { (start ≤ first) × (first < length vias.now) }
     ensures { result ≡ starts_run vias.now start first }
 {
-    if first == start {
-        return true;
-    }
-    vias[first - 1]
+    first == start || vias[first - 1]
 }
 
 // Whether a run with `count` boxes starts at `first`, on a level from `start` up to `to`.
@@ -71,7 +57,7 @@ pub fn is_run(sizes: &[u16], vias: &[bool], level: usize, boxes: &[u16]) -> bool
     requires { StoredLevels sizes.now vias.now }
     ensures { (p : PlanData) → OfPlan p sizes.now vias.now → result ≡ is_run_on p level boxes.now }
 {
-    if boxes.len() == 0 {
+    if boxes.is_empty() {
         return false;
     }
     if level == 0 {
@@ -81,8 +67,8 @@ pub fn is_run(sizes: &[u16], vias: &[bool], level: usize, boxes: &[u16]) -> bool
         return false;
     }
     let start = vertices_before(sizes, level - 1);
-    let to = start + wide(sizes[level - 1]);
-    let first = wide(boxes[0]);
+    let to = start + usize::from(sizes[level - 1]);
+    let first = usize::from(boxes[0]);
     if !is_whole(vias, start, to, first, boxes.len()) {
         return false;
     }

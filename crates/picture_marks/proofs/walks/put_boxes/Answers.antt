@@ -1,0 +1,22 @@
+use lib.ListN.{length}
+use Rattle.picture_names.specs.inner.Indexed.{name_at}
+use Rattle.picture_marks.specs.inner.Listed.{vertex_box}
+use Rattle.picture_marks.proofs.Walk.{walk_none, walk-room, walk_more}
+use Rattle.picture_marks.proofs.walks.put_boxes.Goals as goal
+
+pub loop-v-init : goal.loop-v-init
+loop-v-init c =
+    let a = c.args in
+    walk_none (vertex_box a.measure a.heights.now a.vias.now a.halves.now a.finals.now (name_at a.names.now a.starts.now a.ends.now)) a.out.now a.at
+
+pub put_boxed-next-requires : goal.put_boxed-next-requires
+put_boxed-next-requires c =
+    let a = c.args in
+    let f = vertex_box a.measure a.heights.now a.vias.now a.halves.now a.finals.now (name_at a.names.now a.starts.now a.ends.now) in
+    (c.requires.0, c.loop-v-test.true, walk-room f c.loop-v.v (length a.vias.now) c.loop-v-test.true c.requires.1 c.loop-v.invariant)
+
+pub loop-v-preserved : goal.loop-v-preserved
+loop-v-preserved c =
+    let a = c.args in
+    let f = vertex_box a.measure a.heights.now a.vias.now a.halves.now a.finals.now (name_at a.names.now a.starts.now a.ends.now) in
+    walk_more f c.loop-v.v c.loop-v.invariant c.put_boxed-next.ensures

@@ -1,0 +1,13 @@
+use Rattle.std.proofs.Common.{sym, ◌∙◌}
+use Rattle.plan.proofs.LimitLaws.{limits}
+use Rattle.report_validity.proofs.Limits.{accept-not, accept-first}
+use Rattle.report_validity.proofs.decision.is_acceptable.Goals as goal
+
+pub returns-then-not-limits_hold : goal.returns-then-not-limits_hold
+returns-then-not-limits_hold c = sym (accept-not _ (sym c.limits_hold.ensures ∙ c.if-not-limits_hold.true))
+
+pub check_plan-requires : goal.check_plan-requires
+check_plan-requires c = (limits _ (sym c.limits_hold.ensures ∙ c.if-not-limits_hold.false)).lists
+
+pub returns : goal.returns
+returns c = accept-first _ _ (sym c.limits_hold.ensures ∙ c.if-not-limits_hold.false) c.check_plan.ensures
