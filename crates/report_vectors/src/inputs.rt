@@ -11,17 +11,15 @@ pub const MOST_BYTES: usize = 65537;
 // What stands for a length where there is no further text.
 pub const NO_MORE: usize = 65538;
 
-fn wide(b: u8) -> usize
-    ensures { result ≤ 255 }
-{
-    b as usize
-}
-
 // n with the digit b after it.
 fn with_digit(n: usize, b: u8) -> usize
     requires { n ≤ 65537 }
 {
-    if b < 48 { n } else { 10 * n + wide(b - 48) }
+    if b < 48 {
+        n
+    } else {
+        10 * n + usize::from(b - 48)
+    }
 }
 
 // The length that the next line says.
@@ -30,8 +28,7 @@ pub fn next_length<R: Read>(input: &mut R) -> io::Result<usize>
 {
     let mut byte = [0u8; 1];
     let mut n: usize = 0;
-    let mut i: usize = 0;
-    while i < 6 {
+    for _ in 0..6 {
         if read_full(input, &mut byte)? == 0 {
             return Ok(NO_MORE);
         }
@@ -42,7 +39,6 @@ pub fn next_length<R: Read>(input: &mut R) -> io::Result<usize>
         if MOST_BYTES < n {
             return Ok(NO_MORE);
         }
-        i += 1;
     }
     Ok(NO_MORE)
 }

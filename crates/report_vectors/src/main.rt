@@ -16,26 +16,11 @@ use text_write::again::{Rewritten, rewrite};
 
 const MOST_TEXTS: usize = 2000;
 
-// Whether a text has n bytes and a buffer begins with them.
-fn begins_with(buffer: &[u8], n: usize, text: &[u8]) -> bool {
-    if n != text.len() || buffer.len() < n {
-        return false;
-    }
-    let mut i: usize = 0;
-    while i < n {
-        if buffer[i] != text[i] {
-            return false;
-        }
-        i += 1;
-    }
-    true
-}
-
 // Whether a text is refused, or written again as it is; the buffer is for that.
 fn written_again(text: &[u8], buffer: &mut [u8]) -> bool {
     let answer = rewrite(text, buffer);
     match answer {
-        Rewritten::Written(n) => begins_with(buffer, n, text),
+        Rewritten::Written(n) => n == text.len() && buffer.starts_with(text),
         Rewritten::Refused(_n) => true,
         Rewritten::Short => false,
     }
@@ -65,12 +50,10 @@ fn main(rt: HostRuntime) -> io::Result<()> {
     let mut output = rt.stdout();
     let mut text = [0u8; MOST_BYTES];
     let mut out = [0u8; MAX_REPORT];
-    let mut i: usize = 0;
-    while i < MOST_TEXTS {
+    for _ in 0..MOST_TEXTS {
         if !answered(&mut input, &mut output, &mut text, &mut out)? {
             return Ok(());
         }
-        i += 1;
     }
     Ok(())
 }

@@ -12,82 +12,55 @@ use std::io;
 use std::io::Write;
 use streams::read_full;
 
-const MAX_SIZE: u64 = 18446744073709551615;
-
-const MAX_POSITION: i64 = 9223372036854775807;
-
 // Where the number after the one at `from` starts.
 fn next(text: &[u8], from: usize) -> usize {
-    let mut at = from;
-    while at < text.len() {
-        let b = text[at];
-        at += 1;
-        if b <= 32 {
-            return at;
+    for at in from..text.len() {
+        if text[at] <= 32 {
+            return at + 1;
         }
     }
-    at
+    from.max(text.len())
 }
 
 // Where the number stands that is n after the one at `from`.
 fn after(text: &[u8], from: usize, n: usize) -> usize {
     let mut at = from;
-    let mut i: usize = 0;
-    while i < n {
+    for _ in 0..n {
         at = next(text, at);
-        i += 1;
     }
     at
 }
 
 // v with the digit b after it.
 fn with_digit(v: u64, b: u8) -> u64 {
-    if b < 48 || 57 < b {
+    if !b.is_ascii_digit() {
         return v;
     }
-    let d = wide(b - 48);
-    if MAX_SIZE / 10 < v {
-        return MAX_SIZE;
-    }
-    let t = v * 10;
-    if MAX_SIZE - t < d { MAX_SIZE } else { t + d }
-}
-
-fn wide(b: u8) -> u64 {
-    b as u64
+    v.saturating_mul(10).saturating_add(u64::from(b - b'0'))
 }
 
 // The number at `from` with no regard to its sign.
 fn size(text: &[u8], from: usize) -> u64 {
-    let mut at = from;
-    let mut v: u64 = 0;
-    while at < text.len() {
-        let b = text[at];
-        if b <= 32 {
+    let mut v = 0;
+    for at in from..text.len() {
+        if text[at] <= 32 {
             return v;
         }
-        v = with_digit(v, b);
-        at += 1;
+        v = with_digit(v, text[at]);
     }
     v
 }
 
 fn is_negative(text: &[u8], from: usize) -> bool {
-    from < text.len() && text[from] == 45
+    text.get(from) == Some(&b'-')
 }
 
 fn position(text: &[u8], from: usize) -> i64 {
     let n = size(text, from);
-    if n < 9223372036854775808 {
-        if is_negative(text, from) {
-            ints::minus(0, n)
-        } else {
-            ints::plus(0, n)
-        }
-    } else if is_negative(text, from) {
-        -1 - MAX_POSITION
+    if is_negative(text, from) {
+        0i64.saturating_sub_unsigned(n)
     } else {
-        MAX_POSITION
+        0i64.saturating_add_unsigned(n)
     }
 }
 
@@ -105,46 +78,26 @@ fn bound(text: &[u8], from: usize) -> Bound {
 fn length_at(text: &[u8], from: usize, most: usize) -> usize
     ensures { result ≤ most }
 {
-    let n = size(text, from);
-    if n < most as u64 { n as usize } else { most }
+    size(text, from).min(most as u64) as usize
 }
 
 // Fills out with the numbers from `from` on, and answers where the next one starts.
 fn positions(text: &[u8], from: usize, out: &mut [i64]) -> usize {
     let mut at = from;
-    let mut i: usize = 0;
-    while i < out.len() {
-        let x = position(text, at);
-        out[i] = x;
+    for x in out.iter_mut() {
+        *x = position(text, at);
         at = next(text, at);
-        i += 1;
     }
     at
 }
 
 fn sizes(text: &[u8], from: usize, out: &mut [u64]) -> usize {
     let mut at = from;
-    let mut i: usize = 0;
-    while i < out.len() {
-        out[i] = size(text, at);
+    for x in out.iter_mut() {
+        *x = size(text, at);
         at = next(text, at);
-        i += 1;
     }
     at
-}
-
-// How far x is from 0.
-fn magnitude(x: i64) -> u64 {
-    if x < 0 { (-1 - x) as u64 + 1 } else { x as u64 }
-}
-
-fn print<W: Write>(output: &mut W, x: i64) -> io::Result<()> {
-    if x < 0 {
-        output.write_all(b" -")?;
-    } else {
-        output.write_all(b" ")?;
-    }
-    write!(output, "{}", magnitude(x))
 }
 
 fn print_outcome<W: Write>(output: &mut W, answer: Answer, buffer: &[i64]) -> io::Result<()> {
@@ -153,7 +106,7 @@ fn print_outcome<W: Write>(output: &mut W, answer: Answer, buffer: &[i64]) -> io
         Answer::Refused => output.write_all(b"8")?,
     }
     for x in buffer {
-        print(output, *x)?;
+        write!(output, " {x}")?;
     }
     output.write_all(b"\n")
 }

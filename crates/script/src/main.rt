@@ -62,7 +62,8 @@ fn print_answers<W: Write>(
         (buffers old.now distances.now counts.now neighbours.now ratings.now))) sheet).said)) }
 {
     let mut kept = sheet;
-    let mut n: usize = 0;
+    let mut n = 0;
+    // No `for n in 0..`: it would have no value at its end, which is never reached.
     loop {
         let one = turn(
             kept, command, text, old, distances, counts, neighbours, ratings, n, buffer,
@@ -119,11 +120,7 @@ fn shift(room: &mut [u8], from: usize, to: usize) -> usize
     ensures { result ≤ length room.new }
 {
     let n = to - from;
-    let mut i: usize = 0;
-    while i < n {
-        room[i] = room[from + i];
-        i += 1;
-    }
+    room.copy_within(from..to, 0);
     n
 }
 
@@ -173,8 +170,7 @@ fn pass_over<R: Read, W: Write>(input: &mut R, output: &mut W, room: &mut [u8]) 
     if room[0] != b'#' {
         output.write_all(b"unknown\n")?;
     }
-    let mut i: u64 = 0;
-    while i < MOST_LINES {
+    for _ in 0..MOST_LINES {
         let to = refill(input, room, 0, 0)?;
         let end = end_of(&room[..to], b'\n', 0);
         if end < to {
@@ -191,7 +187,6 @@ fn pass_over<R: Read, W: Write>(input: &mut R, output: &mut W, room: &mut [u8]) 
                 to,
             });
         }
-        i += 1;
     }
     Ok(Span {
         from: 0,
@@ -235,8 +230,7 @@ fn serve<R: Read, W: Write>(input: &mut R, output: &mut W, room: &mut [u8]) -> i
     let mut sheet = Sheet::empty();
     let mut from: usize = 0;
     let mut to: usize = 0;
-    let mut i: u64 = 0;
-    while i < MOST_LINES {
+    for _ in 0..MOST_LINES {
         let span = next(input, room, from, to)?;
         let a = span.from;
         let e = span.end;
@@ -248,7 +242,6 @@ fn serve<R: Read, W: Write>(input: &mut R, output: &mut W, room: &mut [u8]) -> i
         sheet = answered.sheet;
         from = answered.from;
         to = answered.to;
-        i += 1;
     }
     Ok(())
 }

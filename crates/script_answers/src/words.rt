@@ -1,5 +1,5 @@
 // The words of a stage and of positions, written from a position of a lent buffer on. Each answers the position past what it wrote.
-ghost use Rattle.std.specs.Prelude.{◌≡◌, ◌++◌, ◌+◌, ◌≤◌, length, nat_abs};
+ghost use Rattle.std.specs.Prelude.{◌++◌, ◌+◌, ◌≤◌, length};
 ghost use Rattle.text.specs.Bytes.{bytes};
 ghost use Rattle.text.specs.Decimal.{signed};
 ghost use Rattle.text_write.specs.inner.Written.{Room, Wrote};
@@ -42,23 +42,13 @@ pub fn put_stage(out: &mut [u8], at: usize, stage: Stage) -> usize
     }
 }
 
-// How far a number is from 0.
-fn magnitude(x: i64) -> u64
-    ensures { result ≡ nat_abs x }
-{
-    if x < 0 {
-        return (-1 - x) as u64 + 1;
-    }
-    x as u64
-}
-
 // " x"
 fn put_position(out: &mut [u8], at: usize, x: i64) -> usize
     requires { Room (bytes " " ++ signed x) out.old at }
     ensures { Wrote (bytes " " ++ signed x) out.old at result out.new }
 {
     let next = put_word(out, at, b" ");
-    put_marked(out, next, x < 0, magnitude(x))
+    put_marked(out, next, x < 0, x.unsigned_abs())
 }
 
 // Positions, each with a space before it.
@@ -67,10 +57,8 @@ pub fn put_positions(out: &mut [u8], from: usize, xs: &[i64]) -> usize
     ensures { Wrote (position_words xs.now) out.old from result out.new }
 {
     let mut at = from;
-    let mut i: usize = 0;
-    while i < xs.len() {
-        at = put_position(out, at, xs[i]);
-        i += 1;
+    for x in xs {
+        at = put_position(out, at, *x);
     }
     at
 }

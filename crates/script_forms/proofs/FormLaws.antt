@@ -4,8 +4,10 @@ use mathlib.Core.Path.{◌≡◌, refl}
 use mathlib.Core.Bool.{Bool, true, false, cond}
 use mathlib.Core.List.{List, [], ◌∷◌}
 use Prim.Native.Nat.{ℕ, suc, ◌+◌, ◌≤◌, ◌<◌}
-use lib.Dec.{eqb}
+use borrow.Author.Tests.{leb-true, leb-false}
+use lib.Dec.{eqb, leb}
 use lib.ListN.{length, drop}
+use Rattle.ints.proofs.Tests.{test}
 use Rattle.text.specs.Bytes.{bytes}
 use Rattle.script_words.specs.Parts.{onto, parts, words, same}
 use Rattle.script_words.specs.Numbers.{number_in, is_whole, is_signed}
@@ -56,13 +58,10 @@ module _ (form line : List ℕ) (from end at to : ℕ) (f : PartEnds 32 form fro
   fits_not e = rw (parts-split 32 form from end f, parts-split 32 line at to l, e)
 
   module _ (e : stands_for (between from end form) (between at to line) ≡ true) where
-    pub fits-end : length form ≤ end → length line ≤ to → fits (words (drop from form)) (words (drop at line)) ≡ true
+    pub fits-last : length form ≤ end → fits (words (drop from form)) (words (drop at line)) ≡ leb (length line) to
     unfolding fits
-    fits-end h k = rw (f.last h, l.last k, e)
-
-    pub fits-long : length form ≤ end → to < length line → fits (words (drop from form)) (words (drop at line)) ≡ false
-    unfolding fits
-    fits-long h k = rw (f.last h, l.cut k, e) (line-left (drop (to + 1) line))
+    fits-last h = test (leb (length line) to) (λ t. rw (f.last h, l.last (leb-true (length line) to t), e, t))
+        (λ t. rw (f.last h, l.cut (leb-false (length line) to t), e, t) (line-left (drop (to + 1) line)))
 
     pub fits-short : end < length form → length line ≤ to → fits (words (drop from form)) (words (drop at line)) ≡ false
     unfolding fits

@@ -8,6 +8,7 @@ use script_words::numbers::{is_signed, is_whole, number, signed, whole};
 use script_words::parts::{end_of, same, word};
 
 // Whether a word may stand where a form has `form`.
+#[tactic(auto, unfolding(crate::specs::Forms::stands_for))]
 pub fn stands_for(form: &[u8], word: &[u8]) -> bool
     ensures { result ≡ stands_for form.now word.now }
 {
@@ -32,10 +33,7 @@ pub fn has_form(form: &[u8], line: &[u8]) -> bool
             return false;
         }
         if end >= form.len() {
-            if to >= line.len() {
-                return true;
-            }
-            return false;
+            return to >= line.len();
         }
         if to >= line.len() {
             return false;

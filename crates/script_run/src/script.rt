@@ -1,11 +1,11 @@
 // The answers of a script.
-ghost use Rattle.std.specs.Prelude.{◌≡◌, ◌≤◌, min, length};
+ghost use Rattle.std.specs.Prelude.{◌≤◌, length};
 ghost use Rattle.sheet.specs.Calls.{Writes};
 ghost use Rattle.script_runs.specs.inner.Filled.{buffers};
 ghost use Rattle.script_commands.specs.Table.{command_of};
 ghost use Rattle.script_commands.specs.inner.Held.{lent, command_in};
 ghost use Rattle.script_told.specs.Turns.{turn_of};
-ghost use Rattle.script_told.specs.Scripts.{max_length, script_answers, script_of};
+ghost use Rattle.script_told.specs.Scripts.{script_answers, script_of};
 ghost use Rattle.script_told.specs.inner.Laid.{Lays, InRoom};
 ghost use Rattle.script_run.specs.inner.Laid as laid;
 ghost use Rattle.script_run.specs.inner.Laid.{Answering};
@@ -26,16 +26,6 @@ const MAX_LENGTH: usize = 9223372036854775807;
 pub const TEXT_ROOM: usize = 65537;
 
 pub const ANSWER_ROOM: usize = 1500;
-
-// How much of a buffer is used.
-fn room_in(length: usize) -> usize
-    ensures { result ≡ min max_length length }
-{
-    if length < MAX_LENGTH {
-        return length;
-    }
-    MAX_LENGTH
-}
 
 // All answers of a command, one after another by way of a buffer.
 fn each_answer(
@@ -59,7 +49,8 @@ fn each_answer(
 {
     let mut kept = sheet;
     let mut to = at;
-    let mut n: usize = 0;
+    let mut n = 0;
+    // No `for n in 0..`: it would have no value at its end, which is never reached.
     loop {
         let one = turn(
             kept, command, text, old, distances, counts, neighbours, ratings, n, buffer,
@@ -151,7 +142,7 @@ fn each_line(script: &[u8], out: &mut [u8], room: usize, write: bool) -> Laid
 pub fn answers(script: &[u8], out: &mut [u8]) -> LineAnswer
     ensures { Writes (script_of script.now out.old) result out.new }
 {
-    let room = room_in(out.len());
+    let room = out.len().min(MAX_LENGTH);
     let counted = each_line(script, out, room, false);
     if !counted.fits {
         return LineAnswer::Refused(14);

@@ -1,9 +1,11 @@
 -- Lists of numbers, as loops pass their parts: a test of every number, and numbers that fill a buffer. Assumes nothing.
 use mathlib.Core.Path.{◌≡◌, refl, sym, ◌∙◌, ap}
-use mathlib.Core.Bool.{Bool, true, false}
+use mathlib.Core.Bool.{Bool, true, false, false≢true}
 use mathlib.Core.List.{List, [], ◌∷◌, ◌++◌, map, append-nil}
 use Prim.Native.Nat.{ℕ, ◌+◌, ◌≤◌, ◌<◌}
 use native.Mathlib.Omega.{arith}
+use borrow.Author.Tests.{eqb-true}
+use lib.Dec.{eqb}
 use lib.ListN.{length, take, drop, replicate, length-take}
 use lib.Seq.{take_all}
 use lib.IntN.{ℤ}
@@ -15,13 +17,13 @@ use Rattle.script_words.proofs.PartLaws.{parts-split}
 use Rattle.script_words.proofs.Filling.{fill_more}
 use Rattle.script_runs.specs.Lists.{items_of, signeds_in}
 
-pub items-none : (w : List ℕ) → length w ≡ 0 → items_of w ≡ []
+pub items-none : (w : List ℕ) → eqb (length w) 0 ≡ true → items_of w ≡ []
 items-none [] e = refl
-items-none (b ∷ w) e = absurd (omega arith)
+items-none (b ∷ w) e = absurd (omega (arith, eqb-true (length (b ∷ w)) 0 e))
 
-pub items-some : (w : List ℕ) → (length w ≡ 0 → ⊥) → items_of w ≡ parts 44 w
-items-some [] n = absurd (n refl)
-items-some (b ∷ w) n = refl
+pub items-some : (w : List ℕ) → eqb (length w) 0 ≡ false → items_of w ≡ parts 44 w
+items-some [] e = absurd (false≢true (sym e))
+items-some (b ∷ w) e = refl
 
 -- a 1 for each number
 ones : (f : List ℕ → ℤ) (ws : List (List ℕ)) → map {B = ℕ} (λ v. 1) ws ≡ replicate (length (map f ws)) 1

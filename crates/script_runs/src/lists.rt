@@ -12,11 +12,7 @@ use script_words::types::Number;
 fn is_number(n: Number) -> bool
     ensures { result ≡ is_number n }
 {
-    match n {
-        Number::Whole(_) => true,
-        Number::Negative(_) => true,
-        Number::Other => false,
-    }
+    matches!(n, Number::Whole(_) | Number::Negative(_))
 }
 
 fn may_stand(kind: Kind, n: Number) -> bool
@@ -32,10 +28,10 @@ fn may_stand(kind: Kind, n: Number) -> bool
 pub fn is_list(kind: Kind, word: &[u8]) -> bool
     ensures { result ≡ is_list kind word.now }
 {
-    if word.len() == 0 {
+    if word.is_empty() {
         return true;
     }
-    let mut from: usize = 0;
+    let mut from = 0;
     loop {
         let to = end_of(word, b',', from);
         if !may_stand(kind, number(&word[from..to])) {
@@ -48,18 +44,8 @@ pub fn is_list(kind: Kind, word: &[u8]) -> bool
     }
 }
 
-fn put_whole(out: &mut [u64], n: usize, x: u64) -> usize
-    requires { n ≤ length out.old }
-    ensures { Puts x n out.old result out.new }
-{
-    if n < out.len() {
-        out[n] = x;
-        return n + 1;
-    }
-    n
-}
-
-fn put_signed(out: &mut [i64], n: usize, x: i64) -> usize
+// One more after the first n of a buffer, if it has room: how many there are then.
+fn put<T: Copy>(out: &mut [T], n: usize, x: T) -> usize
     requires { n ≤ length out.old }
     ensures { Puts x n out.old result out.new }
 {
@@ -74,14 +60,14 @@ fn put_signed(out: &mut [i64], n: usize, x: i64) -> usize
 pub fn wholes_in(word: &[u8], out: &mut [u64]) -> usize
     ensures { Fills (wholes_in word.now) (length out.old) result out.new }
 {
-    if word.len() == 0 {
+    if word.is_empty() {
         return 0;
     }
-    let mut from: usize = 0;
-    let mut n: usize = 0;
+    let mut from = 0;
+    let mut n = 0;
     loop {
         let to = end_of(word, b',', from);
-        n = put_whole(out, n, whole(number(&word[from..to])));
+        n = put(out, n, whole(number(&word[from..to])));
         if to >= word.len() {
             return n;
         }
@@ -93,14 +79,14 @@ pub fn wholes_in(word: &[u8], out: &mut [u64]) -> usize
 pub fn signeds_in(word: &[u8], out: &mut [i64]) -> usize
     ensures { Fills (signeds_in word.now) (length out.old) result out.new }
 {
-    if word.len() == 0 {
+    if word.is_empty() {
         return 0;
     }
-    let mut from: usize = 0;
-    let mut n: usize = 0;
+    let mut from = 0;
+    let mut n = 0;
     loop {
         let to = end_of(word, b',', from);
-        n = put_signed(out, n, signed(number(&word[from..to])));
+        n = put(out, n, signed(number(&word[from..to])));
         if to >= word.len() {
             return n;
         }
@@ -112,14 +98,14 @@ pub fn signeds_in(word: &[u8], out: &mut [i64]) -> usize
 pub fn ones_in(word: &[u8], out: &mut [u64]) -> usize
     ensures { Fills (replicate (length (signeds_in word.now)) 1) (length out.old) result out.new }
 {
-    if word.len() == 0 {
+    if word.is_empty() {
         return 0;
     }
-    let mut from: usize = 0;
-    let mut n: usize = 0;
+    let mut from = 0;
+    let mut n = 0;
     loop {
         let to = end_of(word, b',', from);
-        n = put_whole(out, n, 1);
+        n = put(out, n, 1);
         if to >= word.len() {
             return n;
         }

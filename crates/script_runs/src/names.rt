@@ -1,31 +1,22 @@
 // Words that give a name a value.
-ghost use Rattle.std.specs.Prelude.{◌≡◌, [], ◌≤◌, length};
-ghost use Rattle.text.specs.Parser.{word};
+ghost use Rattle.std.specs.Prelude.{◌≡◌};
 ghost use Rattle.script_words.specs.Parts.{words};
-ghost use Rattle.script_runs.specs.Names.{value_before, times_of, value_of};
+ghost use Rattle.script_runs.specs.Names.{times_of, value_of};
 
 use script_words::parts::end_of;
 use text_scan::scanners::word_at;
-
-// 1 if a word begins with the name, else 0.
-fn once(given: &[u8], name: &[u8]) -> usize
-    ensures { (result ≡ length (value_before (word name.now given.now) [])) × (result ≤ 1) }
-{
-    if word_at(given, 0, name) {
-        return 1;
-    }
-    0
-}
 
 // How many words begin with the name.
 pub fn times(given: &[u8], name: &[u8]) -> usize
     ensures { result ≡ times_of name.now (words given.now) }
 {
-    let mut from: usize = 0;
-    let mut n: usize = 0;
+    let mut from = 0;
+    let mut n = 0;
     loop {
         let to = end_of(given, b' ', from);
-        n += once(&given[from..to], name);
+        if word_at(&given[from..to], 0, name) {
+            n += 1;
+        }
         if to >= given.len() {
             return n;
         }
@@ -37,12 +28,11 @@ pub fn times(given: &[u8], name: &[u8]) -> usize
 pub fn value<'a, 'b>(given: &'a [u8], name: &'b [u8]) -> &'a [u8]
     ensures { result.now ≡ value_of name.now (words given.now) }
 {
-    let mut from: usize = 0;
+    let mut from = 0;
     loop {
         let to = end_of(given, b' ', from);
         if word_at(&given[from..to], 0, name) {
-            let start = from + name.len();
-            return &given[start..to];
+            return &given[from + name.len()..to];
         }
         if to >= given.len() {
             return &given[to..];

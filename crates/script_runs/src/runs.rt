@@ -17,112 +17,72 @@ fn is_once(given: &[u8], name: &[u8]) -> bool
 }
 
 // r, the old positions, the neighbours' counts and positions and the distances are said once;
+#[tactic(auto, unfolding(crate::specs::Runs::has_parts))]
 fn has_parts(given: &[u8]) -> bool
     ensures { result ≡ has_parts (words given.now) }
 {
-    if !is_once(given, b"r=") {
-        return false;
-    }
-    if !is_once(given, b"old=") {
-        return false;
-    }
-    if !is_once(given, b"counts=") {
-        return false;
-    }
-    if !is_once(given, b"nbrs=") {
-        return false;
-    }
-    is_once(given, b"dist=")
+    is_once(given, b"r=")
+        && is_once(given, b"old=")
+        && is_once(given, b"counts=")
+        && is_once(given, b"nbrs=")
+        && is_once(given, b"dist=")
 }
 
 // the bounds, the ratings and the answer's length at most once, and nothing else.
+#[tactic(auto, unfolding(crate::specs::Runs::has_options))]
 fn has_options(given: &[u8]) -> bool
     ensures { result ≡ has_options (words given.now) }
 {
     let left = times(given, b"left=");
-    if 1 < left {
-        return false;
-    }
     let right = times(given, b"right=");
-    if 1 < right {
-        return false;
-    }
     let ratings = times(given, b"ratings=");
-    if 1 < ratings {
-        return false;
-    }
     let answer = times(given, b"answer=");
-    if 1 < answer {
-        return false;
-    }
-    times(given, b"") == 5 + left + right + ratings + answer
+    left <= 1
+        && right <= 1
+        && ratings <= 1
+        && answer <= 1
+        && times(given, b"") == 5 + left + right + ratings + answer
 }
 
 fn may_bound(given: &[u8], name: &[u8]) -> bool
     ensures { result ≡ may_bound name.now (words given.now) }
 {
-    if is_once(given, name) {
-        return is_signed(number(value(given, name)));
-    }
-    true
+    !is_once(given, name) || is_signed(number(value(given, name)))
 }
 
 fn may_room(given: &[u8]) -> bool
     ensures { result ≡ may_room (words given.now) }
 {
-    if is_once(given, b"answer=") {
-        return is_whole(number(value(given, b"answer=")));
-    }
-    true
+    !is_once(given, b"answer=") || is_whole(number(value(given, b"answer=")))
 }
 
+#[tactic(auto, unfolding(crate::specs::Runs::has_numbers))]
 fn has_numbers(given: &[u8]) -> bool
     ensures { result ≡ has_numbers (words given.now) }
 {
-    if !is_whole(number(value(given, b"r="))) {
-        return false;
-    }
-    if !may_bound(given, b"left=") {
-        return false;
-    }
-    if !may_bound(given, b"right=") {
-        return false;
-    }
-    may_room(given)
+    is_whole(number(value(given, b"r=")))
+        && may_bound(given, b"left=")
+        && may_bound(given, b"right=")
+        && may_room(given)
 }
 
+#[tactic(auto, unfolding(crate::specs::Runs::has_lists))]
 fn has_lists(given: &[u8]) -> bool
     ensures { result ≡ has_lists (words given.now) }
 {
-    if !is_list(Kind::Signed, value(given, b"old=")) {
-        return false;
-    }
-    if !is_list(Kind::Unsigned, value(given, b"counts=")) {
-        return false;
-    }
-    if !is_list(Kind::Signed, value(given, b"nbrs=")) {
-        return false;
-    }
-    if !is_list(Kind::Any, value(given, b"dist=")) {
-        return false;
-    }
-    is_list(Kind::Any, value(given, b"ratings="))
+    is_list(Kind::Signed, value(given, b"old="))
+        && is_list(Kind::Unsigned, value(given, b"counts="))
+        && is_list(Kind::Signed, value(given, b"nbrs="))
+        && is_list(Kind::Any, value(given, b"dist="))
+        && is_list(Kind::Any, value(given, b"ratings="))
 }
 
 // Whether the words are a request.
+#[tactic(auto, unfolding(crate::specs::Runs::is_request))]
 pub fn is_request(given: &[u8]) -> bool
     ensures { result ≡ is_request (words given.now) }
 {
-    if !has_parts(given) {
-        return false;
-    }
-    if !has_options(given) {
-        return false;
-    }
-    if !has_numbers(given) {
-        return false;
-    }
-    has_lists(given)
+    has_parts(given) && has_options(given) && has_numbers(given) && has_lists(given)
 }
 
 fn bound_in(given: &[u8], name: &[u8]) -> Bound

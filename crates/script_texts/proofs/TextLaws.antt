@@ -5,6 +5,7 @@ use mathlib.Core.List.{List, [], ◌∷◌, ◌++◌, append-nil}
 use mathlib.Core.Option.{Option, none, some}
 use Prim.Native.Nat.{ℕ, suc, ◌+◌, ◌-◌, ◌*◌, ◌≤◌, ◌<◌}
 use native.Mathlib.Omega.{arith}
+use native.Mathlib.Decide.{dec_lt}
 use native.Mathlib.Numerals.{add-one, add-two}
 use borrow.Author.Tests.{eq-eqb, ne_eqb, le-leb, lt-leb, lt-ltb, le-ltb}
 use lib.Dec.{leb}
@@ -25,6 +26,12 @@ module _ (lo hi n : ℕ) where
   pub within-high : hi < n → within lo hi n ≡ false
   within-high h = rw (lt-leb n hi h, and-false (leb lo n))
 
+  within_none : (lo ≤ n → n ≤ hi → ⊥) → within lo hi n ≡ false
+  within_none h = elim (dec_lt n lo) [
+    | yes k ↦ within_low k
+    | no k ↦ within-high (elim (dec_lt hi n) [ yes m ↦ m | no m ↦ absurd (h (omega arith) (omega arith)) ])
+  ]
+
   pub within-yes : lo ≤ n → n ≤ hi → within lo hi n ≡ true
   within-yes h k = rw (le-leb lo n h, le-leb n hi k)
 
@@ -41,9 +48,9 @@ module _ (b : ℕ) where
   unfolding hex_value
   hex-lower h k = rw (within-high 48 57 b (omega arith), within-high 65 70 b (omega arith), within-yes 97 102 b h k)
 
-  pub hex-none : within 48 57 b ≡ false → within 65 70 b ≡ false → within 97 102 b ≡ false → hex_value b ≡ 16
+  pub hex-none : (48 ≤ b → b ≤ 57 → ⊥) → (65 ≤ b → b ≤ 70 → ⊥) → (97 ≤ b → b ≤ 102 → ⊥) → hex_value b ≡ 16
   unfolding hex_value
-  hex-none x y z = rw (x, y, z)
+  hex-none x y z = rw (within_none 48 57 b x, within_none 65 70 b y, within_none 97 102 b z)
 
 -- ---- what stands at a position
 hex-few : (l : List ℕ) → length l < 2 → hexadecimal l ≡ none

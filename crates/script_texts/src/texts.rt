@@ -38,25 +38,12 @@ fn one(byte: u8, next: usize) -> Unit
 fn hex(b: u8) -> u8
     ensures { (result ≡ hex_value b) × (result ≤ 16) }
 {
-    if b < b'0' {
-        return 16;
+    match b {
+        b'0'..=b'9' => b - b'0',
+        b'A'..=b'F' => b - b'A' + 10,
+        b'a'..=b'f' => b - b'a' + 10,
+        _ => 16,
     }
-    if b <= b'9' {
-        return b - b'0';
-    }
-    if b < b'A' {
-        return 16;
-    }
-    if b <= b'F' {
-        return b - b'A' + 10;
-    }
-    if b < b'a' {
-        return 16;
-    }
-    if b <= b'f' {
-        return b - b'a' + 10;
-    }
-    16
 }
 
 // After a backslash and an x.
@@ -69,13 +56,11 @@ fn hex_at(s: &[u8], at: usize) -> Unit
     }
     let high = hex(s[at]);
     let low = hex(s[at + 1]);
-    if 15 < high {
-        return none(at);
+    if high < 16 && low < 16 {
+        one(16 * high + low, at + 2)
+    } else {
+        none(at)
     }
-    if 15 < low {
-        return none(at);
-    }
-    one(16 * high + low, at + 2)
 }
 
 // After a backslash.
