@@ -5,10 +5,15 @@ use mathlib.Core.Bool.{Bool, true, false, cond, ◌&&◌, false≢true}
 use mathlib.Core.List.{List, [], ◌∷◌, ◌++◌}
 use mathlib.Core.Logic.{◌↔◌}
 use Prim.Native.Nat.{ℕ, zero, suc}
-use borrow.Author.Tests.{eqb-true, eq-eqb, not-false}
+use borrow.Author.Tests.{eqb-true, eq-eqb, ne_eqb, not-false}
+use Rattle.std.specs.Prelude.{Result, Ok, Err}
+use Rattle.std.specs.Result.{is_ok}
 use lib.Dec.{eqb}
 use lib.ListN.{get_or}
-use Rattle.ints.specs.Refusals.{Test, test, check, first_refusal, is_first, none_refuses}
+use native.Mathlib.Omega.{arith}
+use Rattle.ints.specs.Refusals.{Test, test, check, first_refusal, is_first, none_refuses, number_of, refused_by}
+use Rattle.ints.specs.declared.refusal.Refusal.{Refusal}
+use Rattle.ints.specs.declared.refusal.Refusal.TheVariants.{Form, Limit, Ends, Order, Via, Crossing, Missing, Run, Empty, Undrawn, Unsound, Room, Untangled}
 
 -- Whether no test has the number m; and whether none has the number 0.
 abbrev pub lacks : ℕ → List Test → Bool
@@ -191,3 +196,23 @@ module _ (t : Test) where
       by true = n
       by false = refl
   last-other m n (x ∷ ts) = rw (last-other m n ts)
+
+-- ---- no refusal has the number 0
+pub has-number : (r : Refusal) → number_of r ≡ 0 → ⊥
+has-number Form e = absurd (omega arith)
+has-number Limit e = absurd (omega arith)
+has-number Ends e = absurd (omega arith)
+has-number Order e = absurd (omega arith)
+has-number Via e = absurd (omega arith)
+has-number Crossing e = absurd (omega arith)
+has-number Missing e = absurd (omega arith)
+has-number Run e = absurd (omega arith)
+has-number Empty e = absurd (omega arith)
+has-number Undrawn e = absurd (omega arith)
+has-number Unsound e = absurd (omega arith)
+has-number Room e = absurd (omega arith)
+has-number Untangled e = absurd (omega arith)
+
+pub is-ok : {A : Type 0} (v : Result A Refusal) → is_ok v ≡ eqb (refused_by v) 0
+is-ok (Ok a) = refl
+is-ok (Err r) = sym (ne_eqb (number_of r) 0 (has-number r))

@@ -2,6 +2,7 @@
 // number that the contract names; where a sum or a cast could leave its type, `requires` bounds the sizes of what it is made of.
 #![tactic(auto)]
 
+pub mod refusal;
 pub mod within;
 
 ghost use Rattle.std.specs.Prelude.{◌≡◌, ◌+◌, ◌≤◌, ◌<◌, ◌^◌, length, ℤ, pos, ◌+ℤ◌, ◌-ℤ◌};

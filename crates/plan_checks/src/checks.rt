@@ -1,12 +1,13 @@
 // Checks 3 and 4 of document 01, over slices that are as long as the data, and checks 3 to 6 in this order. Each stops at the first
 // that fails.
-ghost use Rattle.std.specs.Prelude.{◌≡◌, Bool, List, [], ◌∷◌, ℕ, length};
-ghost use Rattle.ints.specs.Refusals.{check, first_refusal};
+ghost use Rattle.std.specs.Prelude.{◌≡◌, Bool, List, ℕ, length};
+ghost use Rattle.ints.specs.Refusals.{first_refusal, refused_by};
 ghost use Rattle.plan.specs.Checks.{check3, check4, checks_of};
 ghost use Rattle.plan.specs.inner.Graph.{graph_of, Levelled, InLimits};
 
 use crate::levels::levels;
 use crate::vias::check_vias;
+use ints::refusal::Refusal;
 use plan::data::Plan;
 use plan::questions::{comes_before, one_down};
 use plan_walks::check_inner;
@@ -47,35 +48,27 @@ pub fn check_levels(sizes: &[u16], vias: &[bool], uppers: &[u32], lowers: &[u32]
     check_ends(&level[..n], uppers, lowers)
 }
 
-// The number of the first of two checks that fails, 0 if both hold.
-#[tactic(auto, unfolding(ints::specs::Refusals::first_refusal))]
-pub fn first_of(m: u32, a: bool, n: u32, b: bool) -> u32
-    ensures { result ≡ first_refusal (check m a ∷ check n b ∷ []) }
-{
-    if !a {
-        m
-    } else if !b {
-        n
-    } else {
-        0
-    }
-}
-
-// Checks 3 to 6 in this order: the number of the first that fails, 0 if none does.
-pub fn check_plan(sizes: &[u16], vias: &[bool], uppers: &[u32], lowers: &[u32]) -> u32
+// Checks 3 to 6 in this order: the first that fails refuses.
+pub fn check_plan(
+    sizes: &[u16],
+    vias: &[bool],
+    uppers: &[u32],
+    lowers: &[u32],
+) -> Result<(), Refusal>
     requires { InLimits sizes.now vias.now uppers.now lowers.now }
-    ensures { result ≡ first_refusal (checks_of (graph_of sizes.now vias.now uppers.now lowers.now)) }
+    ensures { refused_by result ≡ first_refusal (checks_of (graph_of sizes.now vias.now uppers.now lowers.now)) }
 {
-    let ends = check_levels(sizes, vias, uppers, lowers);
-    let order = check_order(uppers, lowers);
-    let failed = first_of(3, ends, 4, order);
-    if failed != 0 {
-        return failed;
+    if !check_levels(sizes, vias, uppers, lowers) {
+        return Err(Refusal::Ends);
     }
-    let through = check_vias(vias, uppers, lowers);
-    if !through {
-        return 5;
+    if !check_order(uppers, lowers) {
+        return Err(Refusal::Order);
     }
-    let apart = check_inner(vias, uppers, lowers);
-    first_of(5, through, 6, apart)
+    if !check_vias(vias, uppers, lowers) {
+        return Err(Refusal::Via);
+    }
+    if !check_inner(vias, uppers, lowers) {
+        return Err(Refusal::Crossing);
+    }
+    Ok(())
 }

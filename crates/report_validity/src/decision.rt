@@ -117,7 +117,7 @@ pub fn is_acceptable(
     ) {
         return false;
     }
-    check_plan(sizes, vias, uppers, lowers) == 0
+    check_plan(sizes, vias, uppers, lowers).is_ok()
 }
 
 // 13, of a plan with the stage's numbers of vertices and segments, which may be any: whether it is that of a text.

@@ -10,7 +10,7 @@ use lib.Dec.{leb}
 use lib.ListN.{length, take, replicate, length-append}
 use lib.Seq.{take_at}
 use Rattle.ints.specs.Lists.{over}
-use Rattle.ints.specs.Refusals.{Test, check, first_refusal}
+use Rattle.ints.specs.Refusals.{Test, check, first_refusal, Verdict, gives}
 use Rattle.plan.specs.Plan.{PlanData}
 use Rattle.plan.specs.Stored.{stored_plan}
 use Rattle.plan.specs.Checks.{checks_of, tangled_checks_of}
@@ -30,7 +30,6 @@ use Rattle.ints.proofs.Tests.{test}
 use Rattle.text_read.specs.Answer.{plan_of, answer_of}
 use Rattle.text_read.specs.inner.Failed.{Fronts, checks_in}
 use Rattle.text_read.specs.inner.Taken.{InFronts, Accepts}
-use Rattle.text_read.specs.declared.Answer.TheVariants.{Accepted}
 use Rattle.text_read.specs.declared.ReadText.{ReadText}
 
 -- ---- the same first refusal: the same outcome of checks 1 and 2, and the same later checks where they are asked
@@ -156,17 +155,29 @@ module _ (p : PlanData) (r : Scanned) (sizes : List ℕ) (vias : List Bool) (hal
 -- what is answered of the data, from arrays that were 0
 module _ (p : PlanData) (r : Scanned) (sizes' : List ℕ) (vias' : List Bool) (halves' uppers' lowers' ratings' : List ℕ)
     (K : Kept p r (replicate 64 0) (replicate 1024 false) (replicate 1024 0) (replicate 2048 0) (replicate 2048 0) (replicate 2048 0) sizes' vias' halves' uppers' lowers' ratings') where
-  pub kept-answer : ◌≡◌ {A = ReadText}
+  pub kept-plan : ◌≡◌ {A = ReadText}
       (record {
-        answer = Accepted r.vertices r.segments;
+        vertices = r.vertices;
+        segments = r.segments;
         plan = stored_plan r.levels r.gap r.spacing sizes' vias' halves' uppers' lowers' ratings';
       })
-      (answer_of (accepted p))
-  unfolding answer_of plan_of
-  kept-answer = λ i. record {
-    answer = Accepted (K.vertices i) (K.segments i);
+      (record { vertices = length p.vias; segments = length p.uppers; plan = plan_of p })
+  unfolding plan_of
+  kept-plan = λ i. record {
+    vertices = K.vertices i;
+    segments = K.segments i;
     plan = stored_plan (K.levels i) (K.gap i) (K.spacing i) (K.sizes-kept i) (K.vias-kept i) (K.halves-kept i) (K.uppers-kept i) (K.lowers-kept i) (K.ratings-kept i);
   }
+
+  pub kept-answer : ◌≡◌ {A = Verdict ReadText}
+      (gives (record {
+        vertices = r.vertices;
+        segments = r.segments;
+        plan = stored_plan r.levels r.gap r.spacing sizes' vias' halves' uppers' lowers' ratings';
+      }))
+      (answer_of (accepted p))
+  unfolding answer_of
+  kept-answer = ap gives kept-plan
 
 -- ---- a scanned text, and what the program answers of it
 module _ (s : List ℕ) (r : Scanned) (sizes : List ℕ) (vias : List Bool) (halves uppers lowers ratings sizes' : List ℕ) (vias' : List Bool) (halves' uppers' lowers' ratings' : List ℕ)

@@ -4,58 +4,51 @@
 pub mod form;
 
 ghost use Rattle.std.specs.Prelude.{◌≡◌, true};
-ghost use Rattle.ints.specs.Refusals.{first_refusal};
-ghost use Rattle.text.specs.Reading.{refused, reading};
+ghost use Rattle.ints.specs.Refusals.{first_refusal, refused_by, verdict_of};
+ghost use Rattle.text.specs.Reading.{reading};
 ghost use Rattle.text_read.specs.Answer.{answer_of};
 ghost use Rattle.text_read.specs.inner.Failed.{Fronts, checks_in};
-ghost use Rattle.text_read.specs.inner.Taken.{Arrays, Finds, refuses_both};
+ghost use Rattle.text_read.specs.inner.Taken.{Arrays, Finds, tangled_refusal};
 
 use crate::form::{Scanned, scan};
+use ints::refusal::Refusal;
 use plan::data::Plan;
-use plan_checks::checks::{check_plan, first_of};
+use plan_checks::checks::check_plan;
 
 // "over 65,536 bytes" is no plan text.
 pub const MAX_BYTES: usize = 65536;
 
-// A plan with its numbers of vertices and segments, or the number of the first check that fails.
-#[derive(Clone, Copy)]
-pub enum Answer {
-    Accepted(usize, usize),
-    Refused(u32),
-}
-
-// What reading a text gives. Where it is refused the plan is 0 throughout.
+// A plan, with its numbers of vertices and segments.
 #[derive(Clone, Copy)]
 pub struct ReadText {
-    pub answer: Answer,
+    pub vertices: usize,
+    pub segments: usize,
     pub plan: Plan,
 }
 
-// What reading a text into lent arrays finds: the number of the first check that fails, 0 if none does, and the text's numbers
-// and counts.
+// What reading a text into lent arrays finds: the refusal of the first check that fails, and the text's numbers and counts.
 #[derive(Clone, Copy)]
 pub struct Found {
-    pub failed: u32,
+    pub verdict: Result<(), Refusal>,
     pub scanned: Scanned,
 }
 
-fn refuse(n: u32) -> ReadText
-    ensures { result ≡ answer_of (refused n) }
-{
-    ReadText {
-        answer: Answer::Refused(n),
-        plan: Plan::empty(),
-    }
-}
-
-// The number of the first check that a scanned text fails, 0 if it fails none.
-fn first_failed(s: Scanned, sizes: &[u16], vias: &[bool], uppers: &[u32], lowers: &[u32]) -> u32
+// The first check that a scanned text fails refuses it.
+fn verdict_on(
+    s: Scanned,
+    sizes: &[u16],
+    vias: &[bool],
+    uppers: &[u32],
+    lowers: &[u32],
+) -> Result<(), Refusal>
     requires { s.form ≡ true → s.limits ≡ true → Fronts s sizes.now vias.now uppers.now lowers.now }
-    ensures { result ≡ first_refusal (checks_in s sizes.now vias.now uppers.now lowers.now) }
+    ensures { refused_by result ≡ first_refusal (checks_in s sizes.now vias.now uppers.now lowers.now) }
 {
-    let failed = first_of(1, s.form, 2, s.limits);
-    if failed != 0 {
-        return failed;
+    if !s.form {
+        return Err(Refusal::Form);
+    }
+    if !s.limits {
+        return Err(Refusal::Limit);
     }
     let k = s.levels as usize;
     let n = s.vertices;
@@ -80,7 +73,7 @@ pub fn read_into(
 {
     if MAX_BYTES < text.len() {
         return Found {
-            failed: 1,
+            verdict: Err(Refusal::Form),
             scanned: Scanned {
                 form: false,
                 limits: false,
@@ -93,20 +86,23 @@ pub fn read_into(
         };
     }
     let scanned = scan(text, sizes, vias, halves, uppers, lowers, ratings);
-    let failed = first_failed(scanned, sizes, vias, uppers, lowers);
-    Found { failed, scanned }
+    let verdict = verdict_on(scanned, sizes, vias, uppers, lowers);
+    Found { verdict, scanned }
 }
 
-// Whether a text is refused by a check other than 6.
-pub fn refuses_both(failed: u32) -> bool
-    ensures { result ≡ refuses_both failed }
+// What the second way of reading finds, which skips check 6.
+pub fn tangled_verdict(verdict: Result<(), Refusal>) -> Result<(), Refusal>
+    ensures { refused_by result ≡ tangled_refusal (refused_by verdict) }
 {
-    failed != 0 && failed != 6
+    match verdict {
+        Err(Refusal::Crossing) => Ok(()),
+        _ => verdict,
+    }
 }
 
 // Reads a plan text.
-pub fn read(text: &[u8]) -> ReadText
-    ensures { result ≡ answer_of (reading text.now) }
+pub fn read(text: &[u8]) -> Result<ReadText, Refusal>
+    ensures { verdict_of result ≡ answer_of (reading text.now) }
 {
     let mut sizes = [0u16; Plan::MAX_LEVELS];
     let mut vias = [false; Plan::MAX_VERTICES];
@@ -123,14 +119,13 @@ pub fn read(text: &[u8]) -> ReadText
         &mut lowers,
         &mut ratings,
     );
-    if r.failed != 0 {
-        return refuse(r.failed);
-    }
+    r.verdict?;
     let s = r.scanned;
-    ReadText {
-        answer: Answer::Accepted(s.vertices, s.segments),
+    Ok(ReadText {
+        vertices: s.vertices,
+        segments: s.segments,
         plan: Plan::new(
             s.levels, s.gap, s.spacing, sizes, vias, halves, uppers, lowers, ratings,
         ),
-    }
+    })
 }

@@ -7,6 +7,7 @@ use native.Mathlib.Omega.{arith}
 use lib.ListN.{length, take, drop, replicate}
 use lib.Seq.{drop_at, length-take-le}
 use Rattle.ints.specs.Lists.{over}
+use Rattle.ints.specs.Refusals.{Verdict, gives}
 use Rattle.ints.specs.Ratings.{all_ratings}
 use Rattle.plan.specs.Limits.{max_vertices}
 use Rattle.plan.specs.Acceptable.{acceptable}
@@ -20,11 +21,9 @@ use Rattle.plan_untangle.specs.inner.Arrays.{Untangles}
 use Rattle.plan_untangle.proofs.Untangled.{untangled-acceptable}
 use Rattle.text.specs.Reading.{accepted, tangled_reading}
 use Rattle.text.proofs.RoundTrip.{tangled-limits, tangled-through}
-use Rattle.text_read.specs.Answer.{answer_of}
-use Rattle.text_read.specs.declared.Answer.TheVariants.{Accepted}
 use Rattle.text_read.specs.inner.Filled.{Kept}
 use Rattle.text_read.specs.declared.form.Scanned.{Scanned}
-use Rattle.text_read.proofs.Verdict.{in-fronts, kept-answer, within, sizes-front, vias-front, halves-front, uppers-front, lowers-front, ratings-front}
+use Rattle.text_read.proofs.Verdict.{in-fronts, kept-plan, within, sizes-front, vias-front, halves-front, uppers-front, lowers-front, ratings-front}
 use Rattle.text_untangle.specs.Untangled.{untangled_answer}
 use Rattle.text_untangle.specs.declared.ReadTangled.{ReadTangled}
 use Rattle.text_untangle.specs.inner.Fronts.{TangledIn, Front, UntangledIn, AcceptsTangled}
@@ -145,14 +144,15 @@ untangled-in p r sizes vias halves uppers lowers ratings numbers t vias' halves'
 pub tangled-answer : (p : PlanData) (r : Scanned) (sizes : List ℕ) (vias : List Bool) (halves uppers lowers ratings : List ℕ)
     → Kept (untangled p) r (replicate 64 0) (replicate 1024 false) (replicate 1024 0) (replicate 2048 0) (replicate 2048 0) (replicate 2048 0) sizes vias halves uppers lowers ratings
     → (numbers : List ℕ) → numbers ≡ over (order p) (replicate 1024 0)
-    → ◌≡◌ {A = ReadTangled}
-    (record {
-      answer = Accepted r.vertices r.segments;
+    → ◌≡◌ {A = Verdict ReadTangled}
+    (gives (record {
+      vertices = r.vertices;
+      segments = r.segments;
       plan = stored_plan r.levels r.gap r.spacing sizes vias halves uppers lowers ratings;
       numbers = numbers;
-    })
+    }))
     (untangled_answer (accepted p))
-unfolding untangled_answer answer_of
+unfolding untangled_answer
 tangled-answer p r sizes vias halves uppers lowers ratings K numbers e =
-    let a = kept-answer (untangled p) r sizes vias halves uppers lowers ratings K in
-    λ i. record { answer = (a i).answer; plan = (a i).plan; numbers = e i }
+    let a = kept-plan (untangled p) r sizes vias halves uppers lowers ratings K in
+    λ i. gives (record { vertices = (a i).vertices; segments = (a i).segments; plan = (a i).plan; numbers = e i })

@@ -10,10 +10,10 @@ ghost use Rattle.text_untangle.specs.Text.{untangled_text, Leaves};
 ghost use Rattle.text_untangle.specs.inner.Held.{WithNumbers, IsUntangled};
 
 use crate::read_tangled;
+use ints::refusal::Refusal;
 use plan::data::Plan;
 use plan_renumber::whole::copy;
-use text_read::Answer;
-use text_write::again::{Rewritten, stored_text};
+use text_write::again::stored_text;
 
 // "A text of an acceptable plan has at most 51,738 bytes".
 const MAX_TEXT: usize = 51738;
@@ -43,31 +43,26 @@ fn put_both(
     m: &[u16],
     out: &mut [u8],
     numbers: &mut [u16],
-) -> Rewritten
+) -> Result<usize, Refusal>
     requires { WithNumbers plan vertices segments m.now }
     ensures { (p : PlanData) → IsUntangled p plan vertices segments m.now
         → Leaves (untangled_text (accepted p) out.old numbers.old) result out.new numbers.new }
 {
     if out.len() < text_length(plan, vertices, segments) {
-        return Rewritten::Short;
+        return Err(Refusal::Room);
     }
     if numbers.len() < vertices {
-        return Rewritten::Short;
+        return Err(Refusal::Room);
     }
     put_numbers(m, vertices, numbers);
-    Rewritten::Written(stored_text(plan, vertices, segments, out))
+    Ok(stored_text(plan, vertices, segments, out))
 }
 
 // The text of the untangled plan at the front of one buffer, and each vertex's number in the text at the front of the other, if
 // both have room. Else both stay as they are.
-pub fn untangle_text(text: &[u8], out: &mut [u8], numbers: &mut [u16]) -> Rewritten
+pub fn untangle_text(text: &[u8], out: &mut [u8], numbers: &mut [u16]) -> Result<usize, Refusal>
     ensures { Leaves (untangled_text (tangled_reading text.now) out.old numbers.old) result out.new numbers.new }
 {
-    let r = read_tangled(text);
-    let m = r.numbers;
-    let answer = r.answer;
-    match answer {
-        Answer::Accepted(v, e) => put_both(r.plan, v, e, &m, out, numbers),
-        Answer::Refused(n) => Rewritten::Refused(n),
-    }
+    let r = read_tangled(text)?;
+    put_both(r.plan, r.vertices, r.segments, &r.numbers, out, numbers)
 }

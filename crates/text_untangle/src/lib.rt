@@ -6,22 +6,24 @@ pub mod again;
 ghost use Rattle.std.specs.Prelude.{◌≡◌, length};
 ghost use Rattle.plan.specs.Limits.{max_vertices};
 ghost use Rattle.plan.specs.Plan.{PlanData};
-ghost use Rattle.text.specs.Reading.{refused, tangled_reading};
+ghost use Rattle.ints.specs.Refusals.{verdict_of};
+ghost use Rattle.text.specs.Reading.{tangled_reading};
 ghost use Rattle.text_read.specs.inner.Taken.{Arrays};
 ghost use Rattle.text_untangle.specs.Untangled.{untangled_answer};
 ghost use Rattle.text_untangle.specs.inner.Fronts.{TangledIn, SomeTangledIn, UntangledIn, FindsTangled};
 
+use ints::refusal::Refusal;
 use plan::data::Plan;
-use plan::numbers::wide;
 use plan_untangle::untangle::untangle;
 use text_read::form::Scanned;
-use text_read::{Answer, Found, read_into, refuses_both};
+use text_read::{read_into, tangled_verdict};
 
-// What reading a text that may be tangled gives: the untangled plan, and each vertex's number in the text. Where the text is refused
-// both are 0 throughout.
+// What reading a text that may be tangled gives: the untangled plan, with its numbers of vertices and segments, and each vertex's number
+// in the text.
 #[derive(Clone, Copy)]
 pub struct ReadTangled {
-    pub answer: Answer,
+    pub vertices: usize,
+    pub segments: usize,
     pub plan: Plan,
     pub numbers: [u16; Plan::MAX_VERTICES],
 }
@@ -43,7 +45,7 @@ fn untangle_fronts(
         → UntangledIn p s vias.old halves.old uppers.old lowers.old ratings.old numbers.old
         vias.new halves.new uppers.new lowers.new ratings.new numbers.new }
 {
-    let k = wide(s.levels);
+    let k = s.levels as usize;
     let v = s.vertices;
     let e = s.segments;
     untangle(
@@ -68,36 +70,24 @@ pub fn read_tangled_into(
     lowers: &mut [u32],
     ratings: &mut [u32],
     numbers: &mut [u16],
-) -> Found
+) -> Result<Scanned, Refusal>
     requires { Arrays sizes.old vias.old halves.old uppers.old lowers.old ratings.old × (length numbers.old ≡ max_vertices) }
     ensures { FindsTangled text.now result sizes.old vias.old halves.old uppers.old
         lowers.old ratings.old numbers.old sizes.new vias.new halves.new
         uppers.new lowers.new ratings.new numbers.new }
 {
     let r = read_into(text, sizes, vias, halves, uppers, lowers, ratings);
-    if refuses_both(r.failed) {
-        return r;
-    }
+    tangled_verdict(r.verdict)?;
     let scanned = r.scanned;
     untangle_fronts(
         scanned, sizes, vias, halves, uppers, lowers, ratings, numbers,
     );
-    Found { failed: 0, scanned }
-}
-
-fn refuse(n: u32) -> ReadTangled
-    ensures { result ≡ untangled_answer (refused n) }
-{
-    ReadTangled {
-        answer: Answer::Refused(n),
-        plan: Plan::empty(),
-        numbers: [0; Plan::MAX_VERTICES],
-    }
+    Ok(scanned)
 }
 
 // Reads a plan text that may be tangled.
-pub fn read_tangled(text: &[u8]) -> ReadTangled
-    ensures { result ≡ untangled_answer (tangled_reading text.now) }
+pub fn read_tangled(text: &[u8]) -> Result<ReadTangled, Refusal>
+    ensures { verdict_of result ≡ untangled_answer (tangled_reading text.now) }
 {
     let mut sizes = [0u16; Plan::MAX_LEVELS];
     let mut vias = [false; Plan::MAX_VERTICES];
@@ -106,7 +96,7 @@ pub fn read_tangled(text: &[u8]) -> ReadTangled
     let mut lowers = [0u32; Plan::MAX_SEGMENTS];
     let mut ratings = [0u32; Plan::MAX_SEGMENTS];
     let mut numbers = [0u16; Plan::MAX_VERTICES];
-    let r = read_tangled_into(
+    let s = read_tangled_into(
         text,
         &mut sizes,
         &mut vias,
@@ -115,16 +105,13 @@ pub fn read_tangled(text: &[u8]) -> ReadTangled
         &mut lowers,
         &mut ratings,
         &mut numbers,
-    );
-    if r.failed != 0 {
-        return refuse(r.failed);
-    }
-    let s = r.scanned;
-    ReadTangled {
-        answer: Answer::Accepted(s.vertices, s.segments),
+    )?;
+    Ok(ReadTangled {
+        vertices: s.vertices,
+        segments: s.segments,
         plan: Plan::new(
             s.levels, s.gap, s.spacing, sizes, vias, halves, uppers, lowers, ratings,
         ),
         numbers,
-    }
+    })
 }

@@ -4,6 +4,7 @@ use mathlib.Core.Bool.{true, false}
 use mathlib.Core.List.{List, [], ◌∷◌, ◌++◌, map}
 use Prim.Native.Nat.{ℕ}
 use Rattle.ints.specs.Lists.{chosen}
+use Rattle.ints.specs.Refusals.{Verdict, gives, refuses}
 use Rattle.plan.specs.Checks.{tangled_checks_of}
 use Rattle.plan.specs.Walk.{inner_below, walk_from, walk}
 use Rattle.plan.specs.declared.walk.Walk.{Walk}
@@ -12,8 +13,6 @@ use Rattle.text.specs.Bytes.{bytes}
 use Rattle.text.specs.Reading.{tangled_reading}
 use Rattle.text.proofs.Cases.{text_open}
 use Rattle.text_walk.specs.Walks.{walk_of, text_walk}
-use Rattle.text_walk.specs.declared.WalkAnswer.{WalkAnswer}
-use Rattle.text_walk.specs.declared.WalkAnswer.TheVariants.{Walked, Refused}
 
 abbrev clear : ℕ → Walk
 clear n = record { crossed = false; taken = n }
@@ -36,16 +35,16 @@ tangled_text =
     bytes "(plan 4 1 1)\n(level (box 1) (box 1))\n(level (via) (box 1) (via) (via))\n(level (box 1) (via) (via))\n(level (box 1) (box 1))\n"
     ++ bytes "(seg 0 2)\n(seg 0 4)\n(seg 1 5)\n(seg 2 8 100)\n(seg 3 6)\n(seg 4 7)\n(seg 5 6)\n(seg 7 9)\n(seg 8 10)\n(end)\n"
 
-abbrev walks : List ℕ → List WalkAnswer
+abbrev walks : List ℕ → List (Verdict Walk)
 walks text = map (λ l. text_walk l text) (0 ∷ 1 ∷ 2 ∷ 3 ∷ 4 ∷ [])
 
 -- from the top no segment is inner; a segment from a via to a box is none
-found : walks tangled_text ≡ Refused 7 ∷ Walked (clear 0) ∷ Walked (crossed 2) ∷ Walked (clear 0) ∷ Refused 7 ∷ []
+found : walks tangled_text ≡ refuses 7 ∷ gives (clear 0) ∷ gives (crossed 2) ∷ gives (clear 0) ∷ refuses 7 ∷ []
 unfolding text_open text_walk walk_of walk walk_from inner_below chosen tangled_reading tangled_checks_of
 found = refl
 
 -- 1 to 5 come before 7
 refused : map (λ t. text_walk 9 t) (bytes "(plan" ∷ bytes "(plan 1 0 1)\n(level (box 1))\n(end)\n" ∷ bytes "(plan 1 1 1)\n(level (box 1))\n(seg 0 0)\n(end)\n" ∷ [])
-    ≡ Refused 1 ∷ Refused 2 ∷ Refused 3 ∷ []
+    ≡ refuses 1 ∷ refuses 2 ∷ refuses 3 ∷ []
 unfolding text_open text_walk walk_of tangled_reading tangled_checks_of
 refused = refl

@@ -10,7 +10,12 @@ use native.Mathlib.Omega.{arith}
 use borrow.Author.Tests.{lt-ltb, le-ltb}
 use lib.Dec.{ltb}
 use lib.ListN.{length, take}
-use Rattle.ints.specs.Refusals.{Test, check, is_first, none_refuses}
+use Rattle.std.specs.Prelude.{Result, Ok}
+use Rattle.ints.specs.declared.refusal.Refusal.{Refusal}
+use Rattle.text_read.specs.declared.Found.{Found}
+use Rattle.text_read.specs.inner.Taken.{Finds, tangled_refusal}
+use Rattle.text_read.proofs.SecondWay.{tangled-taken}
+use Rattle.ints.specs.Refusals.{refused_by, Test, check, is_first, none_refuses, Verdict, gives, refuses}
 use Rattle.ints.proofs.Laws.{cases}
 use Rattle.ints.proofs.Refusals.{numbered}
 use Rattle.ints.proofs.Tests.{and-false}
@@ -32,8 +37,6 @@ use Rattle.text_read.specs.inner.Filled.{Kept}
 use Rattle.text_read.specs.declared.form.Scanned.{Scanned}
 use Rattle.text_read.proofs.Verdict.{within, sizes-front, vias-front, uppers-front, lowers-front}
 use Rattle.text_walk.specs.Walks.{walk_of, text_walk}
-use Rattle.text_walk.specs.declared.WalkAnswer.{WalkAnswer}
-use Rattle.text_walk.specs.declared.WalkAnswer.TheVariants.{Walked, Refused}
 
 -- ---- a plan that passes checks 1 to 5, its lists at the front of arrays
 pub record PassedIn (p : PlanData) (r : Scanned) (sizes : List ℕ) (vias : List Bool) (uppers lowers : List ℕ) : Type 0 where
@@ -73,23 +76,36 @@ passed-in s p e {r} {sizes} {vias} {halves} {uppers} {lowers} {ratings} {sizes'}
       walks = λ l. walk_same p l (sym w.sizes_long) ∙ (λ i. walk_of l (accepted (graph_of (a i) (b i) (c i) (d i))));
     }
 
+-- what the second way takes is at the front of the arrays
+pub record TakenIn (s : List ℕ) (r : Scanned) (sizes : List ℕ) (vias : List Bool) (uppers lowers : List ℕ) : Type 0 where
+  pub plan : PlanData
+  pub reads : tangled_reading s ≡ accepted plan
+  pub fronts : PassedIn plan r sizes vias uppers lowers
+
+pub taken-in : (s : List ℕ) {r : Found} {sizes : List ℕ} {vias : List Bool} {halves uppers lowers ratings sizes' : List ℕ}
+    {vias' : List Bool} {halves' uppers' lowers' ratings' : List ℕ} → Finds s r sizes vias halves uppers lowers ratings sizes' vias' halves' uppers' lowers' ratings'
+    → (v : Result Unit Refusal) → refused_by v ≡ tangled_refusal (refused_by r.verdict) → v ≡ Ok tt → TakenIn s r.scanned sizes' vias' uppers' lowers'
+taken-in s {r} F v e w =
+    let t = tangled-taken s r _ _ _ _ _ _ _ _ _ _ _ _ F v e w in
+    record { plan = t.0; reads = t.1; fronts = passed-in s t.0 t.1 (F.kept t.0 t.1) }
+
 -- ---- whether there are such levels
 module _ (p : PlanData) (l : ℕ) where
-  pub above-all : l ≡ 0 → Refused 7 ≡ walk_of l (accepted p)
+  pub above-all : l ≡ 0 → refuses 7 ≡ walk_of l (accepted p)
   unfolding walk_of
   above-all e = rw (le-ltb 0 l (omega arith))
 
-  pub below_all : p.levels ≤ l → Refused 7 ≡ walk_of l (accepted p)
+  pub below_all : p.levels ≤ l → refuses 7 ≡ walk_of l (accepted p)
   unfolding walk_of
   below_all h = rw (le-ltb l p.levels h, and-false)
 
-  pub between : (l ≡ 0 → ⊥) → l < p.levels → Walked (walk p l) ≡ walk_of l (accepted p)
+  pub between : (l ≡ 0 → ⊥) → l < p.levels → gives (walk p l) ≡ walk_of l (accepted p)
   unfolding walk_of
   between z h = rw (lt-ltb 0 l (cases l 0 (λ k. absurd (z (omega arith))) (λ k. k)), lt-ltb l p.levels h)
 
 -- ---- by what the second way reads
 module _ (l : ℕ) (s : List ℕ) where
-  pub walks-refused : (n : ℕ) → tangled_reading s ≡ refused n → text_walk l s ≡ Refused n
+  pub walks-refused : (n : ℕ) → tangled_reading s ≡ refused n → text_walk l s ≡ refuses n
   unfolding text_walk walk_of
   walks-refused n e = rw e
 
@@ -114,15 +130,15 @@ module _ (l : ℕ) (s : List ℕ) where
   read : Reading
   read = reading_by (λ p. tangled_checks_of p ++ last-7 p ∷ []) s
 
-  said : Reading → WalkAnswer
-  said (accepted p) = Walked (walk p l)
-  said (refused n) = Refused n
+  said : Reading → Verdict Walk
+  said (accepted p) = gives (walk p l)
+  said (refused n) = refuses n
 
   walks-by : (r : Reading) → walk_of l r ≡ said (lastly last-7 r)
   unfolding walk_of said
   walks-by (accepted p) = by (has_next p l)
     where
-      by : (b : Bool) → cond b (Walked (walk p l)) (Refused 7) ≡ said (cond (not b) (refused 7) (accepted p))
+      by : (b : Bool) → cond b (gives (walk p l)) (refuses 7) ≡ said (cond (not b) (refused 7) (accepted p))
       by true = refl
       by false = refl
   walks-by (refused n) = refl
@@ -131,26 +147,26 @@ module _ (l : ℕ) (s : List ℕ) where
   unfolding text_walk read
   walk_is = walks-by (tangled_reading s) ∙ ap said (sym (reads-lastly s last-7 (λ p. refl)))
 
-  refuses : (r : Reading) (m : ℕ) → (said r ≡ Refused m) ↔ (r ≡ refused m)
+  told : (r : Reading) (m : ℕ) → (said r ≡ refuses m) ↔ (r ≡ refused m)
   unfolding said
-  refuses (accepted p) m = (λ e. never (cc), λ e. never (cc))
-  refuses (refused n) m = (λ e. ap refused (cc), λ e. cc)
+  told (accepted p) m = (λ e. never (cc), λ e. never (cc))
+  told (refused n) m = (λ e. ap refused (cc), λ e. cc)
 
-  gives : (r : Reading) → ((w : Walk) × (said r ≡ Walked w)) ↔ ((p : PlanData) × (r ≡ accepted p))
+  walked : (r : Reading) → ((w : Walk) × (said r ≡ gives w)) ↔ ((p : PlanData) × (r ≡ accepted p))
   unfolding said
-  gives (accepted p) = (λ e. (p, refl), λ e. (walk p l, refl))
-  gives (refused n) = (λ e. never (cc e.1), λ e. never (cc e.1))
+  walked (accepted p) = (λ e. (p, refl), λ e. (walk p l, refl))
+  walked (refused n) = (λ e. never (cc e.1), λ e. never (cc e.1))
 
-  pub walk_refused : (m : ℕ) → (text_walk l s ≡ Refused m) ↔ (is_first m walk_tests ≡ true)
+  pub walk_refused : (m : ℕ) → (text_walk l s ≡ refuses m) ↔ (is_first m walk_tests ≡ true)
   unfolding read
   walk_refused m =
-      let r = refuses read m in
+      let r = told read m in
       let b = by-refused (λ p. tangled_checks_of p ++ last-7 p ∷ []) s known (form_of s) m in
       (λ e. b.0 (r.0 (sym walk_is ∙ e)), λ e. walk_is ∙ r.1 (b.1 e))
 
-  pub walk-given : ((w : Walk) × (text_walk l s ≡ Walked w)) ↔ (none_refuses walk_tests ≡ true)
+  pub walk-given : ((w : Walk) × (text_walk l s ≡ gives w)) ↔ (none_refuses walk_tests ≡ true)
   unfolding read
   walk-given =
-      let r = gives read in
+      let r = walked read in
       let b = by-given (λ p. tangled_checks_of p ++ last-7 p ∷ []) s known (form_of s) in
       (λ e. b.0 (r.0 (e.0, sym walk_is ∙ e.1)), λ e. let w = r.1 (b.1 e) in (w.0, walk_is ∙ w.1))

@@ -1,5 +1,5 @@
 -- A plan as it was read is stored with the very data of the reading, so its text is the reading's.
-use mathlib.Core.Path.{◌≡◌, refl, sym, ◌∙◌, ap}
+use mathlib.Core.Path.{◌≡◌, refl, sym, ◌∙◌, ap, subst}
 use mathlib.Core.Bool.{true, false}
 use mathlib.Core.List.{List}
 use Prim.Native.Nat.{ℕ, ◌≤◌, ◌<◌, ◌^◌}
@@ -15,21 +15,22 @@ use Rattle.plan.specs.Stored.{plan_data}
 use Rattle.plan.specs.Checks.{checks_of}
 use Rattle.plan.specs.Acceptable.{limits_hold, acceptable}
 use Rattle.plan.specs.declared.data.Plan.{Plan}
-use Rattle.ints.specs.Refusals.{none_refuses}
+use Rattle.std.specs.Prelude.{Ok, Err}
+use Rattle.ints.specs.Refusals.{none_refuses, gives, refuses, number_of}
+use Rattle.ints.specs.declared.refusal.Refusal.{Refusal}
+use Rattle.ints.specs.declared.refusal.Refusal.TheVariants.{Room}
 use Rattle.ints.proofs.Tests.{test, and_left}
 use Rattle.plan.proofs.LimitLaws.{Limits}
 use Rattle.plan.proofs.Sound.{sound}
 use Rattle.text.specs.Reading.{Reading, accepted, refused, reading}
 use Rattle.text.specs.Writing.{text_of}
 use Rattle.text_read.specs.Answer.{plan_of, answer_of}
-use Rattle.text_read.specs.declared.Answer.TheVariants.{Accepted, Refused}
 use Rattle.text_read.specs.declared.ReadText.{ReadText}
 use Rattle.text.proofs.DecimalLaws.{decimal-length}
 use Rattle.text.proofs.RoundTrip.{text-short, written_read, read-acceptable}
 use Rattle.text_write.specs.inner.Data.{max_text}
 use Rattle.text_write.specs.Again.{refused_line, text_if_short, rewritten, Leaves}
 use Rattle.text_write.specs.inner.Written.{Fronts}
-use Rattle.text_write.specs.declared.again.Rewritten.TheVariants.{Written, Refused as Not, Short}
 use Rattle.text_write.specs.inner.Stored.{StoredLimits, StoredPlan}
 
 -- ---- what was read
@@ -81,34 +82,31 @@ plan-again s p e =
       short = rw same (text-short p a);
     }
 
-pub read-accepted : (s : List ℕ) (r : ReadText) (v e : ℕ) → r ≡ answer_of (reading s) → r.answer ≡ Accepted v e → Again s r.plan v e
+pub read-accepted : (s : List ℕ) (r : ReadText) → gives r ≡ answer_of (reading s) → Again s r.plan r.vertices r.segments
 unfolding answer_of
-read-accepted s r v e q a = go (reading s) refl
+read-accepted s r q = go (reading s) refl
   where
-    go : (g : Reading) → reading s ≡ g → Again s r.plan v e
+    go : (g : Reading) → reading s ≡ g → Again s r.plan r.vertices r.segments
     go (accepted p) h =
-        let whole : r ≡ answer_of (accepted p) = q ∙ ap answer_of h in
-        let told : Accepted v e ≡ Accepted (length p.vias) (length p.uppers) = sym a ∙ ap (λ (x : ReadText). x.answer) whole in
-        let plan : plan_of p ≡ r.plan = sym (ap (λ (x : ReadText). x.plan) whole) in
-        let vs : length p.vias ≡ v = cc told in
-        let es : length p.uppers ≡ e = cc told in
-        rw (plan, vs, es) at (plan-again s p h)
+        let told : gives r ≡ answer_of (accepted p) = q ∙ ap answer_of h in
+        let same : record { vertices = length p.vias; segments = length p.uppers; plan = plan_of p } ≡ r = cc told in
+        subst (λ (x : ReadText). Again s x.plan x.vertices x.segments) same (plan-again s p h)
     go (refused n) h =
-        let told : Accepted v e ≡ Refused n = sym a ∙ ap (λ (x : ReadText). x.answer) (q ∙ ap answer_of h) in
+        let told : gives r ≡ answer_of (refused n) = q ∙ ap answer_of h in
         let z : ◌≡◌ {A = ℕ} 0 1 = cc told in
         absurd (omega arith)
 
-pub read-refused : (s : List ℕ) (r : ReadText) (n : ℕ) → r ≡ answer_of (reading s) → r.answer ≡ Refused n → reading s ≡ refused n
+pub read-refused : (s : List ℕ) (n : ℕ) → refuses n ≡ answer_of (reading s) → reading s ≡ refused n
 unfolding answer_of
-read-refused s r n q a = go (reading s) refl
+read-refused s n q = go (reading s) refl
   where
     go : (g : Reading) → reading s ≡ g → reading s ≡ refused n
     go (accepted p) h =
-        let told : Refused n ≡ Accepted (length p.vias) (length p.uppers) = sym a ∙ ap (λ (x : ReadText). x.answer) (q ∙ ap answer_of h) in
+        let told : refuses n ≡ answer_of (accepted p) = q ∙ ap answer_of h in
         let z : ◌≡◌ {A = ℕ} 0 1 = cc told in
         absurd (omega arith)
     go (refused m) h =
-        let told : Refused n ≡ Refused m = sym a ∙ ap (λ (x : ReadText). x.answer) (q ∙ ap answer_of h) in
+        let told : refuses n ≡ answer_of (refused m) = q ∙ ap answer_of h in
         let same : m ≡ n = cc told in
         h ∙ ap refused same
 
@@ -119,29 +117,29 @@ rewritten-accepted p o = refl
 
 -- into a buffer with no room, and with room
 module _ (w o : List ℕ) where
-  pub leaves-short : length o < length w → Leaves (text_if_short w o) Short o
+  pub leaves-short : length o < length w → Leaves (text_if_short w o) (Err Room) o
   unfolding text_if_short
   leaves-short h = rw (lt-leb (length w) (length o) h) (record { answer = refl; buffer = refl })
 
-  pub leaves-written : {n : ℕ} {out : List ℕ} → length w ≤ length o → Fronts w o n out → Leaves (text_if_short w o) (Written n) out
+  pub leaves-written : {n : ℕ} {out : List ℕ} → length w ≤ length o → Fronts w o n out → Leaves (text_if_short w o) (Ok n) out
   unfolding text_if_short
-  leaves-written h f = rw (le-leb (length w) (length o) h) (record { answer = ap Written f.count; buffer = f.bytes })
+  leaves-written h f = rw (le-leb (length w) (length o) h) (record { answer = ap gives f.count; buffer = f.bytes })
 
-pub leaves-refused : (n : ℕ) (o : List ℕ) → Leaves (rewritten (refused n) o) (Not n) o
+pub leaves-refused : (f : Refusal) (o : List ℕ) → Leaves (rewritten (refused (number_of f)) o) (Err f) o
 unfolding rewritten
-leaves-refused n o = record { answer = refl; buffer = refl }
+leaves-refused f o = record { answer = refl; buffer = refl }
 
 pub refused-short : (n : ℕ) → n < 2 ^ 32 → length (refused_line n) ≤ 21
 unfolding refused_line
 refused-short n h = let d = decimal-length 9 n (omega arith) in simp length-append (omega arith)
 
 -- no more than a plan's text is written
-pub written-few : (s o : List ℕ) (n : ℕ) → (rewritten (reading s) o).answer ≡ Written n → n ≤ max_text
+pub written-few : (s o : List ℕ) (n : ℕ) → (rewritten (reading s) o).answer ≡ gives n → n ≤ max_text
 unfolding rewritten text_if_short
 written-few s o n = go (reading s) refl
   where
-    go : (g : Reading) → reading s ≡ g → (rewritten g o).answer ≡ Written n → n ≤ max_text
+    go : (g : Reading) → reading s ≡ g → (rewritten g o).answer ≡ gives n → n ≤ max_text
     go (accepted p) h e = test (leb (length (text_of p)) (length o))
-        (λ t. let told : Written (length (text_of p)) ≡ Written n = rw t at e in let same : length (text_of p) ≡ n = cc told in omega (arith, text-short p (read-acceptable s p h)))
-        (λ t. let told : Short ≡ Written n = rw t at e in let z : ◌≡◌ {A = ℕ} 0 1 = cc told in absurd (omega arith))
+        (λ t. let told : gives (length (text_of p)) ≡ gives n = rw t at e in let same : length (text_of p) ≡ n = cc told in omega (arith, text-short p (read-acceptable s p h)))
+        (λ t. let told : refuses 14 ≡ gives n = rw t at e in let z : ◌≡◌ {A = ℕ} 0 1 = cc told in absurd (omega arith))
     go (refused m) h e = let z : ◌≡◌ {A = ℕ} 0 1 = cc e in absurd (omega arith)

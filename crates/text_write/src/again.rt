@@ -10,17 +10,9 @@ ghost use Rattle.text_write.specs.Again.{refused_line, Leaves, text_if_short, re
 
 use crate::lines::{line as write_line, text as write_text};
 use crate::number::{put_then, put_word};
+use ints::refusal::Refusal;
 use plan::data::Plan;
-use text_read::{Answer, read};
-
-// What writing a text again gives: how many bytes were written, the number of the text's refusal, or that the buffer is too
-// short.
-#[derive(Clone, Copy)]
-pub enum Rewritten {
-    Written(usize),
-    Refused(u32),
-    Short,
-}
+use text_read::read;
 
 // "(refused N)", at the front of the buffer: how many bytes it has.
 pub fn refuse(n: u32, out: &mut [u8]) -> usize
@@ -78,23 +70,20 @@ fn text_if_short(
     segments: usize,
     n: usize,
     out: &mut [u8],
-) -> Rewritten
+) -> Result<usize, Refusal>
     requires { StoredPlan plan vertices segments × (n ≡ length (text_of (plan_data plan vertices segments))) }
     ensures { Leaves (text_if_short (text_of (plan_data plan vertices segments)) out.old) result out.new }
 {
     if out.len() < n {
-        return Rewritten::Short;
+        return Err(Refusal::Room);
     }
-    Rewritten::Written(stored_text(plan, vertices, segments, out))
+    Ok(stored_text(plan, vertices, segments, out))
 }
 
-// The plan's text again, at the front of the buffer, if it has room for it. Else the buffer stays as it is.
-pub fn rewrite(text: &[u8], out: &mut [u8]) -> Rewritten
+// The plan's text again, at the front of the buffer, if it has room for it: how many bytes were written. Else the buffer stays as it is.
+pub fn rewrite(text: &[u8], out: &mut [u8]) -> Result<usize, Refusal>
     ensures { Leaves (rewritten (reading text.now) out.old) result out.new }
 {
-    let r = read(text);
-    match r.answer {
-        Answer::Accepted(v, e) => text_if_short(r.plan, v, e, text.len(), out),
-        Answer::Refused(n) => Rewritten::Refused(n),
-    }
+    let r = read(text)?;
+    text_if_short(r.plan, r.vertices, r.segments, text.len(), out)
 }

@@ -1,5 +1,6 @@
 -- What reading a text into lent arrays asks and leaves.
-use Rattle.std.specs.Prelude.{◌≡◌, Bool, not, ◌&&◌, List, ℕ, ◌≤◌, eqb, length, take}
+use Rattle.std.specs.Prelude.{◌≡◌, Bool, cond, not, ◌&&◌, List, ℕ, ◌≤◌, eqb, length, take}
+use Rattle.ints.specs.Refusals.{refused_by}
 use Rattle.plan.specs.Plan.{PlanData}
 use Rattle.plan.specs.Limits.{max_levels, max_vertices, max_segments}
 use Rattle.plan.specs.inner.Held.{HoldsPlan}
@@ -40,11 +41,15 @@ pub record Accepts (s : List ℕ) (r : Scanned) (sizes : List ℕ) (vias : List 
 -- Refused by the first check that fails, or accepted. What passes checks 1 to 5 is in the arrays, whether 6 refuses it or not.
 pub record Finds (s : List ℕ) (r : Found) (sizes : List ℕ) (vias : List Bool) (halves uppers lowers ratings : List ℕ)
     (sizes' : List ℕ) (vias' : List Bool) (halves' uppers' lowers' ratings' : List ℕ) : Type 0 where
-  pub refuses : (r.failed ≡ 0 → ⊥) → reading s ≡ refused r.failed
-  pub accepts : r.failed ≡ 0 → Accepts s r.scanned sizes vias halves uppers lowers ratings sizes' vias' halves' uppers' lowers' ratings'
+  pub refuses : (refused_by r.verdict ≡ 0 → ⊥) → reading s ≡ refused (refused_by r.verdict)
+  pub accepts : refused_by r.verdict ≡ 0 → Accepts s r.scanned sizes vias halves uppers lowers ratings sizes' vias' halves' uppers' lowers' ratings'
   pub kept : (p : PlanData) → tangled_reading s ≡ accepted p
       → Kept p r.scanned sizes vias halves uppers lowers ratings sizes' vias' halves' uppers' lowers' ratings'
 
 -- Whether the first way's number refuses the second way too: it is that of a check other than 6.
 abbrev pub refuses_both : ℕ → Bool
 refuses_both n = not (eqb n 0) && not (eqb n 6)
+
+-- The number by which the second way refuses, from that of the first, 0 if it does not.
+abbrev pub tangled_refusal : ℕ → ℕ
+tangled_refusal n = cond (refuses_both n) n 0

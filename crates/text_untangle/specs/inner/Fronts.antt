@@ -1,6 +1,8 @@
 -- A tangled plan's data at the front of arrays, and what untangling them and reading them leaves.
-use Rattle.std.specs.Prelude.{◌≡◌, Bool, List, ℕ, ◌≤◌, length, take}
+use Rattle.std.specs.Prelude.{◌≡◌, Bool, List, ℕ, ◌≤◌, length, take, Result, Ok, Err}
 use Rattle.ints.specs.Lists.{over}
+use Rattle.ints.specs.Refusals.{number_of}
+use Rattle.ints.specs.declared.refusal.Refusal.{Refusal}
 use Rattle.plan.specs.Plan.{PlanData}
 use Rattle.plan_untangle.specs.Order.{order, untangled}
 use Rattle.plan_untangle.specs.inner.Ordering.{Tangled}
@@ -8,7 +10,6 @@ use Rattle.text.specs.Reading.{accepted, refused, tangled_reading}
 use Rattle.text_read.specs.inner.Filled.{Kept}
 use Rattle.text_read.specs.inner.Taken.{InFronts}
 use Rattle.text_read.specs.declared.form.Scanned.{Scanned}
-use Rattle.text_read.specs.declared.Found.{Found}
 
 -- The fronts of the arrays are the lists of p, which passes all checks but 6, and there is room for its numbers.
 pub record TangledIn (p : PlanData) (r : Scanned) (sizes : List ℕ) (vias : List Bool) (halves uppers lowers ratings numbers : List ℕ) : Type 0 where
@@ -53,7 +54,9 @@ pub record AcceptsTangled (s : List ℕ) (r : Scanned) (sizes : List ℕ) (vias 
   pub fronts : InFronts (untangled plan) r sizes' vias' halves' uppers' lowers' ratings'
 
 -- Refused by the first of checks 1 to 5 that fails, or accepted.
-pub record FindsTangled (s : List ℕ) (r : Found) (sizes : List ℕ) (vias : List Bool) (halves uppers lowers ratings numbers : List ℕ)
-    (sizes' : List ℕ) (vias' : List Bool) (halves' uppers' lowers' ratings' numbers' : List ℕ) : Type 0 where
-  pub refuses : (r.failed ≡ 0 → ⊥) → tangled_reading s ≡ refused r.failed
-  pub accepts : r.failed ≡ 0 → AcceptsTangled s r.scanned sizes vias halves uppers lowers ratings numbers sizes' vias' halves' uppers' lowers' ratings' numbers'
+abbrev pub FindsTangled : List ℕ → Result Scanned Refusal → (sizes : List ℕ) (vias : List Bool) (halves uppers lowers ratings numbers : List ℕ)
+    (sizes' : List ℕ) (vias' : List Bool) (halves' uppers' lowers' ratings' numbers' : List ℕ) → Type 0
+FindsTangled s (Ok f) sizes vias halves uppers lowers ratings numbers sizes' vias' halves' uppers' lowers' ratings' numbers' =
+    AcceptsTangled s f sizes vias halves uppers lowers ratings numbers sizes' vias' halves' uppers' lowers' ratings' numbers'
+FindsTangled s (Err x) sizes vias halves uppers lowers ratings numbers sizes' vias' halves' uppers' lowers' ratings' numbers' =
+    tangled_reading s ≡ refused (number_of x)

@@ -1,50 +1,55 @@
-use Rattle.std.proofs.Common.{◌≡◌, Bool, true, false, ℕ, [], ◌∷◌, sym, ◌∙◌}
-use Rattle.ints.specs.Refusals.{check, first_refusal}
+-- The checks come in the order of `checks_of`, and check 3 makes every end a vertex, which checks 5 and 6 ask for.
+use Rattle.std.proofs.Common.{◌≡◌, Bool, true, false, cond, sym, ◌∙◌, refl}
+use Rattle.ints.specs.Refusals.{first_refusal}
+use Rattle.plan.specs.Checks.{check3, check4, check5, check6, checks_of}
 use Rattle.plan.specs.Plan.{PlanData}
-use Rattle.plan.specs.Checks.{check3, check4, check5}
 use Rattle.plan.specs.inner.Graph.{graph_of}
-use Rattle.plan.proofs.GraphLaws.{within_of, early, late, fails-early, passes-early, fails-late}
+use Rattle.plan.proofs.GraphLaws.{within_of}
 use Rattle.plan_checks.proofs.checks.check_plan.Goals as goal
 
--- checks 3 and 4, as they were asked
-module _ (p : PlanData) {ends order : Bool} {failed : ℕ} (e : ends ≡ check3 p) (f : order ≡ check4 p) (h : failed ≡ first_refusal (check 3 ends ∷ check 4 order ∷ [])) where
-  first : failed ≡ first_refusal (early p)
-  first = rw (← e, ← f) h
+-- the number of the first that fails
+by-tests : (p : PlanData) (a b c d : Bool) → a ≡ check3 p → b ≡ check4 p → c ≡ check5 p → d ≡ check6 p
+    → cond a (cond b (cond c (cond d 0 6) 5) 4) 3 ≡ first_refusal (checks_of p)
+unfolding first_refusal checks_of
+by-tests p false b c d e f g h = rw (← e)
+by-tests p true false c d e f g h = rw (← e, ← f)
+by-tests p true true false d e f g h = rw (← e, ← f, ← g)
+by-tests p true true true false e f g h = rw (← e, ← f, ← g, ← h)
+by-tests p true true true true e f g h = rw (← e, ← f, ← g, ← h)
 
-  has-3-4 : failed ≡ 0 → (check3 p ≡ true) × (check4 p ≡ true)
-  has-3-4 z = passes-early p failed first z
+pub returns-then-not-check_levels : goal.returns-then-not-check_levels
+returns-then-not-check_levels c =
+    by-tests _ false (check4 _) (check5 _) (check6 _) (sym c.if-not-check_levels.true ∙ c.check_levels.ensures) refl refl refl
 
-five-fails : (p : PlanData) → check5 p ≡ false → 5 ≡ first_refusal (late p)
-unfolding first_refusal
-five-fails p e = rw e
+pub returns-then-not-check_order : goal.returns-then-not-check_order
+returns-then-not-check_order c =
+    let p = graph_of c.args.sizes.now c.args.vias.now c.args.uppers.now c.args.lowers.now in
+    let passed : true ≡ check3 p = cc in
+    by-tests p true false (check5 p) (check6 p) passed
+    (sym c.if-not-check_order.true ∙ c.check_order.ensures c.args.sizes.now c.args.vias.now) refl refl
 
-pub returns-then-failed-ne0 : goal.returns-then-failed-ne0
-returns-then-failed-ne0 c =
-    let a = c.args in
-    fails-early _ _ (first (graph_of a.sizes.now a.vias.now a.uppers.now a.lowers.now) c.check_levels-ends.ensures (c.check_order-order.ensures a.sizes.now a.vias.now) c.first_of-failed.ensures) c.if-failed-ne0.true
+pub check_vias-requires : goal.check_vias-requires
+check_vias-requires c = within_of c.args.sizes.now _ _ _ c.requires (sym c.check_levels.ensures ∙ c.if-not-check_levels.false)
 
--- check 3 makes every end a vertex, which checks 5 and 6 ask for
-pub check_vias-through-requires : goal.check_vias-through-requires
-check_vias-through-requires c =
-    let a = c.args in
-    let has = has-3-4 (graph_of a.sizes.now a.vias.now a.uppers.now a.lowers.now) c.check_levels-ends.ensures (c.check_order-order.ensures a.sizes.now a.vias.now) c.first_of-failed.ensures c.if-failed-ne0.false in
-    within_of a.sizes.now a.vias.now a.uppers.now a.lowers.now c.requires has.0
+pub returns-then-not-check_vias : goal.returns-then-not-check_vias
+returns-then-not-check_vias c =
+    by-tests _ true true false (check6 _) (sym c.if-not-check_levels.false ∙ c.check_levels.ensures)
+    (sym c.if-not-check_order.false ∙ c.check_order.ensures c.args.sizes.now c.args.vias.now)
+    (sym c.if-not-check_vias.true ∙ c.check_vias.ensures c.args.sizes.now) refl
 
-pub returns-then-not-through : goal.returns-then-not-through
-returns-then-not-through c =
-    let a = c.args in
-    let has = has-3-4 (graph_of a.sizes.now a.vias.now a.uppers.now a.lowers.now) c.check_levels-ends.ensures (c.check_order-order.ensures a.sizes.now a.vias.now) c.first_of-failed.ensures c.if-failed-ne0.false in
-    fails-late _ 5 has.0 has.1 (five-fails _ (sym (c.check_vias-through.ensures a.sizes.now) ∙ c.if-not-through.true))
+pub check_inner-requires : goal.check_inner-requires
+check_inner-requires c = within_of c.args.sizes.now _ _ _ c.requires (sym c.check_levels.ensures ∙ c.if-not-check_levels.false)
 
-pub check_inner-apart-requires : goal.check_inner-apart-requires
-check_inner-apart-requires c =
-    let a = c.args in
-    let has = has-3-4 (graph_of a.sizes.now a.vias.now a.uppers.now a.lowers.now) c.check_levels-ends.ensures (c.check_order-order.ensures a.sizes.now a.vias.now) c.first_of-failed.ensures c.if-failed-ne0.false in
-    within_of a.sizes.now a.vias.now a.uppers.now a.lowers.now c.requires has.0
+pub returns-then-not-check_inner : goal.returns-then-not-check_inner
+returns-then-not-check_inner c =
+    let three = sym c.if-not-check_levels.false ∙ c.check_levels.ensures in
+    let four = sym c.if-not-check_order.false ∙ c.check_order.ensures c.args.sizes.now c.args.vias.now in
+    by-tests _ true true true false three four (sym c.if-not-check_vias.false ∙ c.check_vias.ensures c.args.sizes.now)
+    (sym c.if-not-check_inner.true ∙ c.check_inner.ensures c.args.sizes.now (sym three) (sym four))
 
 pub returns : goal.returns
 returns c =
-    let a = c.args in
-    let has = has-3-4 (graph_of a.sizes.now a.vias.now a.uppers.now a.lowers.now) c.check_levels-ends.ensures (c.check_order-order.ensures a.sizes.now a.vias.now) c.first_of-failed.ensures c.if-failed-ne0.false in
-    fails-late _ c.first_of.result has.0 has.1
-    (rw (← c.check_vias-through.ensures a.sizes.now, ← c.check_inner-apart.ensures a.sizes.now has.0 has.1) c.first_of.ensures)
+    let three = sym c.if-not-check_levels.false ∙ c.check_levels.ensures in
+    let four = sym c.if-not-check_order.false ∙ c.check_order.ensures c.args.sizes.now c.args.vias.now in
+    by-tests _ true true true true three four (sym c.if-not-check_vias.false ∙ c.check_vias.ensures c.args.sizes.now)
+    (sym c.if-not-check_inner.false ∙ c.check_inner.ensures c.args.sizes.now (sym three) (sym four))

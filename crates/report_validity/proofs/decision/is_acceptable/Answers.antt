@@ -1,4 +1,5 @@
 use Rattle.std.proofs.Common.{sym, ◌∙◌}
+use Rattle.ints.proofs.Refusals.{is-ok}
 use Rattle.plan.proofs.LimitLaws.{limits}
 use Rattle.report_validity.proofs.Limits.{accept-not, accept-first}
 use Rattle.report_validity.proofs.decision.is_acceptable.Goals as goal
@@ -10,4 +11,4 @@ pub check_plan-requires : goal.check_plan-requires
 check_plan-requires c = (limits _ (sym c.limits_hold.ensures ∙ c.if-not-limits_hold.false)).lists
 
 pub returns : goal.returns
-returns c = accept-first _ _ (sym c.limits_hold.ensures ∙ c.if-not-limits_hold.false) c.check_plan.ensures
+returns c = c.is_ok.ensures.value ∙ is-ok c.check_plan.result ∙ accept-first _ _ (sym c.limits_hold.ensures ∙ c.if-not-limits_hold.false) c.check_plan.ensures

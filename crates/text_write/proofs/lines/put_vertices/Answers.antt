@@ -25,6 +25,3 @@ loop-v-preserved c =
     let e : a.first + (l.v - a.first) ≡ l.v = omega arith in
     let m : l.v + 1 - a.first ≡ l.v - a.first + 1 = omega arith in
     rw m (vertex-more a.vias.now a.halves.now a.first (l.v - a.first) l.invariant (rw e c.put_vertex-at.ensures))
-
-pub returns : goal.returns
-returns c = let e : c.loop-v.v - c.args.first ≡ c.args.count = omega arith in rw e at c.loop-v.invariant
