@@ -5,10 +5,10 @@ use mathlib.Core.List.{List, [], ◌∷◌}
 use mathlib.Core.Path.{◌≡◌, refl}
 use Prim.Native.Nat.{ℕ}
 use Rattle.ints.proofs.Tests.{cond-left, cond-right}
+use Rattle.ints.specs.Refusals.{Verdict, gives, refuses}
 use Rattle.plan.specs.Checks.{every}
 use Rattle.text.proofs.Words.{never}
 use Rattle.sheet.specs.declared.types.Sheet.{Sheet}
-use Rattle.sheet.specs.Results.{Result, gives, refuses}
 use Rattle.sheet.specs.Calls.{clear}
 use Rattle.sheet.proofs.WhenRefused.{load_kept, tangled-kept, draw-kept, line_kept, report-kept, text-line-kept, whole-text-kept, marks-kept}
 use Rattle.calls.specs.declared.types.Call.{Call}
@@ -22,7 +22,7 @@ pub record Unchanged (l : Lent) (s : Sheet) (a : After) : Type 0 where
   pub buffer : a.buffer ≡ l.buffer
   pub numbers : a.numbers ≡ l.numbers
 
-each-refused : {A : Type 0} (f : A → Value) (r : Result A) {n : ℕ} → each f r ≡ refuses n → r ≡ refuses n
+each-refused : {A : Type 0} (f : A → Value) (r : Verdict A) {n : ℕ} → each f r ≡ refuses n → r ≡ refuses n
 each-refused f (gives a) e = never (cc)
 each-refused f (refuses m) e = cc
 

@@ -1,7 +1,7 @@
 -- Lists of calls.
 use Rattle.std.specs.Prelude.{Bool, true, false, List, [], ◌∷◌, ℕ, Float}
+use Rattle.ints.specs.Refusals.{Verdict}
 use Rattle.sheet.specs.declared.types.Sheet.{Sheet}
-use Rattle.sheet.specs.Results.{Result}
 use Rattle.calls.specs.declared.types.Call.{Call}
 use Rattle.calls.specs.declared.types.Call.TheVariants.{Load, LoadTangled, Draw, Line, Report, TextLine, WholeText, Mark, Marks, Clear}
 use Rattle.calls.specs.Replies.{Value}
@@ -13,7 +13,7 @@ pub record Asked : Type 0 where
   pub lent : Lent
 
 pub record Answered : Type 0 where
-  pub result : Result Value
+  pub result : Verdict Value
   pub buffer : List ℕ
   pub numbers : List Float
 

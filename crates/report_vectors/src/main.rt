@@ -7,22 +7,22 @@ pub mod inputs;
 ghost use Rattle.std.specs.Prelude.{◌≤◌, length};
 
 use crate::inputs::{MOST_BYTES, NO_MORE, next_length};
+use ints::refusal::Refusal;
 use sheet_fit::fit::MAX_REPORT;
 use std::io;
 use std::io::{Read, Write};
 use streams::read_full;
 use text_report::print::print;
-use text_write::again::{Rewritten, rewrite};
+use text_write::again::rewrite;
 
 const MOST_TEXTS: usize = 2000;
 
 // Whether a text is refused, or written again as it is; the buffer is for that.
 fn written_again(text: &[u8], buffer: &mut [u8]) -> bool {
-    let answer = rewrite(text, buffer);
-    match answer {
-        Rewritten::Written(n) => n == text.len() && buffer.starts_with(text),
-        Rewritten::Refused(_n) => true,
-        Rewritten::Short => false,
+    match rewrite(text, buffer) {
+        Ok(n) => n == text.len() && buffer.starts_with(text),
+        Err(Refusal::Room) => false,
+        Err(_) => true,
     }
 }
 

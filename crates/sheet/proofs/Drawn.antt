@@ -22,7 +22,7 @@ use Rattle.sheet_data.proofs.Rooms.{numbers_long}
 use Rattle.sheet_data.proofs.ReadBack.{read_back, demand3-of, drawing-holds}
 use Rattle.sheet.specs.declared.types.Sheet.{Sheet}
 use Rattle.sheet.specs.Sheet.{is_empty, vertices_in, segments_in, plan_in, drawing_in, remembered_in, drawn_sheet}
-use Rattle.sheet.specs.Results.{Result, gives, refuses}
+use Rattle.ints.specs.Refusals.{Verdict, gives, refuses}
 use Rattle.sheet.specs.Tests.{holds_plan, holds_numbers, lines_in, test7_line, marks_in, test7_mark, test14, line_of, report_of, numbers_of}
 use Rattle.sheet.specs.Calls.{draw_tests, draw, line, report, mark, marks}
 use Rattle.sheet.specs.inner.Refusals.{counts_in}
@@ -32,7 +32,7 @@ pub drawn-same : (s : Sheet) → (draw s).result ≡ gives tt → (draw s).sheet
 unfolding draw
 drawn-same s = by (eqb (first_refusal (draw_tests s)) 0)
   where
-    by : (t : Bool) → ◌≡◌ {A = Result Unit} (cond t (gives tt) (refuses (first_refusal (draw_tests s)))) (gives tt) → cond t (drawn_sheet s (drawing_of (plan_in s))) s ≡ drawn_sheet s (drawing_of (plan_in s))
+    by : (t : Bool) → ◌≡◌ {A = Verdict Unit} (cond t (gives tt) (refuses (first_refusal (draw_tests s)))) (gives tt) → cond t (drawn_sheet s (drawing_of (plan_in s))) s ≡ drawn_sheet s (drawing_of (plan_in s))
     by true e = refl
     by false e = never (cc)
 

@@ -9,7 +9,9 @@ use lib.Dec.{eqb}
 use lib.ListN.{length, drop}
 use lib.Ieee.{Float}
 use Rattle.ints.specs.Lists.{over}
-use Rattle.ints.specs.Refusals.{Test, first_refusal, none_refuses}
+use Rattle.std.specs.Prelude.{Result}
+use Rattle.ints.specs.Refusals.{Test, first_refusal, none_refuses, gives, refuses, verdict_of}
+use Rattle.ints.specs.declared.refusal.Refusal.{Refusal}
 use Rattle.ints.proofs.Tests.{conj-at}
 use Rattle.text.proofs.Words.{never}
 use Rattle.marks.specs.declared.types.Mark.{Mark}
@@ -20,10 +22,7 @@ use Rattle.sheet_data.specs.inner.Parts.{Holds}
 use Rattle.sheet_data.proofs.Cuts.{PlanArrays}
 use Rattle.sheet_data.proofs.Rooms as rooms
 use Rattle.sheet.specs.declared.types.Sheet.{Sheet}
-use Rattle.sheet.specs.declared.types.LineAnswer.{LineAnswer}
-use Rattle.sheet.specs.declared.types.MarkAnswer.{MarkAnswer}
 use Rattle.sheet.specs.Sheet.{is_drawn, plan_in, drawing_in}
-use Rattle.sheet.specs.Results.{gives, refuses, mark_result_of, line_result_of}
 use Rattle.sheet.specs.Tests.{holds_plan, holds_numbers, holds_drawing, test7_mark, test14, marks_in, numbers_of}
 use Rattle.sheet.specs.Calls.{mark_tests, mark, marks_tests, marks, GivesMark, Writes, WritesMarks}
 use Rattle.sheet.specs.inner.Refusals.{counts_in}
@@ -53,8 +52,8 @@ module _ (s : Sheet) where
     pub mark-exact : (m : Mark) → mark s n ≡ gives m → ExactMark (whole_mark_of (plan_in s) (drawing_in s).final n) m
     mark-exact m e = rw (is-given m e) at (rooms.mark-exact s.plan s.drawing (counts_in s.header.stage) (mark-shown m e) n)
 
-    pub gives-mark : {a : MarkAnswer} → mark_result_of a ≡ mark s n → GivesMark s n a
-    gives-mark e = record { answered = e; exact = λ m h. mark-exact m (sym e ∙ ap mark_result_of h) }
+    pub gives-mark : {a : Result Mark Refusal} → verdict_of a ≡ mark s n → GivesMark s n a
+    gives-mark e = record { answered = e; exact = λ m h. mark-exact m (sym e ∙ ap verdict_of h) }
 
   module _ (buffer : List Float) where
     count-given : (k : ℕ) → (marks s buffer).result ≡ gives k → marks_in s ≡ k
@@ -77,8 +76,8 @@ module _ (s : Sheet) where
         let h = shown (test14 (numbers_of s) buffer ∷ []) ((marks-given s buffer).0 (e ∙ ap gives (sym i))) in
         rw (written k e) (rooms.five-exact s.plan s.drawing (counts_in s.header.stage) h a n (drop (length (numbers_of s)) buffer) (omega (arith, i)))
 
-    pub writes-marks : PlanArrays s.plan → {a : LineAnswer} {out : List Float} → Writes (marks s buffer) a out → WritesMarks s buffer a out
+    pub writes-marks : PlanArrays s.plan → {a : Result ℕ Refusal} {out : List Float} → Writes (marks s buffer) a out → WritesMarks s buffer a out
     writes-marks arrays w = record {
       writes = w;
-      exact = λ k h n l. rw w.left (numbers-exact arrays k (sym w.answered ∙ ap line_result_of h) n l);
+      exact = λ k h n l. rw w.left (numbers-exact arrays k (sym w.answered ∙ ap verdict_of h) n l);
     }

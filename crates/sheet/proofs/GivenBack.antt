@@ -18,7 +18,7 @@ use Rattle.text.specs.Writing.{lines_of, text_of}
 use Rattle.text.proofs.RoundTrip.{written-tangled, tangled-limits, tangled-through}
 use Rattle.sheet.specs.declared.types.Sheet.{Sheet}
 use Rattle.sheet.specs.Sheet.{is_empty, plan_in, remembered_in, loaded_sheet, drawn_sheet}
-use Rattle.sheet.specs.Results.{gives}
+use Rattle.ints.specs.Refusals.{gives}
 use Rattle.sheet.specs.Tests.{holds_plan, holds_numbers, text_lines_in, test7_text, test14, plan_as_read, text_line_of, whole_text_of}
 use Rattle.sheet.specs.Calls.{TextOut, load_tangled, draw_tests, draw, text_line_tests, text_line, whole_text_tests, whole_text}
 use Rattle.sheet.proofs.WhenRefused.{draw-given, can_give_back, backs-given}

@@ -26,7 +26,7 @@ use Rattle.text_untangle.proofs.ArrayLaws.{untangled-ok}
 use Rattle.text_write.proofs.AgainLaws.{Again, read-accepted}
 use Rattle.sheet.specs.declared.types.Sheet.{Sheet}
 use Rattle.sheet.specs.Sheet.{plan_in, remembered_in, loaded_sheet, loaded_as_read, loaded_untangled}
-use Rattle.sheet.specs.Results.{gives, refuses}
+use Rattle.ints.specs.Refusals.{gives, refuses}
 use Rattle.sheet.specs.Tests.{holds_plan, holds_numbers}
 use Rattle.sheet.specs.Calls.{sheet_out, load, load_tangled, draw, line, report, mark, marks}
 use Rattle.sheet.proofs.WhenRefused.{load-refused, load_read, tangled-read, draw-given, line_refused, report-refused, mark-refused, marks-refused}
@@ -57,7 +57,7 @@ module _ (tangled : Bool) (m : List ℕ) (p : PlanData) where
   module _ (a : acceptable p ≡ true) (o : own_numbers p m ≡ true) where
     again : Again (text_of p) (plan_of p) (vertex_count p) (length p.uppers)
     unfolding answer_of
-    again = read-accepted (text_of p) (answer_of (accepted p)) (vertex_count p) (length p.uppers) (ap answer_of (sym (read-written p a))) refl
+    again = read-accepted (text_of p) _ (ap answer_of (sym (read-written p a)))
 
     holds : holds_plan sheet ≡ true
     unfolding loaded_sheet

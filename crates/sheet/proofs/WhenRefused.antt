@@ -9,7 +9,7 @@ use lib.Dec.{eqb}
 use lib.ListN.{length}
 use lib.Ieee.{Float}
 use Rattle.ints.specs.Lists.{over}
-use Rattle.ints.specs.Refusals.{Test, first_refusal, is_first, none_refuses}
+use Rattle.ints.specs.Refusals.{Test, first_refusal, is_first, none_refuses, Verdict, gives, refuses}
 use Rattle.ints.proofs.Refusals.{lacks, numbered, refused-first, given-none, none-append, first-early, first-late}
 use Rattle.plan.specs.Plan.{PlanData}
 use Rattle.text.specs.Reading.{Reading, accepted, refused, text_tests, reading, tangled_reading}
@@ -22,7 +22,7 @@ use Rattle.sheet.specs.declared.types.Stage.{Stage}
 use Rattle.sheet.specs.declared.types.Stage.TheVariants.{Empty, Loaded, Drawn}
 use Rattle.sheet.specs.declared.types.Sheet.{Sheet}
 use Rattle.sheet.specs.Sheet.{is_empty, is_drawn, plan_in, drawing_in, loaded_as_read, loaded_untangled, drawn_sheet}
-use Rattle.sheet.specs.Results.{Result, gives, refuses, result_after}
+use Rattle.sheet.specs.Results.{result_after}
 use Rattle.sheet.specs.Tests.{test11, test12, test15, holds_plan, test13_plan, holds_numbers, test13_numbers, holds_drawing, test13_drawing, marks_in, line_of, report_of, numbers_of, text_line_of, whole_text_of}
 use Rattle.sheet.specs.Calls.{load_of, load, load_tangled, draw_tests, draw, buffer_after, line_tests, line, report_tests, report, text_line_tests, text_line, whole_text_tests, whole_text, mark_tests, mark, marks_tests, marks, clear}
 
@@ -305,7 +305,7 @@ pub draw-kept : (s : Sheet) (m : ℕ) → (draw s).result ≡ refuses m → (dra
 unfolding draw
 draw-kept s m = by (eqb (first_refusal (draw_tests s)) 0)
   where
-    by : (t : Bool) → ◌≡◌ {A = Result Unit} (cond t (gives tt) (refuses (first_refusal (draw_tests s)))) (refuses m)
+    by : (t : Bool) → ◌≡◌ {A = Verdict Unit} (cond t (gives tt) (refuses (first_refusal (draw_tests s)))) (refuses m)
         → cond t (drawn_sheet s (drawing_of (plan_in s))) s ≡ s
     by true e = never (cc)
     by false e = refl

@@ -1,8 +1,9 @@
 -- The calls of a sheet: what each answers, and what it leaves in the sheet and in the lent buffer. The tests of each call stand
 -- in document 01's order.
-use Rattle.std.specs.Prelude.{cond, List, [], ◌∷◌, ◌≡◌, ℕ, ◌*◌, ◌<◌, eqb, length, drop, Float}
+use Rattle.std.specs.Prelude.{cond, List, [], ◌∷◌, ◌≡◌, ℕ, ◌*◌, ◌<◌, eqb, length, drop, Float, Result, Ok}
 use Rattle.ints.specs.Lists.{over}
-use Rattle.ints.specs.Refusals.{Test, first_refusal}
+use Rattle.ints.specs.Refusals.{Test, first_refusal, Verdict, gives, refuses, verdict_of}
+use Rattle.ints.specs.declared.refusal.Refusal.{Refusal}
 use Rattle.plan.specs.Plan.{PlanData}
 use Rattle.text.specs.Reading.{Reading, accepted, refused as unread, reading, tangled_reading}
 use Rattle.passes.specs.Drawing.{drawing_of}
@@ -11,23 +12,17 @@ use Rattle.marks.specs.declared.types.Mark.{Mark}
 use Rattle.marks.specs.Marks.{whole_mark_of, mark_of}
 use Rattle.marks.specs.Exact.{ExactMark, ExactFive}
 use Rattle.sheet.specs.declared.types.Sheet.{Sheet}
-use Rattle.sheet.specs.declared.types.Answer.{Answer}
-use Rattle.sheet.specs.declared.types.Answer.TheVariants.{Accepted}
-use Rattle.sheet.specs.declared.types.LineAnswer.{LineAnswer}
-use Rattle.sheet.specs.declared.types.LineAnswer.TheVariants.{Written}
-use Rattle.sheet.specs.declared.types.MarkAnswer.{MarkAnswer}
-use Rattle.sheet.specs.declared.types.MarkAnswer.TheVariants.{Given}
 use Rattle.sheet.specs.Sheet.{plan_in, drawing_in, empty_sheet, loaded_as_read, loaded_untangled, drawn_sheet}
-use Rattle.sheet.specs.Results.{Result, gives, refuses, result_of, line_result_of, mark_result_of, result_after}
+use Rattle.sheet.specs.Results.{result_after}
 use Rattle.sheet.specs.Tests.{test11, test12, test15, test13_plan, test13_numbers, test13_drawing, test7_line, marks_in, test7_mark, test7_text, test14}
 use Rattle.sheet.specs.Tests.{line_of, report_of, numbers_of, text_line_of, whole_text_of}
 
 -- ---- load
 pub record SheetOut : Type 0 where
-  pub result : Result Unit
+  pub result : Verdict Unit
   pub sheet : Sheet
 
-abbrev pub sheet_out : Result Unit → Sheet → SheetOut
+abbrev pub sheet_out : Verdict Unit → Sheet → SheetOut
 sheet_out r s = record { result = r; sheet = s }
 
 -- "Load replaces whatever was there"; "a refusal returns its number and changes nothing".
@@ -54,7 +49,7 @@ draw s =
 
 -- ---- line, and all lines
 pub record BufferOut (A : Type 0) : Type 0 where
-  pub result : Result ℕ
+  pub result : Verdict ℕ
   pub buffer : List A
 
 abbrev pub TextOut : Type 0
@@ -104,7 +99,7 @@ abbrev pub mark_tests : Sheet → ℕ → List Test
 mark_tests s n = test11 s ∷ test12 s ∷ test13_plan s ∷ test13_numbers s ∷ test13_drawing s ∷ test7_mark s n ∷ []
 
 -- "Mark n gives the n-th mark."
-unfoldable pub mark : Sheet → ℕ → Result Mark
+unfoldable pub mark : Sheet → ℕ → Verdict Mark
 mark s n = result_after (first_refusal (mark_tests s n)) (mark_of (plan_in s) (drawing_in s).final n)
 
 abbrev pub marks_tests : Sheet → List Float → List Test
@@ -119,26 +114,26 @@ unfoldable pub clear : Sheet → SheetOut
 clear s = sheet_out (gives tt) empty_sheet
 
 -- ---- the promises
-pub record Leaves (o : SheetOut) (a : Answer) (s : Sheet) : Type 0 where
-  pub answered : result_of a ≡ o.result
+pub record Leaves (o : SheetOut) (a : Result Unit Refusal) (s : Sheet) : Type 0 where
+  pub answered : verdict_of a ≡ o.result
   pub left : s ≡ o.sheet
 
 -- Draw's promise has demand 3 of the sheet that it leaves: "It speaks of every draw that is not refused, of a sheet just loaded
 -- or of one handed in."
-pub record Draws (s : Sheet) (a : Answer) (t : Sheet) : Type 0 where
+pub record Draws (s : Sheet) (a : Result Unit Refusal) (t : Sheet) : Type 0 where
   pub leaves : Leaves (draw s) a t
-  pub demand3 : a ≡ Accepted → Demand3 (plan_in t) (drawing_in t)
+  pub demand3 : a ≡ Ok tt → Demand3 (plan_in t) (drawing_in t)
 
 -- Mark's promise says besides which numbers the mark has that is given: exactly those of the n-th mark in whole numbers.
-pub record GivesMark (s : Sheet) (n : ℕ) (a : MarkAnswer) : Type 0 where
-  pub answered : mark_result_of a ≡ mark s n
-  pub exact : (m : Mark) → a ≡ Given m → ExactMark (whole_mark_of (plan_in s) (drawing_in s).final n) m
+pub record GivesMark (s : Sheet) (n : ℕ) (a : Result Mark Refusal) : Type 0 where
+  pub answered : verdict_of a ≡ mark s n
+  pub exact : (m : Mark) → a ≡ Ok m → ExactMark (whole_mark_of (plan_in s) (drawing_in s).final n) m
 
-pub record Writes {A : Type 0} (o : BufferOut A) (a : LineAnswer) (buffer : List A) : Type 0 where
-  pub answered : line_result_of a ≡ o.result
+pub record Writes {A : Type 0} (o : BufferOut A) (a : Result ℕ Refusal) (buffer : List A) : Type 0 where
+  pub answered : verdict_of a ≡ o.result
   pub left : buffer ≡ o.buffer
 
 -- And so does that of all marks: each five numbers in the buffer are exactly those of their mark.
-pub record WritesMarks (s : Sheet) (buffer : List Float) (a : LineAnswer) (out : List Float) : Type 0 where
+pub record WritesMarks (s : Sheet) (buffer : List Float) (a : Result ℕ Refusal) (out : List Float) : Type 0 where
   pub writes : Writes (marks s buffer) a out
-  pub exact : (k : ℕ) → a ≡ Written k → (n : ℕ) → n < k → ExactFive (whole_mark_of (plan_in s) (drawing_in s).final n) (drop (5 * n) out)
+  pub exact : (k : ℕ) → a ≡ Ok k → (n : ℕ) → n < k → ExactFive (whole_mark_of (plan_in s) (drawing_in s).final n) (drop (5 * n) out)

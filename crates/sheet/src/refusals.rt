@@ -1,8 +1,10 @@
 // The refusals from the state: those of draw, 11 and 13, and those of what shows a sheet, 11 to 13.
 ghost use Rattle.std.specs.Prelude.{◌≡◌};
+ghost use Rattle.ints.specs.Refusals.{refused_by};
 ghost use Rattle.sheet.specs.inner.Refusals.{counts_in, plan_refusal, draw_refusal, data_refusal, show_refusal};
 
 use crate::types::Stage;
+use ints::refusal::Refusal;
 use plan::data::Plan;
 use report::data::{Counts, Drawing};
 use report_validity::decision::is_plan_of_text;
@@ -31,61 +33,67 @@ pub fn counts_in(stage: Stage) -> Counts
     }
 }
 
-// 13, of the plan and of the remembered numbers: its number, or 0.
-fn plan_refusal(plan: Plan, remembered: [u16; Plan::MAX_VERTICES], counts: Counts) -> u32
-    ensures { result ≡ plan_refusal plan remembered counts }
+// 13, of the plan and of the remembered numbers.
+fn check_plan(
+    plan: Plan,
+    remembered: [u16; Plan::MAX_VERTICES],
+    counts: Counts,
+) -> Result<(), Refusal>
+    ensures { refused_by result ≡ plan_refusal plan remembered counts }
 {
     if !is_plan_of_text(plan, counts.vertices, counts.segments) {
-        return 13;
+        return Err(Refusal::Unsound);
     }
     if !are_own(plan, remembered, counts) {
-        return 13;
+        return Err(Refusal::Unsound);
     }
-    0
+    Ok(())
 }
 
-// The number by which draw is refused, 0 if it is not.
-pub fn draw_refusal(stage: Stage, plan: Plan, remembered: [u16; Plan::MAX_VERTICES]) -> u32
-    ensures { result ≡ draw_refusal stage plan remembered }
+// What draw is refused by.
+pub fn check_draw(
+    stage: Stage,
+    plan: Plan,
+    remembered: [u16; Plan::MAX_VERTICES],
+) -> Result<(), Refusal>
+    ensures { refused_by result ≡ draw_refusal stage plan remembered }
 {
     match stage {
-        Stage::Empty => 11,
-        Stage::Loaded(_, _) => plan_refusal(plan, remembered, counts_in(stage)),
-        Stage::Drawn(_, _, _) => plan_refusal(plan, remembered, counts_in(stage)),
+        Stage::Empty => Err(Refusal::Empty),
+        Stage::Loaded(_, _) | Stage::Drawn(_, _, _) => {
+            check_plan(plan, remembered, counts_in(stage))
+        }
     }
 }
 
-// 13, of the plan, of the remembered numbers and of the drawing: its number, or 0.
-fn data_refusal(
+// 13, of the plan, of the remembered numbers and of the drawing.
+fn check_data(
     plan: Plan,
     remembered: [u16; Plan::MAX_VERTICES],
     drawing: Drawing,
     counts: Counts,
-) -> u32
-    ensures { result ≡ data_refusal plan remembered drawing counts }
+) -> Result<(), Refusal>
+    ensures { refused_by result ≡ data_refusal plan remembered drawing counts }
 {
-    let refused = plan_refusal(plan, remembered, counts);
-    if refused != 0 {
-        return refused;
+    check_plan(plan, remembered, counts)?;
+    if !is_drawing_of(plan, drawing, counts) {
+        return Err(Refusal::Unsound);
     }
-    if is_drawing_of(plan, drawing, counts) {
-        return 0;
-    }
-    13
+    Ok(())
 }
 
-// The number by which line, report, mark and marks are refused before 7 and 14, 0 if they are not.
-pub fn show_refusal(
+// What line, report, mark and marks are refused by before 7 and 14.
+pub fn check_show(
     stage: Stage,
     plan: Plan,
     remembered: [u16; Plan::MAX_VERTICES],
     drawing: Drawing,
-) -> u32
-    ensures { result ≡ show_refusal stage plan remembered drawing }
+) -> Result<(), Refusal>
+    ensures { refused_by result ≡ show_refusal stage plan remembered drawing }
 {
     match stage {
-        Stage::Empty => 11,
-        Stage::Loaded(_, _) => 12,
-        Stage::Drawn(_, _, _) => data_refusal(plan, remembered, drawing, counts_in(stage)),
+        Stage::Empty => Err(Refusal::Empty),
+        Stage::Loaded(_, _) => Err(Refusal::Undrawn),
+        Stage::Drawn(_, _, _) => check_data(plan, remembered, drawing, counts_in(stage)),
     }
 }

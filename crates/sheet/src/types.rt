@@ -2,7 +2,7 @@
 ghost use Rattle.std.specs.Prelude.{◌≡◌};
 ghost use Rattle.sheet.specs.Sheet.{empty_sheet};
 
-use marks::types::Mark;
+use ints::refusal::Refusal;
 use plan::data::Plan;
 use report::data::Drawing;
 
@@ -47,30 +47,9 @@ impl Sheet {
     }
 }
 
-// What load, draw and clear answer,
-#[derive(Clone, Copy)]
-pub enum Answer {
-    Accepted,
-    Refused(u32),
-}
-
-// beside the sheet afterwards.
+// What load, draw and clear answer, beside the sheet afterwards.
 #[derive(Clone, Copy)]
 pub struct Changed {
-    pub answer: Answer,
+    pub answer: Result<(), Refusal>,
     pub sheet: Sheet,
-}
-
-// What line answers: the line's length. And what the whole report answers: its length. And what all marks answer: their count.
-#[derive(Clone, Copy)]
-pub enum LineAnswer {
-    Written(usize),
-    Refused(u32),
-}
-
-// What mark answers.
-#[derive(Clone, Copy)]
-pub enum MarkAnswer {
-    Given(Mark),
-    Refused(u32),
 }

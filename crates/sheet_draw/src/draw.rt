@@ -3,8 +3,8 @@ ghost use Rattle.sheet.specs.Calls.{Draws};
 
 use crate::stored::draw_plan;
 use sheet::changed::with_drawing;
-use sheet::refusals::{counts_in, draw_refusal};
-use sheet::types::{Answer, Changed, Sheet};
+use sheet::refusals::{check_draw, counts_in};
+use sheet::types::{Changed, Sheet};
 
 // "Draw may be repeated, with the same result." Refused 11 or 13, it changes nothing.
 pub fn draw(sheet: Sheet) -> Changed
@@ -14,16 +14,13 @@ pub fn draw(sheet: Sheet) -> Changed
     let stage = header.stage;
     let plan = sheet.plan;
     let remembered = sheet.remembered;
-    let refused = draw_refusal(stage, plan, remembered);
-    if refused != 0 {
-        return Changed {
-            answer: Answer::Refused(refused),
-            sheet,
-        };
+    let answer = check_draw(stage, plan, remembered);
+    if answer.is_err() {
+        return Changed { answer, sheet };
     }
     let new = draw_plan(plan, counts_in(stage));
     Changed {
-        answer: Answer::Accepted,
+        answer,
         sheet: with_drawing(sheet, new),
     }
 }

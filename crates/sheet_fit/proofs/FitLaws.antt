@@ -7,11 +7,10 @@ use borrow.Author.Tests.{lt-ltb, le-ltb}
 use lib.ListN.{length, take, drop, length-append}
 use lib.Seq.{take_at}
 use Rattle.ints.specs.Lists.{over}
-use Rattle.ints.specs.Refusals.{first_refusal}
+use Rattle.std.specs.Prelude.{Result, Ok}
+use Rattle.ints.specs.Refusals.{first_refusal, gives, refuses}
+use Rattle.ints.specs.declared.refusal.Refusal.{Refusal}
 use Rattle.text_write.specs.inner.Written.{Fronts}
-use Rattle.sheet.specs.declared.types.LineAnswer.{LineAnswer}
-use Rattle.sheet.specs.declared.types.LineAnswer.TheVariants.{Written}
-use Rattle.sheet.specs.Results.{gives, refuses}
 use Rattle.sheet.specs.Calls.{BufferOut, Writes}
 use Rattle.sheet_fit.specs.inner.Fitted.{fitted, fitted_text}
 
@@ -26,10 +25,10 @@ module _ {A : Type 0} (n : ℕ) (w b : List A) where
   fitted-long h = rw (le-ltb (length b) (length w) h)
 
 -- ---- what is written into a lent buffer
-pub writes : {A : Type 0} {o q : BufferOut A} {a : LineAnswer} {b : List A} → o ≡ q → Writes q a b → Writes o a b
+pub writes : {A : Type 0} {o q : BufferOut A} {a : Result ℕ Refusal} {b : List A} → o ≡ q → Writes q a b → Writes o a b
 writes e h = rw e h
 
-pub wrote : {w o out : List ℕ} {n : ℕ} → Fronts w o n out → Writes (record { result = gives (length w); buffer = over w o }) (Written n) out
+pub wrote : {w o out : List ℕ} {n : ℕ} → Fronts w o n out → Writes (record { result = gives (length w); buffer = over w o }) (Ok n) out
 wrote f = record { answered = ap gives f.count; left = f.bytes }
 
 -- what stands at the front of a buffer
@@ -41,5 +40,5 @@ module _ {w o out : List ℕ} {n : ℕ} (f : Fronts w o n out) where
   front-is = rw f.bytes (take_at w (drop (length w) o) n (sym f.count))
 
 -- what was made at the front of a buffer with room for it fits that
-pub wrote-all : {w o out : List ℕ} {n : ℕ} → Fronts w o n out → length out ≡ length o → Writes (fitted_text w o) (Written n) out
+pub wrote-all : {w o out : List ℕ} {n : ℕ} → Fronts w o n out → length out ≡ length o → Writes (fitted_text w o) (Ok n) out
 wrote-all {w} {o} f e = writes (fitted-long (length w) w o (omega (arith, f.count, front_long f))) (wrote f)

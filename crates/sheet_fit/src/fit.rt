@@ -7,12 +7,12 @@ ghost use Rattle.sheet.specs.Calls.{Writes};
 ghost use Rattle.sheet_fit.specs.inner.Fitted.{fitted, fitted_text};
 ghost use Rattle.sheet_fit.specs.inner.Fit.{report_in, FitsRoom, FitsRoomBy};
 
+use ints::refusal::Refusal;
 use marks::put::put_marks;
 use plan::data::Plan;
 use report::data::Drawing;
 use report_lines::whole::put_report;
 use report_numbers::arrays::in_numbers;
-use sheet::types::LineAnswer;
 use text_write::number::put_word;
 
 // No report is longer.
@@ -24,13 +24,13 @@ pub fn blank() -> [u8; MAX_REPORT] {
 }
 
 // A text at the front of a lent buffer.
-pub fn fit(text: &[u8], out: &mut [u8]) -> LineAnswer
+pub fn fit(text: &[u8], out: &mut [u8]) -> Result<usize, Refusal>
     ensures { Writes (fitted_text text.now out.old) result out.new }
 {
     if out.len() < text.len() {
-        return LineAnswer::Refused(14);
+        return Err(Refusal::Room);
     }
-    LineAnswer::Written(put_word(out, 0, text))
+    Ok(put_word(out, 0, text))
 }
 
 // All lines of a drawing that lies in slices: made in the lent buffer itself where that has room for every report, else in a buffer of its
@@ -46,7 +46,7 @@ pub fn fit_report(
     vertices: &[u16],
     positions: &[i64],
     out: &mut [u8],
-) -> LineAnswer
+) -> Result<usize, Refusal>
     requires { FitsRoom spacing sizes.now preliminary.now finals.now passes.now levels.now boxes.now vertices.now positions.now }
     ensures { Writes (fitted_text (report_in spacing sizes.now preliminary.now finals.now
         passes.now levels.now boxes.now vertices.now positions.now)
@@ -68,7 +68,7 @@ pub fn fit_report(
         );
         return fit(&room[..length], out);
     }
-    LineAnswer::Written(put_report(
+    Ok(put_report(
         spacing,
         sizes,
         preliminary,
@@ -95,7 +95,7 @@ pub fn fit_report_by(
     vertices: &[u16],
     positions: &[i64],
     out: &mut [u8],
-) -> LineAnswer
+) -> Result<usize, Refusal>
     requires { FitsRoomBy m.now spacing sizes.now preliminary.now finals.now passes.now levels.now boxes.now vertices.now positions.now }
     ensures { Writes (fitted_text (report_by m.now spacing sizes.now preliminary.now finals.now
         passes.now levels.now boxes.now vertices.now positions.now)
@@ -139,15 +139,15 @@ pub fn fit_marks(
     lowers: &[u32],
     finals: &[i64],
     out: &mut [f64],
-) -> LineAnswer
+) -> Result<usize, Refusal>
     requires { AskedAll spacing sizes.now vias.now halves.now uppers.now lowers.now finals.now }
     ensures { (p : PlanData) → DataOf p spacing sizes.now vias.now halves.now uppers.now
         lowers.now → Writes (fitted (mark_count p) (all_numbers p finals.now) out.old) result out.new }
 {
     let n = vias.len() + uppers.len();
     if out.len() < 5 * n {
-        return LineAnswer::Refused(14);
+        return Err(Refusal::Room);
     }
     put_marks(spacing, sizes, vias, halves, uppers, lowers, finals, out);
-    LineAnswer::Written(n)
+    Ok(n)
 }

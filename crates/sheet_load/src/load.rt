@@ -9,8 +9,8 @@ ghost use Rattle.sheet.specs.Sheet.{remembered_of};
 use plan::data::Plan;
 use plan_untangle::order::count_up;
 use report::data::Drawing;
-use sheet::types::{Answer, Changed, Header, Sheet, Stage};
-use text_read::{Answer as TextAnswer, read};
+use sheet::types::{Changed, Header, Sheet, Stage};
+use text_read::read;
 
 // The numbers of v vertices that are numbered as in the text.
 fn own(v: usize) -> [u16; Plan::MAX_VERTICES]
@@ -26,24 +26,21 @@ fn own(v: usize) -> [u16; Plan::MAX_VERTICES]
 pub fn load(sheet: Sheet, text: &[u8]) -> Changed
     ensures { Leaves (spec.load sheet text.now) result.answer result.sheet }
 {
-    let r = read(text);
-    let answer = r.answer;
-    let plan = r.plan;
-    match answer {
-        TextAnswer::Accepted(v, e) => Changed {
-            answer: Answer::Accepted,
+    match read(text) {
+        Ok(r) => Changed {
+            answer: Ok(()),
             sheet: Sheet {
                 header: Header {
-                    stage: Stage::Loaded(v, e),
+                    stage: Stage::Loaded(r.vertices, r.segments),
                     tangled: false,
                 },
-                plan,
+                plan: r.plan,
                 drawing: Drawing::empty(),
-                remembered: own(v),
+                remembered: own(r.vertices),
             },
         },
-        TextAnswer::Refused(n) => Changed {
-            answer: Answer::Refused(n),
+        Err(refusal) => Changed {
+            answer: Err(refusal),
             sheet,
         },
     }

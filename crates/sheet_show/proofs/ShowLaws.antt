@@ -7,14 +7,13 @@ use Prim.Native.Nat.{ℕ, ◌≤◌, ◌<◌}
 use borrow.Author.Tests.{lt-ltb, le-ltb, ne_eqb, not-false}
 use lib.ListN.{length}
 use lib.Ieee.{Float}
-use Rattle.ints.specs.Refusals.{Test, first_refusal, none_refuses}
+use Rattle.ints.specs.Refusals.{Test, first_refusal, none_refuses, gives, refuses}
 use Rattle.ints.proofs.Refusals.{none-at, none_found, refusal-early, refusal-late}
 use Rattle.plan.specs.declared.data.Plan.{Plan}
 use Rattle.report.specs.declared.data.Drawing.{Drawing as Arrays}
 use Rattle.report.specs.declared.data.Counts.{Counts}
 use Rattle.sheet_data.specs.inner.Parts.{Holds, are_own_with, lines_of, line_with, report_with, marks_of, mark_with}
 use Rattle.sheet.specs.declared.types.Sheet.{Sheet}
-use Rattle.sheet.specs.Results.{gives, refuses}
 use Rattle.sheet.specs.Tests.{holds_plan, holds_numbers, holds_drawing, test7_line, marks_in, test7_mark, test14, line_of, report_of, numbers_of}
 use Rattle.sheet.specs.Calls.{buffer_after, line, report, mark, marks}
 use Rattle.sheet.specs.inner.Refusals.{counts_in, show_refusal}

@@ -3,15 +3,16 @@ ghost use Rattle.sheet_data.specs.inner.Parts.{Holds};
 ghost use Rattle.sheet.specs.Calls.{Writes, WritesMarks};
 ghost use Rattle.sheet_show.specs.inner.Shown.{marks_from};
 
+use ints::refusal::Refusal;
 use plan::data::Plan;
 use plan::numbers::wide;
 use report::data::{Counts, Drawing};
-use sheet::refusals::{counts_in, show_refusal};
-use sheet::types::{LineAnswer, Sheet};
+use sheet::refusals::{check_show, counts_in};
+use sheet::types::Sheet;
 use sheet_fit::fit::fit_marks;
 
 // 14, and the marks.
-fn marks_of(plan: Plan, drawing: Drawing, counts: Counts, out: &mut [f64]) -> LineAnswer
+fn marks_of(plan: Plan, drawing: Drawing, counts: Counts, out: &mut [f64]) -> Result<usize, Refusal>
     requires { Holds plan drawing counts }
     ensures { Writes (marks_from plan drawing counts out.old) result out.new }
 {
@@ -37,7 +38,7 @@ fn marks_of(plan: Plan, drawing: Drawing, counts: Counts, out: &mut [f64]) -> Li
 }
 
 // All marks one after another in a lent buffer, five exact numbers each, with how many there are; later numbers stay.
-pub fn marks(sheet: Sheet, out: &mut [f64]) -> LineAnswer
+pub fn marks(sheet: Sheet, out: &mut [f64]) -> Result<usize, Refusal>
     ensures { WritesMarks sheet out.old result out.new }
 {
     let header = sheet.header;
@@ -45,9 +46,6 @@ pub fn marks(sheet: Sheet, out: &mut [f64]) -> LineAnswer
     let plan = sheet.plan;
     let remembered = sheet.remembered;
     let drawing = sheet.drawing;
-    let refused = show_refusal(stage, plan, remembered, drawing);
-    if refused != 0 {
-        return LineAnswer::Refused(refused);
-    }
+    check_show(stage, plan, remembered, drawing)?;
     marks_of(plan, drawing, counts_in(stage), out)
 }

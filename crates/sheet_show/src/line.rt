@@ -5,10 +5,11 @@ ghost use Rattle.sheet.specs.Calls as spec;
 ghost use Rattle.sheet.specs.Calls.{Writes};
 ghost use Rattle.sheet_show.specs.inner.Shown.{line_from};
 
+use ints::refusal::Refusal;
 use plan::data::Plan;
 use report::data::{Counts, Drawing};
-use sheet::refusals::{counts_in, show_refusal};
-use sheet::types::{LineAnswer, Sheet};
+use sheet::refusals::{check_show, counts_in};
+use sheet::types::Sheet;
 use sheet_data::printed::{MAX_LINE, put_line};
 use sheet_fit::fit::fit;
 
@@ -20,12 +21,12 @@ fn line_of(
     counts: Counts,
     n: usize,
     out: &mut [u8],
-) -> LineAnswer
+) -> Result<usize, Refusal>
     requires { Holds plan drawing counts × (are_own_with plan remembered counts ≡ true) }
     ensures { Writes (line_from plan remembered drawing counts n out.old) result out.new }
 {
     if n >= counts.vertices + counts.placings + 2 {
-        return LineAnswer::Refused(7);
+        return Err(Refusal::Missing);
     }
     let mut room = [0u8; MAX_LINE];
     let length = put_line(plan, remembered, drawing, counts, n, &mut room);
@@ -33,7 +34,7 @@ fn line_of(
 }
 
 // "Line n gives the n-th report line, its LF included, in a lent buffer, with its length; later bytes stay."
-pub fn line(sheet: Sheet, n: usize, out: &mut [u8]) -> LineAnswer
+pub fn line(sheet: Sheet, n: usize, out: &mut [u8]) -> Result<usize, Refusal>
     ensures { Writes (spec.line sheet n out.old) result out.new }
 {
     let header = sheet.header;
@@ -41,9 +42,6 @@ pub fn line(sheet: Sheet, n: usize, out: &mut [u8]) -> LineAnswer
     let plan = sheet.plan;
     let remembered = sheet.remembered;
     let drawing = sheet.drawing;
-    let refused = show_refusal(stage, plan, remembered, drawing);
-    if refused != 0 {
-        return LineAnswer::Refused(refused);
-    }
+    check_show(stage, plan, remembered, drawing)?;
     line_of(plan, remembered, drawing, counts_in(stage), n, out)
 }

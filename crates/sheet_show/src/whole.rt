@@ -5,11 +5,12 @@ ghost use Rattle.sheet.specs.Calls as spec;
 ghost use Rattle.sheet.specs.Calls.{Writes};
 ghost use Rattle.sheet_fit.specs.inner.Fitted.{fitted_text};
 
+use ints::refusal::Refusal;
 use plan::data::Plan;
 use plan::numbers::wide;
 use report::data::{Counts, Drawing};
-use sheet::refusals::{counts_in, show_refusal};
-use sheet::types::{LineAnswer, Sheet};
+use sheet::refusals::{check_show, counts_in};
+use sheet::types::Sheet;
 use sheet_fit::fit::fit_report_by;
 
 // 14, and the lines.
@@ -19,7 +20,7 @@ fn report_of(
     drawing: Drawing,
     counts: Counts,
     out: &mut [u8],
-) -> LineAnswer
+) -> Result<usize, Refusal>
     requires { Holds plan drawing counts × (are_own_with plan remembered counts ≡ true) }
     ensures { Writes (fitted_text (report_with plan remembered drawing counts) out.old) result out.new }
 {
@@ -50,7 +51,7 @@ fn report_of(
 }
 
 // All lines after one another in a lent buffer, with their length; later bytes stay.
-pub fn report(sheet: Sheet, out: &mut [u8]) -> LineAnswer
+pub fn report(sheet: Sheet, out: &mut [u8]) -> Result<usize, Refusal>
     ensures { Writes (spec.report sheet out.old) result out.new }
 {
     let header = sheet.header;
@@ -58,9 +59,6 @@ pub fn report(sheet: Sheet, out: &mut [u8]) -> LineAnswer
     let plan = sheet.plan;
     let remembered = sheet.remembered;
     let drawing = sheet.drawing;
-    let refused = show_refusal(stage, plan, remembered, drawing);
-    if refused != 0 {
-        return LineAnswer::Refused(refused);
-    }
+    check_show(stage, plan, remembered, drawing)?;
     report_of(plan, remembered, drawing, counts_in(stage), out)
 }

@@ -5,17 +5,16 @@ use Prim.Native.Nat.{ℕ, ◌≤◌}
 use native.Mathlib.Omega.{arith}
 use lib.Dec.{eqb}
 use lib.ListN.{length}
-use Rattle.ints.specs.Refusals.{first_refusal}
+use Rattle.std.specs.Prelude.{Result, Ok, Err}
+use Rattle.ints.specs.Refusals.{first_refusal, number_of, Verdict, gives, refuses, verdict_of}
+use Rattle.ints.specs.declared.refusal.Refusal.{Refusal}
 use Rattle.plan.specs.Plan.{PlanData}
 use Rattle.text.specs.Reading.{accepted, tangled_reading}
 use Rattle.text.proofs.Words.{never}
 use Rattle.text.proofs.RoundTrip.{limits-short, written-tangled, tangled-limits, tangled-through}
 use Rattle.text_write.specs.inner.Data.{max_text}
 use Rattle.sheet.specs.declared.types.Sheet.{Sheet}
-use Rattle.sheet.specs.declared.types.Answer.{Answer}
-use Rattle.sheet.specs.declared.types.Answer.TheVariants.{Accepted, Refused}
 use Rattle.sheet.specs.Sheet.{empty_sheet}
-use Rattle.sheet.specs.Results.{Result, gives, refuses, result_of}
 use Rattle.sheet.specs.Tests.{whole_text_of}
 use Rattle.sheet.specs.Calls.{TextOut, Leaves, load_tangled, whole_text_tests, whole_text}
 use Rattle.sheet.proofs.WhenRefused.{tangled-read, given}
@@ -23,16 +22,16 @@ use Rattle.sheet.proofs.GivenBack.{written, just-loaded, text-again, given_back}
 use Rattle.sheet_text.specs.Back.{back_of, text_back}
 
 -- ---- by the answer of the load
-module _ (text b : List ℕ) {a : Answer} {s : Sheet} (l : Leaves (load_tangled empty_sheet text) a s) where
-  back_by : text_back text b ≡ back_of (result_of a) s b
+module _ (text b : List ℕ) {a : Result Unit Refusal} {s : Sheet} (l : Leaves (load_tangled empty_sheet text) a s) where
+  back_by : text_back text b ≡ back_of (verdict_of a) s b
   unfolding text_back
   back_by = rw (l.answered, l.left)
 
-  pub back-accepted : a ≡ Accepted → text_back text b ≡ whole_text s b
-  back-accepted e = back_by ∙ ap (λ (x : Answer). back_of (result_of x) s b) e
+  pub back-accepted : a ≡ Ok tt → text_back text b ≡ whole_text s b
+  back-accepted e = back_by ∙ ap (λ (x : Result Unit Refusal). back_of (verdict_of x) s b) e
 
-  pub back-refused : (n : ℕ) → a ≡ Refused n → text_back text b ≡ record { result = refuses n; buffer = b }
-  back-refused n e = back_by ∙ ap (λ (x : Answer). back_of (result_of x) s b) e
+  pub back-refused : (r : Refusal) → a ≡ Err r → text_back text b ≡ record { result = refuses (number_of r); buffer = b }
+  back-refused r e = back_by ∙ ap (λ (x : Result Unit Refusal). back_of (verdict_of x) s b) e
 
 whole-given : (s : Sheet) (b : List ℕ) (n : ℕ) → (whole_text s b).result ≡ gives n → length (whole_text_of s) ≡ n
 unfolding whole_text
@@ -45,7 +44,7 @@ module _ (text : List ℕ) (p : PlanData) (e : tangled_reading text ≡ accepted
 
   taken : (b : List ℕ) → text_back text b ≡ whole_text (load_tangled empty_sheet text).sheet b
   unfolding text_back
-  taken b = ap (λ (r : Result Unit). back_of r (load_tangled empty_sheet text).sheet b) loaded
+  taken b = ap (λ (r : Verdict Unit). back_of r (load_tangled empty_sheet text).sheet b) loaded
 
   pub back-again : (b : List ℕ) → length text ≤ length b → text_back text b ≡ written text b
   back-again b m = taken b ∙ given_back text p e empty_sheet b m
@@ -64,6 +63,6 @@ pub back-few : (text b : List ℕ) (n : ℕ) → (text_back text b).result ≡ g
 unfolding text_back
 back-few text b n h = go (load_tangled empty_sheet text).result refl
   where
-    go : (r : Result Unit) → (load_tangled empty_sheet text).result ≡ r → n ≤ max_text
+    go : (r : Verdict Unit) → (load_tangled empty_sheet text).result ≡ r → n ≤ max_text
     go (gives u) e = let r = (tangled-read empty_sheet text).0 e in taken-few text r.0 r.1 b n h
-    go (refuses m) e = never (let f : refuses m ≡ gives n = ap (λ (x : Result Unit). (back_of x (load_tangled empty_sheet text).sheet b).result) (sym e) ∙ h in cc)
+    go (refuses m) e = never (let f : refuses m ≡ gives n = ap (λ (x : Verdict Unit). (back_of x (load_tangled empty_sheet text).sheet b).result) (sym e) ∙ h in cc)

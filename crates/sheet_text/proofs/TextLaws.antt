@@ -5,7 +5,7 @@ use mathlib.Core.List.{List, [], ◌∷◌, ◌++◌}
 use Prim.Native.Nat.{ℕ, ◌≤◌, ◌<◌}
 use borrow.Author.Tests.{lt-ltb, le-ltb, ne_eqb, not-false}
 use lib.ListN.{length}
-use Rattle.ints.specs.Refusals.{Test, first_refusal, none_refuses}
+use Rattle.ints.specs.Refusals.{Test, first_refusal, none_refuses, refuses}
 use Rattle.ints.proofs.Refusals.{none-at, none_found, refusal-early, refusal-late}
 use Rattle.plan.specs.declared.data.Plan.{Plan}
 use Rattle.report.specs.declared.data.Counts.{Counts}
@@ -14,7 +14,6 @@ use Rattle.text_write.specs.inner.Data.{line_of}
 use Rattle.sheet_data.specs.inner.Parts.{is_plan_with, are_own_with}
 use Rattle.sheet.specs.declared.types.Stage.{Stage}
 use Rattle.sheet.specs.declared.types.Sheet.{Sheet}
-use Rattle.sheet.specs.Results.{refuses}
 use Rattle.sheet.specs.Sheet.{is_empty}
 use Rattle.sheet.specs.Tests.{test11, test15, holds_plan, test13_plan, holds_numbers, test13_numbers, test7_text, test14, plan_as_read, text_line_of, whole_text_of}
 use Rattle.sheet.specs.Calls.{buffer_after, text_line, whole_text}

@@ -1,10 +1,12 @@
 // The refusals of a plan's text from the state: 11, 15 and 13.
 ghost use Rattle.std.specs.Prelude.{◌≡◌};
+ghost use Rattle.ints.specs.Refusals.{refused_by};
 ghost use Rattle.sheet.specs.Sheet.{is_empty};
 ghost use Rattle.sheet_text.specs.inner.Shown.{text_refusal};
 
+use ints::refusal::Refusal;
 use plan::data::Plan;
-use sheet::refusals::draw_refusal;
+use sheet::refusals::check_draw;
 use sheet::types::Stage;
 
 fn is_empty(stage: Stage) -> bool
@@ -17,20 +19,20 @@ fn is_empty(stage: Stage) -> bool
     }
 }
 
-// The number by which text line and whole text are refused before 7 and 14, 0 if they are not. 15 "comes after 11 and before 13".
-pub fn text_refusal(
+// What text line and whole text are refused by before 7 and 14. 15 "comes after 11 and before 13".
+pub fn check_text(
     stage: Stage,
     tangled: bool,
     plan: Plan,
     remembered: [u16; Plan::MAX_VERTICES],
-) -> u32
-    ensures { result ≡ text_refusal stage tangled plan remembered }
+) -> Result<(), Refusal>
+    ensures { refused_by result ≡ text_refusal stage tangled plan remembered }
 {
     if is_empty(stage) {
-        return 11;
+        return Err(Refusal::Empty);
     }
     if !tangled {
-        return 15;
+        return Err(Refusal::Untangled);
     }
-    draw_refusal(stage, plan, remembered)
+    check_draw(stage, plan, remembered)
 }

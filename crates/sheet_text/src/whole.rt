@@ -8,11 +8,12 @@ ghost use Rattle.sheet_fit.specs.inner.Fitted.{fitted_text};
 ghost use Rattle.sheet_text.specs.inner.Read.{read_with};
 
 use crate::read::as_read;
-use crate::refusal::text_refusal;
+use crate::refusal::check_text;
+use ints::refusal::Refusal;
 use plan::data::Plan;
 use report::data::Counts;
 use sheet::refusals::counts_in;
-use sheet::types::{LineAnswer, Sheet};
+use sheet::types::Sheet;
 use sheet_fit::fit::fit;
 use text_write::again::stored_text;
 
@@ -25,7 +26,7 @@ fn whole_text_of(
     remembered: [u16; Plan::MAX_VERTICES],
     counts: Counts,
     out: &mut [u8],
-) -> LineAnswer
+) -> Result<usize, Refusal>
     requires { (is_plan_with plan counts ≡ true) × (are_own_with plan remembered counts ≡ true) }
     ensures { Writes (fitted_text (text_of (read_with plan remembered counts)) out.old) result out.new }
 {
@@ -36,16 +37,13 @@ fn whole_text_of(
 }
 
 // All its lines one after another in a lent buffer, with their length; later bytes stay.
-pub fn whole_text(sheet: Sheet, out: &mut [u8]) -> LineAnswer
+pub fn whole_text(sheet: Sheet, out: &mut [u8]) -> Result<usize, Refusal>
     ensures { Writes (spec.whole_text sheet out.old) result out.new }
 {
     let header = sheet.header;
     let stage = header.stage;
     let plan = sheet.plan;
     let remembered = sheet.remembered;
-    let refused = text_refusal(stage, header.tangled, plan, remembered);
-    if refused != 0 {
-        return LineAnswer::Refused(refused);
-    }
+    check_text(stage, header.tangled, plan, remembered)?;
     whole_text_of(plan, remembered, counts_in(stage), out)
 }

@@ -1,12 +1,15 @@
 -- What becomes of a text, as the programs meet it: by what reading it answered; how many marks and vertices it has at most.
-use mathlib.Core.Path.{◌≡◌, refl}
+use mathlib.Core.Path.{◌≡◌, refl, sym, ◌∙◌, ap}
 use mathlib.Core.List.{List, [], ◌∷◌}
 use Prim.Native.Nat.{ℕ, ◌≤◌}
 use native.Mathlib.Omega.{arith}
 use lib.Dec.{eqb}
 use lib.IntN.{ℤ}
 use lib.Ieee.{Float}
-use Rattle.ints.specs.Refusals.{first_refusal}
+use Rattle.std.specs.Prelude.{Result, Err}
+use Rattle.ints.specs.Refusals.{first_refusal, number_of, refused_by, gives}
+use Rattle.ints.specs.declared.refusal.Refusal.{Refusal}
+use Rattle.ints.proofs.Refusals.{has-number}
 use Rattle.plan.specs.Plan.{PlanData, vertex_count}
 use Rattle.plan.proofs.Sound.{sound}
 use Rattle.text.specs.Reading.{Reading, accepted, refused, reading}
@@ -14,8 +17,6 @@ use Rattle.text.proofs.RoundTrip.{read-acceptable}
 use Rattle.text.proofs.Words.{never}
 use Rattle.passes.specs.Drawing.{drawing_of}
 use Rattle.marks.specs.Marks.{mark_count, all_numbers}
-use Rattle.sheet.specs.declared.types.LineAnswer.TheVariants.{Refused}
-use Rattle.sheet.specs.Results.{gives}
 use Rattle.sheet.specs.Tests.{test14}
 use Rattle.sheet.specs.Calls.{Writes}
 use Rattle.sheet.proofs.WhenRefused.{given}
@@ -33,14 +34,18 @@ module _ (p : PlanData) where
   unfolding positions_of
   positions-of b = refl
 
-module _ (n : ℕ) where
-  pub marks-not : (b : List Float) → Writes (marks_of (refused n) b) (Refused n) b
+module _ (r : Refusal) where
+  pub marks-not : (b : List Float) → Writes (marks_of (refused (number_of r)) b) (Err r) b
   unfolding marks_of
   marks-not b = record { answered = refl; left = refl }
 
-  pub positions-not : (b : List ℤ) → Writes (positions_of (refused n) b) (Refused n) b
+  pub positions-not : (b : List ℤ) → Writes (positions_of (refused (number_of r)) b) (Err r) b
   unfolding positions_of
   positions-not b = record { answered = refl; left = refl }
+
+-- what reading refuses, by what it answered
+pub refused-read : (s : List ℕ) (v : Result Unit Refusal) (r : Refusal) → v ≡ Err r → ((refused_by v ≡ 0 → ⊥) → reading s ≡ refused (refused_by v)) → reading s ≡ refused (number_of r)
+refused-read s v r e f = f (λ z. has-number r (sym (ap refused_by e) ∙ z)) ∙ ap (λ (w : Result Unit Refusal). refused (refused_by w)) e
 
 -- ---- how many at most
 module _ (text : List ℕ) where

@@ -1,10 +1,9 @@
 -- What becomes of a text: its marks in a lent buffer.
 use Rattle.std.specs.Prelude.{List, [], ◌∷◌, Float}
-use Rattle.ints.specs.Refusals.{first_refusal}
+use Rattle.ints.specs.Refusals.{first_refusal, refuses}
 use Rattle.text.specs.Reading.{Reading, accepted, refused}
 use Rattle.passes.specs.Drawing.{drawing_of}
 use Rattle.marks.specs.Marks.{mark_count, all_numbers}
-use Rattle.sheet.specs.Results.{refuses}
 use Rattle.sheet.specs.Tests.{test14}
 use Rattle.sheet.specs.Calls.{BufferOut, buffer_after}
 

@@ -7,9 +7,8 @@ ghost use Rattle.sheet.specs.Calls.{Writes};
 ghost use Rattle.text_marks.specs.Marks.{marks_of};
 
 use crate::drawn::draw_positions;
+use ints::refusal::Refusal;
 use plan::data::Plan;
-use plan::numbers::wide;
-use sheet::types::LineAnswer;
 use sheet_fit::fit::fit_marks;
 use text_read::read_into;
 
@@ -24,7 +23,7 @@ fn marks_plan(
     lowers: &[u32],
     ratings: &[u32],
     out: &mut [f64],
-) -> LineAnswer
+) -> Result<usize, Refusal>
     requires { acceptable (held_plan gap spacing sizes.now vias.now halves.now uppers.now lowers.now ratings.now) ≡ true }
     ensures { Writes (marks_of (accepted (held_plan gap spacing sizes.now vias.now halves.now uppers.now
         lowers.now ratings.now)) out.old) result out.new }
@@ -57,7 +56,7 @@ fn marks_plan(
 
 // All marks of the text's plan in a lent buffer, five numbers each, with how many there are; later numbers stay. Refused 1 to 6 or
 // 14, the buffer stays as it is.
-pub fn marks_text(text: &[u8], out: &mut [f64]) -> LineAnswer
+pub fn marks_text(text: &[u8], out: &mut [f64]) -> Result<usize, Refusal>
     ensures { Writes (marks_of (reading text.now) out.old) result out.new }
 {
     let mut sizes = [0u16; Plan::MAX_LEVELS];
@@ -75,11 +74,9 @@ pub fn marks_text(text: &[u8], out: &mut [f64]) -> LineAnswer
         &mut lowers,
         &mut ratings,
     );
-    if r.failed != 0 {
-        return LineAnswer::Refused(r.failed);
-    }
+    r.verdict?;
     let s = r.scanned;
-    let k = wide(s.levels);
+    let k = s.levels as usize;
     let v = s.vertices;
     let e = s.segments;
     marks_plan(

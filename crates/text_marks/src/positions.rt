@@ -6,10 +6,9 @@ ghost use Rattle.sheet.specs.Calls.{Writes};
 ghost use Rattle.text_marks.specs.Positions.{positions_of};
 
 use crate::drawn::draw_positions;
+use ints::refusal::Refusal;
 use pass_draw::draw::copy_positions;
 use plan::data::Plan;
-use plan::numbers::wide;
-use sheet::types::LineAnswer;
 use text_read::read_into;
 
 // The positions of a plan that was read.
@@ -22,14 +21,14 @@ fn positions_plan(
     lowers: &[u32],
     ratings: &[u32],
     out: &mut [i64],
-) -> LineAnswer
+) -> Result<usize, Refusal>
     requires { SomeRated gap sizes.now vias.now halves.now uppers.now lowers.now ratings.now }
     ensures { (p : PlanData) → HoldsRated p gap sizes.now vias.now halves.now uppers.now lowers.now ratings.now
         → Writes (positions_of (accepted p) out.old) result out.new }
 {
     let v = vias.len();
     if out.len() < v + v {
-        return LineAnswer::Refused(14);
+        return Err(Refusal::Room);
     }
     let mut finals = [0i64; Plan::MAX_VERTICES];
     draw_positions(
@@ -44,12 +43,12 @@ fn positions_plan(
         &mut finals[..v],
     );
     copy_positions(&finals[..v], &mut out[v..v + v]);
-    LineAnswer::Written(v)
+    Ok(v)
 }
 
 // Preliminary positions and then final ones of the text's plan in a lent buffer, with how many vertices it has; later numbers stay.
 // Refused 1 to 6 or 14, the buffer stays as it is.
-pub fn positions_text(text: &[u8], out: &mut [i64]) -> LineAnswer
+pub fn positions_text(text: &[u8], out: &mut [i64]) -> Result<usize, Refusal>
     ensures { Writes (positions_of (reading text.now) out.old) result out.new }
 {
     let mut sizes = [0u16; Plan::MAX_LEVELS];
@@ -67,11 +66,9 @@ pub fn positions_text(text: &[u8], out: &mut [i64]) -> LineAnswer
         &mut lowers,
         &mut ratings,
     );
-    if r.failed != 0 {
-        return LineAnswer::Refused(r.failed);
-    }
+    r.verdict?;
     let s = r.scanned;
-    let k = wide(s.levels);
+    let k = s.levels as usize;
     let v = s.vertices;
     let e = s.segments;
     positions_plan(

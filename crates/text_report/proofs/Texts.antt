@@ -6,7 +6,9 @@ use native.Mathlib.Omega.{arith}
 use lib.Dec.{eqb}
 use lib.ListN.{length}
 use Rattle.ints.specs.Lists.{concat, over}
-use Rattle.ints.specs.Refusals.{first_refusal}
+use Rattle.std.specs.Prelude.{Result, Ok, Err}
+use Rattle.ints.specs.Refusals.{first_refusal, number_of, gives, refuses}
+use Rattle.ints.specs.declared.refusal.Refusal.{Refusal}
 use Rattle.plan.specs.Plan.{PlanData}
 use Rattle.plan.proofs.Sound.{sound}
 use Rattle.plan_renumber.proofs.Own.{own}
@@ -28,9 +30,6 @@ use Rattle.report_lines.specs.inner.Stored.{max_report}
 use Rattle.report_lines.proofs.Lengths.{report-short}
 use Rattle.report_lines.proofs.Printable.{printable, printable-by, stays_by}
 use Rattle.sheet_data.proofs.ReadBack.{preliminary-long, final-long}
-use Rattle.sheet.specs.declared.types.LineAnswer.{LineAnswer}
-use Rattle.sheet.specs.declared.types.LineAnswer.TheVariants.{Written, Refused}
-use Rattle.sheet.specs.Results.{gives, refuses}
 use Rattle.sheet.specs.Tests.{test14}
 use Rattle.sheet.specs.Calls.{TextOut, Writes}
 use Rattle.sheet.specs.inner.Printed.{Prints}
@@ -51,12 +50,12 @@ module _ (p : PlanData) where
   unfolding tangled_report_of
   tangled-of b = refl
 
-module _ (n : ℕ) where
-  pub report-not : (b : List ℕ) → Writes (report_of (refused n) b) (Refused n) b
+module _ (r : Refusal) where
+  pub report-not : (b : List ℕ) → Writes (report_of (refused (number_of r)) b) (Err r) b
   unfolding report_of
   report-not b = record { answered = refl; left = refl }
 
-  pub tangled-not : (b : List ℕ) → Writes (tangled_report_of (refused n) b) (Refused n) b
+  pub tangled-not : (b : List ℕ) → Writes (tangled_report_of (refused (number_of r)) b) (Err r) b
   unfolding tangled_report_of
   tangled-not b = record { answered = refl; left = refl }
 
@@ -108,30 +107,30 @@ module _ (text b out : List ℕ) (m : max_report ≤ length b) where
   unfolding report_of
   fits p e = let w = concat (report_lines p (drawing_of p)) in fitted-long (length w) w b (omega (arith, short text p e))
 
-  prints-report : (n : ℕ) → Writes (report_of (reading text) b) (Written n) out → Fronts (printed text) b n out
+  prints-report : (n : ℕ) → Writes (report_of (reading text) b) (Ok n) out → Fronts (printed text) b n out
   unfolding printed printed_of report_of
   prints-report n = go (reading text) refl
     where
-      go : (g : Reading) → reading text ≡ g → Writes (report_of g b) (Written n) out → Fronts (printed_of g) b n out
+      go : (g : Reading) → reading text ≡ g → Writes (report_of g b) (Ok n) out → Fronts (printed_of g) b n out
       go (accepted p) e w =
           let told : gives n ≡ gives (length (concat (report_lines p (drawing_of p)))) = w.answered ∙ ap (λ (o : TextOut). o.result) (fits p e) in
           record { count = cc told; bytes = w.left ∙ ap (λ (o : TextOut). o.buffer) (fits p e) }
       go (refused k) e w = let told : gives n ≡ refuses k = w.answered in never (cc)
 
   -- the line that says so is written after the report was refused
-  prints-refused : (n : ℕ) {r : ℕ} {after : List ℕ} → Writes (report_of (reading text) b) (Refused n) out → Fronts (refused_line n) out r after → Fronts (printed text) b r after
+  prints-refused : (f : Refusal) {r : ℕ} {after : List ℕ} → Writes (report_of (reading text) b) (Err f) out → Fronts (refused_line (number_of f)) out r after → Fronts (printed text) b r after
   unfolding printed printed_of report_of refused_line report.refused_line
-  prints-refused n {r} {after} w f = go (reading text) refl w
+  prints-refused f {r} {after} w l = go (reading text) refl w
     where
-      go : (g : Reading) → reading text ≡ g → Writes (report_of g b) (Refused n) out → Fronts (printed_of g) b r after
+      go : (g : Reading) → reading text ≡ g → Writes (report_of g b) (Err f) out → Fronts (printed_of g) b r after
       go (accepted p) e w =
-          let told : refuses n ≡ gives (length (concat (report_lines p (drawing_of p)))) = w.answered ∙ ap (λ (o : TextOut). o.result) (fits p e) in
+          let told : refuses (number_of f) ≡ gives (length (concat (report_lines p (drawing_of p)))) = w.answered ∙ ap (λ (o : TextOut). o.result) (fits p e) in
           never (cc)
       go (refused k) e w =
-          let told : refuses n ≡ refuses k = w.answered in
-          let same : n ≡ k = cc told in
-          rw (same, w.left) at f
+          let told : refuses (number_of f) ≡ refuses k = w.answered in
+          let same : number_of f ≡ k = cc told in
+          rw (same, w.left) at l
 
-  pub prints : (a : LineAnswer) {r : ℕ} {after : List ℕ} → Writes (report_of (reading text) b) a out → Prints a out r after → Fronts (printed text) b r after
-  prints (Written n) w h = rw (h.0, h.1) (prints-report n w)
-  prints (Refused n) w h = prints-refused n w h
+  pub prints : (a : Result ℕ Refusal) {r : ℕ} {after : List ℕ} → Writes (report_of (reading text) b) a out → Prints a out r after → Fronts (printed text) b r after
+  prints (Ok n) w h = rw (h.0, h.1) (prints-report n w)
+  prints (Err f) w h = prints-refused f w h

@@ -1,11 +1,10 @@
 -- What becomes of a text: its report in a lent buffer.
 use Rattle.std.specs.Prelude.{List, [], ◌∷◌, ℕ}
 use Rattle.ints.specs.Lists.{concat}
-use Rattle.ints.specs.Refusals.{first_refusal}
+use Rattle.ints.specs.Refusals.{first_refusal, refuses}
 use Rattle.text.specs.Reading.{Reading, accepted, refused}
 use Rattle.passes.specs.Drawing.{drawing_of}
 use Rattle.report.specs.Lines.{report_lines}
-use Rattle.sheet.specs.Results.{refuses}
 use Rattle.sheet.specs.Tests.{test14}
 use Rattle.sheet.specs.Calls.{TextOut, text_after}
 

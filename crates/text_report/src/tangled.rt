@@ -6,11 +6,10 @@ ghost use Rattle.sheet_fit.specs.inner.Fitted.{fitted_text};
 ghost use Rattle.text_report.specs.Tangled.{tangled_report_of};
 ghost use Rattle.text_report.specs.inner.Numbered.{Remembers, report_numbered};
 
+use ints::refusal::Refusal;
 use pass_draw::draw::draw;
 use plan::data::Plan;
-use plan::numbers::wide;
 use report::data::Drawing;
-use sheet::types::LineAnswer;
 use sheet_fit::fit::fit_report_by;
 use text_untangle::read_tangled_into;
 
@@ -26,7 +25,7 @@ fn report_untangled(
     ratings: &[u32],
     numbers: &[u16],
     out: &mut [u8],
-) -> LineAnswer
+) -> Result<usize, Refusal>
     requires { Remembers (held_plan gap spacing sizes.now vias.now halves.now uppers.now lowers.now ratings.now) numbers.now }
     ensures { Writes (fitted_text (report_numbered (held_plan gap spacing sizes.now vias.now halves.now uppers.now
         lowers.now ratings.now) numbers.now) out.old) result out.new }
@@ -72,7 +71,7 @@ fn report_untangled(
 
 // All report lines of a text that may be tangled in a lent buffer, with their length; later bytes stay. Refused 1 to 5 or 14, the buffer
 // stays as it is.
-pub fn report_tangled_text(text: &[u8], out: &mut [u8]) -> LineAnswer
+pub fn report_tangled_text(text: &[u8], out: &mut [u8]) -> Result<usize, Refusal>
     ensures { Writes (tangled_report_of (tangled_reading text.now) out.old) result out.new }
 {
     let mut sizes = [0u16; Plan::MAX_LEVELS];
@@ -82,7 +81,7 @@ pub fn report_tangled_text(text: &[u8], out: &mut [u8]) -> LineAnswer
     let mut lowers = [0u32; Plan::MAX_SEGMENTS];
     let mut ratings = [0u32; Plan::MAX_SEGMENTS];
     let mut numbers = [0u16; Plan::MAX_VERTICES];
-    let r = read_tangled_into(
+    let s = read_tangled_into(
         text,
         &mut sizes,
         &mut vias,
@@ -91,12 +90,8 @@ pub fn report_tangled_text(text: &[u8], out: &mut [u8]) -> LineAnswer
         &mut lowers,
         &mut ratings,
         &mut numbers,
-    );
-    if r.failed != 0 {
-        return LineAnswer::Refused(r.failed);
-    }
-    let s = r.scanned;
-    let k = wide(s.levels);
+    )?;
+    let k = s.levels as usize;
     let v = s.vertices;
     let e = s.segments;
     report_untangled(

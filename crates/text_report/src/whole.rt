@@ -6,11 +6,10 @@ ghost use Rattle.text.specs.Reading.{accepted, reading};
 ghost use Rattle.sheet.specs.Calls.{Writes};
 ghost use Rattle.text_report.specs.Texts.{report_of};
 
+use ints::refusal::Refusal;
 use pass_draw::draw::draw;
 use plan::data::Plan;
-use plan::numbers::wide;
 use report::data::Drawing;
-use sheet::types::LineAnswer;
 use sheet_fit::fit::fit_report;
 use text_read::read_into;
 
@@ -25,7 +24,7 @@ fn report_plan(
     lowers: &[u32],
     ratings: &[u32],
     out: &mut [u8],
-) -> LineAnswer
+) -> Result<usize, Refusal>
     requires { acceptable (held_plan gap spacing sizes.now vias.now halves.now uppers.now lowers.now ratings.now) ≡ true }
     ensures { Writes (report_of (accepted (held_plan gap spacing sizes.now vias.now halves.now uppers.now
         lowers.now ratings.now)) out.old) result out.new }
@@ -70,7 +69,7 @@ fn report_plan(
 
 // All report lines of the text's plan in a lent buffer, with their length; later bytes stay. Refused 1 to 6 or 14, the buffer stays
 // as it is.
-pub fn report_text(text: &[u8], out: &mut [u8]) -> LineAnswer
+pub fn report_text(text: &[u8], out: &mut [u8]) -> Result<usize, Refusal>
     ensures { Writes (report_of (reading text.now) out.old) result out.new }
 {
     let mut sizes = [0u16; Plan::MAX_LEVELS];
@@ -88,11 +87,9 @@ pub fn report_text(text: &[u8], out: &mut [u8]) -> LineAnswer
         &mut lowers,
         &mut ratings,
     );
-    if r.failed != 0 {
-        return LineAnswer::Refused(r.failed);
-    }
+    r.verdict?;
     let s = r.scanned;
-    let k = wide(s.levels);
+    let k = s.levels as usize;
     let v = s.vertices;
     let e = s.segments;
     report_plan(

@@ -5,7 +5,7 @@ use borrow.Author.Rules.{rules}
 use Rattle.marks.specs.Marks.{mark_count, all_numbers}
 use Rattle.marks.proofs.All.{all-long}
 use Rattle.marks.proofs.Laws.{count-is}
-use Rattle.sheet.specs.Results.{gives}
+use Rattle.ints.specs.Refusals.{gives}
 use Rattle.sheet_fit.proofs.FitLaws.{fitted_short, fitted-long, writes}
 use Rattle.sheet_fit.proofs.fit.fit_marks.Statement.{statement}
 use Rattle.sheet_fit.proofs.fit.fit_marks.Tie as tie
