@@ -7,7 +7,6 @@ ghost use Rattle.pass_place.specs.inner.Asked.{low_of, high_of, left_of, right_o
 use crate::outcome::{put_back, take_on};
 use crate::request::{neighbour_counts, neighbour_positions};
 use place_run::place::{MAX_BOXES, MAX_NEIGHBOURS, place};
-use run::types::Bound;
 
 // The most neighbours in all of what is placed with the least working space, and with the lesser.
 const FEW: usize = 16;
@@ -39,32 +38,28 @@ fn last_end(low: usize, high: usize) -> usize
     if low < high { high - 1 } else { low }
 }
 
-fn left_bound(start: usize, from: usize, at: &[i64]) -> Bound
+fn left_bound(start: usize, from: usize, at: &[i64]) -> Option<i64>
     requires { from ≤ length at.now }
     ensures { result ≡ left_of start from at.now }
 {
     if start < from {
-        Bound::At(at[from - 1])
+        Some(at[from - 1])
     } else {
-        Bound::Free
+        None
     }
 }
 
-fn right_bound(end: usize, to: usize, at: &[i64]) -> Bound
+fn right_bound(end: usize, to: usize, at: &[i64]) -> Option<i64>
     requires { to ≤ length at.now }
     ensures { result ≡ right_of end to at.now }
 {
-    if end < to {
-        Bound::At(at[end])
-    } else {
-        Bound::Free
-    }
+    if end < to { Some(at[end]) } else { None }
 }
 
 // Where the boxes from `from` up to `end` go, with these bounds and distances, and working space for their neighbours.
 fn place_near(
-    left: Bound,
-    right: Bound,
+    left: Option<i64>,
+    right: Option<i64>,
     distances: &[u64],
     from: usize,
     end: usize,
@@ -102,8 +97,8 @@ fn place_near(
 
 // The same with working space for N neighbours.
 fn place_in<const N: usize>(
-    left: Bound,
-    right: Bound,
+    left: Option<i64>,
+    right: Option<i64>,
     distances: &[u64],
     from: usize,
     end: usize,
@@ -128,8 +123,8 @@ fn place_in<const N: usize>(
 
 // The same with as much working space as they ask for, little since most runs have few neighbours, and none where there are no boxes.
 fn place_boxes(
-    left: Bound,
-    right: Bound,
+    left: Option<i64>,
+    right: Option<i64>,
     distances: &[u64],
     from: usize,
     end: usize,

@@ -13,9 +13,8 @@ use Rattle.ints.specs.Reach.{reach}
 use Rattle.ints.specs.Lists.{sum}
 use Rattle.ints.proofs.Laws.{apart, cases}
 use Rattle.ints.proofs.Tests.{and_left, conj-at}
-use Rattle.run.specs.Run.{Bound as Limit, free, at, lead_positions, leads_of, Box, span}
-use Rattle.run.specs.declared.types.Bound.{Bound}
-use Rattle.run.specs.declared.types.Bound.TheVariants.{Free, At}
+use Rattle.run.specs.Run.{Bound, free, at, lead_positions, leads_of, Box, span}
+use Rattle.std.specs.Prelude.{Option, None, Some}
 use Rattle.run.specs.Call.{Request, limit_of, member_of, positions_of, left_distance, other_distances, boxes_from, max_boxes, max_neighbours, is_small, is_fitting, is_in_reach, is_sound, is_taken, placed_of, out, call_of}
 use Rattle.run.proofs.WhenRefused.{taken-row}
 use Rattle.run.proofs.Within as within
@@ -37,9 +36,9 @@ between x h = record { low = omega arith; high = omega arith }
 all-between : (xs : List ℤ) → Near xs → Every (Between low high) xs
 all-between xs n = every-make (Between low high) (pos 0) xs (λ i h. between (get_or xs i (pos 0)) (n i h))
 
-bound-between : (b : Bound) → Near (positions_of b) → BoundBetween low high (limit_of b)
-bound-between Free n = tt
-bound-between (At x) n = between x (n 0 (omega arith))
+bound-between : (b : Option ℤ) → Near (positions_of b) → BoundBetween low high (limit_of b)
+bound-between None n = tt
+bound-between (Some x) n = between x (n 0 (omega arith))
 
 every_take : {Q : ℤ → Type 0} (n : ℕ) {xs : List ℤ} → Every Q xs → Every Q (take n xs)
 every_take zero h = every-nil
@@ -64,11 +63,11 @@ boxes-between ds [] ws (every-cons q r) n = boxes-nil
 boxes-between ds (c ∷ cs) ws (every-cons q r) n = boxes-cons q (every-lead (take c ws) (every_take c n)) (boxes-between (drop 1 ds) cs (drop c ws) r (every_drop c n))
 
 -- ---- and so much further
-left-reach : (b : Limit) (d : ℕ) → within.left_reach b d ≤ d
+left-reach : (b : Bound) (d : ℕ) → within.left_reach b d ≤ d
 left-reach free d = omega arith
 left-reach (at x) d = omega arith
 
-right-reach : (bs : List Box) (b : Limit) → within.right_reach bs b ≤ span bs
+right-reach : (bs : List Box) (b : Bound) → within.right_reach bs b ≤ span bs
 right-reach bs free = omega arith
 right-reach bs (at x) = omega arith
 
@@ -77,7 +76,7 @@ sized t h [] r i = omega arith
 sized t h (x ∷ xs) (every-cons q r) zero = omega (arith, q.low, q.high, apart x)
 sized t h (x ∷ xs) (every-cons q r) (suc i) = sized t h xs r i
 
-module _ (l r : Bound) (old : List ℤ) (ds cs : List ℕ) (ns : List ℤ) (ws : List ℕ) (zs : List ℤ) (t : Taken l r old ds cs ns ws zs) where
+module _ (l r : Option ℤ) (old : List ℤ) (ds cs : List ℕ) (ns : List ℤ) (ws : List ℕ) (zs : List ℤ) (t : Taken l r old ds cs ns ws zs) where
   abbrev boxes : List Box
   boxes = boxes_from old (other_distances l ds) cs ns ws
 

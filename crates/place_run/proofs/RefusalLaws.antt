@@ -22,8 +22,7 @@ use Rattle.ints.proofs.Reach.{within-size, within-get, within-cut}
 use Rattle.run.specs.Run.{free, at, nondecreasing, neighbours_in_order, span}
 use Rattle.run.proofs.Leads.{lead-positions}
 use Rattle.run.proofs.Sorted.{Sorted, sorted-cons, sorted, sorted-get}
-use Rattle.run.specs.declared.types.Bound.{Bound}
-use Rattle.run.specs.declared.types.Bound.TheVariants.{Free, At}
+use Rattle.std.specs.Prelude.{Option, None, Some}
 use Rattle.ints.specs.Lists.{sum}
 use Rattle.ints.specs.Reach.{reach, is_within, all_within}
 use Rattle.run.specs.Call.{member_of, positions_of, boxes_from, is_distance, all_distances}
@@ -31,12 +30,12 @@ use Rattle.run_columns.specs.inner.Columns.{parts_in_order}
 use Rattle.run_halves.proofs.Boxes.{span-is}
 
 -- ---- the members
-pub member-le : (b : Bound) → member_of b ≤ 1
-member-le Free = omega arith
-member-le (At x) = omega arith
+pub member-le : (b : Option ℤ) → member_of b ≤ 1
+member-le None = omega arith
+member-le (Some x) = omega arith
 
 -- ---- positions and distances within their limits
-pub bound-size : (b : Bound) (x : ℤ) → b ≡ At x → all_within (positions_of b) ≡ true → size x ≤ reach
+pub bound-size : (b : Option ℤ) (x : ℤ) → b ≡ Some x → all_within (positions_of b) ≡ true → size x ≤ reach
 unfolding all_within
 bound-size b x e h = within-size x (and_left (is_within x) true (rw e at h))
 

@@ -11,15 +11,14 @@ use lib.IntN.{ℤ, pos}
 use Rattle.ints.specs.Ints.{size}
 use Rattle.ints.proofs.Laws.{sum as sum_of, dif}
 use Rattle.ints.proofs.Reach.{within-at}
-use Rattle.run.specs.Run.{Bound as Limit, neighbours_in_order, span}
+use Rattle.run.specs.Run.{Bound, neighbours_in_order, span}
 use Rattle.run.specs.Place.{place_run, place_boxes}
 use Rattle.run.specs.Words.{is_possible}
 use Rattle.ints.proofs.Tests.{and_left, and_right, conj-at}
 use Rattle.run.specs.inner.Coordinates.{left_limit, right_limit}
 use Rattle.run.proofs.Optimal.{has-place-of}
 use Rattle.run.proofs.Fast.{fast-run}
-use Rattle.run.specs.declared.types.Bound.{Bound}
-use Rattle.run.specs.declared.types.Bound.TheVariants.{Free, At}
+use Rattle.std.specs.Prelude.{Option, None, Some}
 use Rattle.ints.specs.Lists.{sum}
 use Rattle.ints.specs.Ratings.{all_ratings}
 use Rattle.ints.specs.Reach.{reach, all_within}
@@ -39,12 +38,12 @@ use Rattle.run_halves.proofs.Boxes.{span-is}
 all_near : (xs : List ℤ) → all_within xs ≡ true → Near xs
 all_near xs e i h = within-at xs i e
 
-pub others-is : (l : Bound) (ds : List ℕ) → other_distances l ds ≡ drop (member_of l) ds
-others-is Free ds = refl
-others-is (At x) ds = refl
+pub others-is : (l : Option ℤ) (ds : List ℕ) → other_distances l ds ≡ drop (member_of l) ds
+others-is None ds = refl
+others-is (Some x) ds = refl
 
 -- ---- a run that is taken
-pub record Taken (l r : Bound) (old : List ℤ) (ds cs : List ℕ) (ns : List ℤ) (ws : List ℕ) (zs : List ℤ) : Type 0 where
+pub record Taken (l r : Option ℤ) (old : List ℤ) (ds cs : List ℕ) (ns : List ℤ) (ws : List ℕ) (zs : List ℤ) : Type 0 where
   pub boxes : length old ≤ max_boxes
   pub neighbours : length ns ≤ max_neighbours
   pub ratings : length ws ≡ length ns
@@ -60,7 +59,7 @@ pub record Taken (l r : Bound) (old : List ℤ) (ds cs : List ℕ) (ns : List �
   pub order : neighbours_in_order (boxes_from old (other_distances l ds) cs ns ws) ≡ true
   pub possible : is_possible (limit_of l) (left_distance l ds) (boxes_from old (other_distances l ds) cs ns ws) (limit_of r) ≡ true
 
-pub taken : (l r : Bound) (old : List ℤ) (ds cs : List ℕ) (ns : List ℤ) (ws : List ℕ) (zs : List ℤ) → is_taken (request_of l r old ds cs ns ws) zs ≡ true → Taken l r old ds cs ns ws zs
+pub taken : (l r : Option ℤ) (old : List ℤ) (ds cs : List ℕ) (ns : List ℤ) (ws : List ℕ) (zs : List ℤ) → is_taken (request_of l r old ds cs ns ws) zs ≡ true → Taken l r old ds cs ns ws zs
 taken l r old ds cs ns ws zs e =
     let q = request_of l r old ds cs ns ws in
     let row = sym (taken-row q zs) ∙ e in
@@ -112,27 +111,27 @@ boxes-are q answer e = let row = sym (taken-row q answer) ∙ e in
     (conj-at (eqb (length answer) q.boxes) (eqb (length q.old) q.boxes ∷ eqb (length q.counts) q.boxes ∷ eqb (length q.neighbours) (sum q.counts)
     ∷ eqb (length q.ratings) (sum q.counts) ∷ eqb (length q.distances) (member_of q.left + q.boxes + member_of q.right - 1) ∷ []) fits 1)
 
-abbrev request : Bound → Bound → List ℤ → List ℕ → List ℕ → List ℤ → List ℕ → ℕ → Request
+abbrev request : Option ℤ → Option ℤ → List ℤ → List ℕ → List ℕ → List ℤ → List ℕ → ℕ → Request
 request l h old ds cs ns ws r = record { boxes = r; left = l; right = h; old = old; distances = ds; counts = cs; neighbours = ns; ratings = ws }
 
-pub taken_places : (l h : Bound) (old : List ℤ) (ds cs : List ℕ) (ns : List ℤ) (ws : List ℕ) (r : ℕ) (answer : List ℤ) →
+pub taken_places : (l h : Option ℤ) (old : List ℤ) (ds cs : List ℕ) (ns : List ℤ) (ws : List ℕ) (r : ℕ) (answer : List ℤ) →
     is_taken (request l h old ds cs ns ws r) answer ≡ true → is_taken (request_of l h old ds cs ns ws) answer ≡ true
 taken_places l h old ds cs ns ws r answer e =
     ap (λ (n : ℕ). is_taken (request l h old ds cs ns ws n) answer) (boxes-are (request l h old ds cs ns ws r) answer e) ∙ e
 
-pub near-limit : (l : Bound) → Near (positions_of l) → SmallLimit (limit_of l)
-near-limit Free q = tt
-near-limit (At x) q = let h : size x ≤ reach = q 0 (omega arith) in omega arith
+pub near-limit : (l : Option ℤ) → Near (positions_of l) → SmallLimit (limit_of l)
+near-limit None q = tt
+near-limit (Some x) q = let h : size x ≤ reach = q 0 (omega arith) in omega arith
 
-small-left : (l : Bound) (d : ℕ) → Near (positions_of l) → d ≤ max_offset → SmallLimit (left_limit (limit_of l) d)
-small-left Free d q h = tt
-small-left (At x) d q h = let k : size x ≤ reach = q 0 (omega arith) in omega (arith, sum_of x (pos d))
+small-left : (l : Option ℤ) (d : ℕ) → Near (positions_of l) → d ≤ max_offset → SmallLimit (left_limit (limit_of l) d)
+small-left None d q h = tt
+small-left (Some x) d q h = let k : size x ≤ reach = q 0 (omega arith) in omega (arith, sum_of x (pos d))
 
-small-right : (r : Bound) (d : ℕ) → Near (positions_of r) → d ≤ max_offset → SmallLimit (right_limit (limit_of r) d)
-small-right Free d q h = tt
-small-right (At x) d q h = let k : size x ≤ reach = q 0 (omega arith) in omega (arith, dif x (pos d))
+small-right : (r : Option ℤ) (d : ℕ) → Near (positions_of r) → d ≤ max_offset → SmallLimit (right_limit (limit_of r) d)
+small-right None d q h = tt
+small-right (Some x) d q h = let k : size x ≤ reach = q 0 (omega arith) in omega (arith, dif x (pos d))
 
-module _ (l r : Bound) (old : List ℤ) (ds cs : List ℕ) (ns : List ℤ) (ws : List ℕ) (zs : List ℤ) (t : Taken l r old ds cs ns ws zs) where
+module _ (l r : Option ℤ) (old : List ℤ) (ds cs : List ℕ) (ns : List ℤ) (ws : List ℕ) (zs : List ℤ) (t : Taken l r old ds cs ns ws zs) where
   sum-small : sum ds ≤ max_offset
   sum-small = omega (arith, t.offsets, t.distances, t.boxes, member-le l, member-le r)
 
@@ -145,9 +144,9 @@ module _ (l r : Bound) (old : List ℤ) (ds cs : List ℕ) (ns : List ℤ) (ws :
   pub left-small : left_distance l ds ≤ max_offset
   left-small = go l
     where
-      go : (l : Bound) → left_distance l ds ≤ max_offset
-      go Free = omega arith
-      go (At x) = first_small
+      go : (l : Option ℤ) → left_distance l ds ≤ max_offset
+      go None = omega arith
+      go (Some x) = first_small
 
   -- with a box, every left bound has a distance, and no box lacks one but the last
   pub members-within : 0 < length old → member_of l ≤ length ds
@@ -159,7 +158,7 @@ module _ (l r : Bound) (old : List ℤ) (ds cs : List ℕ) (ns : List ℤ) (ws :
       let k : length (drop (member_of l) ds) ≤ length old = omega (arith, length-drop (member_of l) ds, member-le l, member-le r) in
       ap (λ es. span (boxes_from old es cs ns ws)) (others-is l ds) ∙ span-is old (drop (member_of l) ds) cs ns ws t.columns.boxes k
 
-  pub fits-between : 0 < length old → (ss : List ℕ) → ratings_between ss ≡ ws → length ss ≡ length ns + 1 → (L H : Limit) → L ≡ left_limit (limit_of l) (left_distance l ds) → H ≡ right_limit (limit_of r) (sum (drop (member_of l) ds))
+  pub fits-between : 0 < length old → (ss : List ℕ) → ratings_between ss ≡ ws → length ss ≡ length ns + 1 → (L H : Bound) → L ≡ left_limit (limit_of l) (left_distance l ds) → H ≡ right_limit (limit_of r) (sum (drop (member_of l) ds))
       → Fits L H (drop (member_of l) ds) old cs ns ss zs
   fits-between h ss es el L H e_l e_h = record {
     columns = t.columns;

@@ -5,7 +5,7 @@ ghost use Rattle.place_run.specs.inner.Requests.{request_of};
 
 use crate::place::{MAX_NEIGHBOURS, place};
 use crate::refusal::is_taken;
-use run::types::{Answer, Bound};
+use ints::refusal::Refusal;
 use run_columns::offsets::fill_offsets;
 
 // How many sums the least working space holds, the lesser and the greatest: one more than neighbours in all.
@@ -17,8 +17,8 @@ const MANY: usize = MAX_NEIGHBOURS + 1;
 
 // Places a run that is taken, with working space for sums of its ratings so far: they are the offsets that such distances would give.
 fn place_summed(
-    left: Bound,
-    right: Bound,
+    left: Option<i64>,
+    right: Option<i64>,
     old: &[i64],
     distances: &[u64],
     counts: &[u64],
@@ -40,8 +40,8 @@ fn place_summed(
 
 // The same with working space for N sums.
 fn place_in<const N: usize>(
-    left: Bound,
-    right: Bound,
+    left: Option<i64>,
+    right: Option<i64>,
     old: &[i64],
     distances: &[u64],
     counts: &[u64],
@@ -70,8 +70,8 @@ fn place_in<const N: usize>(
 
 // The same with as much working space as they ask for, little where there are few neighbours.
 fn place_rated(
-    left: Bound,
-    right: Bound,
+    left: Option<i64>,
+    right: Option<i64>,
     old: &[i64],
     distances: &[u64],
     counts: &[u64],
@@ -102,15 +102,15 @@ fn place_rated(
 // Places a run of r boxes into the lent answer, or refuses it (8) and leaves the answer as it was.
 pub fn place_run(
     r: u64,
-    left: Bound,
-    right: Bound,
+    left: Option<i64>,
+    right: Option<i64>,
     old: &[i64],
     distances: &[u64],
     counts: &[u64],
     neighbours: &[i64],
     ratings: &[u64],
     answer: &mut [i64],
-) -> Answer
+) -> Result<(), Refusal>
     ensures { Outcome (call_of (record {
       boxes = r;
       left = left;
@@ -125,10 +125,10 @@ pub fn place_run(
     if !is_taken(
         r, left, right, old, distances, counts, neighbours, ratings, answer,
     ) {
-        return Answer::Refused;
+        return Err(Refusal::Run);
     }
     place_rated(
         left, right, old, distances, counts, neighbours, ratings, answer,
     );
-    Answer::Accepted
+    Ok(())
 }

@@ -11,7 +11,6 @@ ghost use Rattle.place_run.specs.inner.Requests.{request_of};
 
 use crate::refusal::members;
 use ints::{minus, plus};
-use run::types::Bound;
 use run_columns::offsets::distance_at;
 use run_halves::halves::{place_between, total};
 
@@ -21,37 +20,25 @@ pub const MAX_BOXES: usize = 64;
 pub const MAX_NEIGHBOURS: usize = 2048;
 
 // The left bound plus its distance to the first box: no box stands left of it.
-fn left_limit(left: Bound, distances: &[u64]) -> Bound
+fn left_limit(left: Option<i64>, distances: &[u64]) -> Option<i64>
     requires { SmallLimit (limit_of left) × (get_or distances.now 0 0 ≤ max_offset) }
     ensures { limit_of result ≡ left_limit (limit_of left) (left_distance left distances.now) }
 {
-    match left {
-        Bound::Free => Bound::Free,
-        Bound::At(l) => {
-            let x = plus(l, distance_at(distances, 0));
-            Bound::At(x)
-        }
-    }
+    left.map(|l| plus(l, distance_at(distances, 0)))
 }
 
 // The right bound less all distances between the first box and it: no box stands right of it in run coordinates.
-fn right_limit(right: Bound, steps: &[u64]) -> Bound
+fn right_limit(right: Option<i64>, steps: &[u64]) -> Option<i64>
     requires { SmallLimit (limit_of right) × (sum steps.now ≤ max_offset) }
     ensures { limit_of result ≡ right_limit (limit_of right) (sum steps.now) }
 {
-    match right {
-        Bound::Free => Bound::Free,
-        Bound::At(h) => {
-            let x = minus(h, total(steps) as u64);
-            Bound::At(x)
-        }
-    }
+    right.map(|h| minus(h, total(steps) as u64))
 }
 
 // Places the boxes of one run between its bounds.
 pub fn place(
-    left: Bound,
-    right: Bound,
+    left: Option<i64>,
+    right: Option<i64>,
     old: &[i64],
     distances: &[u64],
     counts: &[u64],

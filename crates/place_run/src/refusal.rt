@@ -10,7 +10,6 @@ ghost use Rattle.run_columns.specs.inner.Columns.{parts_in_order};
 
 use ints::too_near;
 use ints::within::{all_within, is_within};
-use run::types::Bound;
 use run_halves::halves::total;
 
 // "over 64 boxes, over 2,048 neighbours in all"
@@ -39,17 +38,14 @@ fn neighbours_in_all(counts: &[u64]) -> u64
 }
 
 // How many members a side adds.
-pub fn members(bound: Bound) -> usize
+pub fn members(bound: Option<i64>) -> usize
     ensures { result ≡ member_of bound }
 {
-    match bound {
-        Bound::Free => 0,
-        Bound::At(_) => 1,
-    }
+    usize::from(bound.is_some())
 }
 
 // One less than the members, bounds included; 0 if there are none.
-fn distances_due(left: Bound, boxes: u64, right: Bound) -> u64
+fn distances_due(left: Option<i64>, boxes: u64, right: Option<i64>) -> u64
     requires { boxes ≤ max_boxes }
     ensures { result ≡ member_of left + boxes + member_of right - 1 }
 {
@@ -57,13 +53,10 @@ fn distances_due(left: Bound, boxes: u64, right: Bound) -> u64
 }
 
 // A side with no bound hands in no position.
-fn bound_within(bound: Bound) -> bool
+fn bound_within(bound: Option<i64>) -> bool
     ensures { result ≡ all_within (positions_of bound) }
 {
-    match bound {
-        Bound::Free => true,
-        Bound::At(x) => is_within(x),
-    }
+    bound.is_none_or(is_within)
 }
 
 // Whether a distance is from 1 to 2^41.
@@ -125,7 +118,7 @@ fn neighbours_are_taken(counts: &[u64], neighbours: &[i64]) -> bool
 }
 
 // Whether the bounds, if both are there, are not nearer than their distance.
-fn is_possible(left: Bound, right: Bound, distances: &[u64]) -> bool
+fn is_possible(left: Option<i64>, right: Option<i64>, distances: &[u64]) -> bool
     requires left_value { (all_within (positions_of left) ≡ true) × (all_within (positions_of right) ≡ true) }
     requires distances_len_bound { (length distances.now ≤ max_boxes + 1) × (all_distances distances.now ≡ true) }
     ensures { (old : List ℤ) (counts : List ℕ) (neighbours : List ℤ) (ratings : List ℕ) → length old ≡ length counts
@@ -133,12 +126,9 @@ fn is_possible(left: Bound, right: Bound, distances: &[u64]) -> bool
         → result ≡ is_possible (limit_of left) (left_distance left distances.now)
         (boxes_from old (other_distances left distances.now) counts neighbours ratings) (limit_of right) }
 {
-    match left {
-        Bound::Free => true,
-        Bound::At(l) => match right {
-            Bound::Free => true,
-            Bound::At(r) => !too_near(l, r, total(distances) as u64),
-        },
+    match (left, right) {
+        (Some(l), Some(r)) => !too_near(l, r, total(distances) as u64),
+        _ => true,
     }
 }
 
@@ -166,8 +156,8 @@ fn is_sized(
 
 // Whether the bounds, old positions, distances and ratings are within their limits.
 fn is_within_limits(
-    left: Bound,
-    right: Bound,
+    left: Option<i64>,
+    right: Option<i64>,
     old: &[i64],
     distances: &[u64],
     ratings: &[u64],
@@ -185,8 +175,8 @@ fn is_within_limits(
 // Whether place-run takes the run: the tests of refusal 8.
 pub fn is_taken(
     r: u64,
-    left: Bound,
-    right: Bound,
+    left: Option<i64>,
+    right: Option<i64>,
     old: &[i64],
     distances: &[u64],
     counts: &[u64],

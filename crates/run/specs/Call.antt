@@ -1,54 +1,46 @@
 -- The call place-run: what it takes, refusal 8, and what it gives.
-use Rattle.std.specs.Prelude.{◌≡◌, Bool, true, cond, ◌&&◌, List, [], ◌∷◌, ℕ, ◌+◌, ◌-◌, ◌*◌, leb, eqb, length, take, drop, get_or, ℤ}
+use Rattle.std.specs.Prelude.{◌≡◌, Bool, true, cond, ◌&&◌, List, [], ◌∷◌, ℕ, ◌+◌, ◌-◌, ◌*◌, leb, eqb, length, take, drop, get_or, ℤ, Option, None, Some, Result}
 use Rattle.ints.specs.Lists.{sum}
 use Rattle.ints.specs.Reach.{reach, all_within}
 use Rattle.ints.specs.Ratings.{all_ratings}
-use Rattle.ints.specs.Refusals.{Test, check, none_refuses}
-use Rattle.run.specs.Run.{Bound as Limit, free, at, leads_of, Box, neighbours_in_order}
+use Rattle.ints.specs.Refusals.{Test, check, none_refuses, refused_by}
+use Rattle.ints.specs.declared.refusal.Refusal.{Refusal}
+use Rattle.run.specs.Run.{Bound, free, at, leads_of, Box, neighbours_in_order}
 use Rattle.run.specs.Place.{place_run}
 use Rattle.run.specs.Words.{is_possible}
-use Rattle.run.specs.declared.types.Bound.{Bound}
-use Rattle.run.specs.declared.types.Bound.TheVariants.{Free, At}
-use Rattle.run.specs.declared.types.Answer.{Answer}
-use Rattle.run.specs.declared.types.Answer.TheVariants.{Accepted, Refused}
-
--- Document 01's number for each answer; 0 where it refuses nothing.
-abbrev pub number_of : Answer → ℕ
-number_of Accepted = 0
-number_of Refused = 8
 
 -- A run as the call takes it: r, the bounds, and the lent slices. Document 02, E5: "Place-run takes ratings beside its neighbours".
 pub record Request : Type 0 where
   pub boxes : ℕ
-  pub left : Bound
-  pub right : Bound
+  pub left : Option ℤ
+  pub right : Option ℤ
   pub old : List ℤ
   pub distances : List ℕ
   pub counts : List ℕ
   pub neighbours : List ℤ
   pub ratings : List ℕ
 
-abbrev pub limit_of : Bound → Limit
-limit_of Free = free
-limit_of (At x) = at x
+abbrev pub limit_of : Option ℤ → Bound
+limit_of None = free
+limit_of (Some x) = at x
 
 -- How many members a side adds, and the positions it hands in: "the value handed in for an absent bound is ignored".
-abbrev pub member_of : Bound → ℕ
-member_of Free = 0
-member_of (At x) = 1
+abbrev pub member_of : Option ℤ → ℕ
+member_of None = 0
+member_of (Some x) = 1
 
-abbrev pub positions_of : Bound → List ℤ
-positions_of Free = []
-positions_of (At x) = x ∷ []
+abbrev pub positions_of : Option ℤ → List ℤ
+positions_of None = []
+positions_of (Some x) = x ∷ []
 
 -- The distance of the left bound to the first box (or to the right bound), and the distances after it.
-abbrev pub left_distance : Bound → List ℕ → ℕ
-left_distance Free ds = 0
-left_distance (At x) ds = get_or ds 0 0
+abbrev pub left_distance : Option ℤ → List ℕ → ℕ
+left_distance None ds = 0
+left_distance (Some x) ds = get_or ds 0 0
 
-abbrev pub other_distances : Bound → List ℕ → List ℕ
-other_distances Free ds = ds
-other_distances (At x) ds = drop 1 ds
+abbrev pub other_distances : Option ℤ → List ℕ → List ℕ
+other_distances None ds = ds
+other_distances (Some x) ds = drop 1 ds
 
 -- The boxes: each takes as many of the neighbours as its count says, each with its rating, and the next distance.
 unfoldable pub boxes_from : List ℤ → List ℕ → List ℕ → List ℤ → List ℕ → List Box
@@ -123,6 +115,6 @@ call_of q answer =
     cond (is_taken q answer) placed (out 8 answer)
 
 -- The promise: the answer's number and what the buffer holds at the end are those of o.
-pub record Outcome (o : Out) (a : Answer) (b : List ℤ) : Type 0 where
-  pub answered : number_of a ≡ o.number
+pub record Outcome (o : Out) (a : Result Unit Refusal) (b : List ℤ) : Type 0 where
+  pub answered : refused_by a ≡ o.number
   pub left : b ≡ o.buffer

@@ -16,7 +16,6 @@ ghost use Rattle.run_columns.specs.inner.Sums.{ratings_between, SumsOf};
 use crate::meet::join;
 use crate::middle::find_middles;
 use ints::minus;
-use run::types::Bound;
 use run_columns::offsets::{fill_offsets, plus_offsets};
 
 // Half of z, rounded toward minus infinity.
@@ -40,26 +39,27 @@ fn start(old: i64, near: &[i64], sums: &[u64]) -> i64
     half_down(low + high)
 }
 
-fn raised(left: Bound, x: i64) -> i64
+fn raised(left: Option<i64>, x: i64) -> i64
     ensures { result ≡ clamp_low (limit_of left) x }
 {
-    match left {
-        Bound::Free => x,
-        Bound::At(l) => x.max(l),
-    }
+    left.map_or(x, |l| x.max(l))
 }
 
-fn lowered(right: Bound, x: i64) -> i64
+fn lowered(right: Option<i64>, x: i64) -> i64
     ensures { result ≡ clamp_high (limit_of right) x }
 {
-    match right {
-        Bound::Free => x,
-        Bound::At(h) => x.min(h),
-    }
+    right.map_or(x, |h| x.min(h))
 }
 
 // One box: from its start raised to the left limit, then lowered to the right one.
-fn place_one(left: Bound, right: Bound, old: i64, offset: u64, near: &[i64], sums: &[u64]) -> i64
+fn place_one(
+    left: Option<i64>,
+    right: Option<i64>,
+    old: i64,
+    offset: u64,
+    near: &[i64],
+    sums: &[u64],
+) -> i64
     requires { (size old ≤ reach) × (offset ≤ max_offset) × Near near.now × SumsOf sums.now near.now }
     ensures { result ≡ clamp (limit_of left) (limit_of right) (start_of (less offset old) (leads_of (map (less offset) near.now)
         (ratings_between sums.now))) }
@@ -76,8 +76,8 @@ pub fn total(counts: &[u64]) -> usize
 
 // "The run is cut after its first ⌊r/2⌋ boxes. Each half is placed so", then the halves are joined.
 fn place_halves(
-    left: Bound,
-    right: Bound,
+    left: Option<i64>,
+    right: Option<i64>,
     old: &[i64],
     offsets: &[u64],
     counts: &[u64],
@@ -124,8 +124,8 @@ fn place_halves(
 
 // Places boxes between two limits, with working space for their offsets.
 pub fn place_between(
-    left: Bound,
-    right: Bound,
+    left: Option<i64>,
+    right: Option<i64>,
     steps: &[u64],
     old: &[i64],
     counts: &[u64],

@@ -6,8 +6,8 @@
 
 ghost use Rattle.std.specs.Prelude.{◌≤◌};
 
+use ints::refusal::Refusal;
 use place_run::call::place_run;
-use run::types::{Answer, Bound};
 use std::io;
 use std::io::Write;
 use streams::read_full;
@@ -65,13 +65,9 @@ fn position(text: &[u8], from: usize) -> i64 {
 }
 
 // A bound's flag stands at `from`, its value after it.
-fn bound(text: &[u8], from: usize) -> Bound {
+fn bound(text: &[u8], from: usize) -> Option<i64> {
     let x = position(text, next(text, from));
-    if size(text, from) == 0 {
-        Bound::Free
-    } else {
-        Bound::At(x)
-    }
+    if size(text, from) == 0 { None } else { Some(x) }
 }
 
 // The length at `from`, or `most` if it is greater.
@@ -100,10 +96,14 @@ fn sizes(text: &[u8], from: usize, out: &mut [u64]) -> usize {
     at
 }
 
-fn print_outcome<W: Write>(output: &mut W, answer: Answer, buffer: &[i64]) -> io::Result<()> {
+fn print_outcome<W: Write>(
+    output: &mut W,
+    answer: Result<(), Refusal>,
+    buffer: &[i64],
+) -> io::Result<()> {
     match answer {
-        Answer::Accepted => output.write_all(b"0")?,
-        Answer::Refused => output.write_all(b"8")?,
+        Ok(()) => output.write_all(b"0")?,
+        Err(r) => write!(output, "{}", r.number())?,
     }
     for x in buffer {
         write!(output, " {x}")?;

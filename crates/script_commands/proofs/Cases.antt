@@ -6,7 +6,7 @@ use lib.IntN.{pos, negsuc}
 use Rattle.plan.specs.Checks.{every}
 use Rattle.text.specs.Bytes.{bytes}
 use Rattle.text.specs.Parser.{word}
-use Rattle.run.specs.declared.types.Bound.TheVariants.{Free, At}
+use Rattle.std.specs.Prelude.{None, Some}
 use Rattle.script_words.specs.Parts.{parts, same}
 use Rattle.script_words.specs.Numbers.{value_from, is_natural, natural_in, number_in}
 use Rattle.script_texts.specs.Texts.{hex_value, unescaped}
@@ -52,8 +52,8 @@ record Lines : Type 0 where
   walk-below-zero : command_of (bytes "walk -1 (end)") ≡ unknown
   run : command_of (bytes "placerun r=2 old=-9,2 left=-7 counts=2,0 nbrs=-9,-3 dist=1,15") ≡ place_run (record {
     boxes = 2;
-    left = At (negsuc 6);
-    right = Free;
+    left = Some (negsuc 6);
+    right = None;
     old = negsuc 8 ∷ pos 2 ∷ [];
     distances = 1 ∷ 15 ∷ [];
     counts = 2 ∷ 0 ∷ [];
@@ -62,8 +62,8 @@ record Lines : Type 0 where
   }) 2
   run-rated : command_of (bytes "placerun ratings=100,-1 r=1 old=0 counts=2 nbrs=4,5 dist=") ≡ place_run (record {
     boxes = 1;
-    left = Free;
-    right = Free;
+    left = None;
+    right = None;
     old = pos 0 ∷ [];
     distances = [];
     counts = 2 ∷ [];
@@ -72,8 +72,8 @@ record Lines : Type 0 where
   }) 1
   run_room : command_of (bytes "placerun old= nbrs= dist=-5 counts= answer=3 r=0") ≡ place_run (record {
     boxes = 0;
-    left = Free;
-    right = Free;
+    left = None;
+    right = None;
     old = [];
     distances = 0 ∷ [];
     counts = [];

@@ -6,16 +6,15 @@ use Prim.Native.Nat.{ℕ, ◌+◌, ◌≤◌, ◌<◌}
 use native.Mathlib.Omega.{arith}
 use borrow.Author.Tests.{eqb-true}
 use lib.Dec.{eqb}
-use lib.ListN.{length, take, drop, replicate, length-take}
+use lib.ListN.{length, take, drop, length-take}
 use lib.Seq.{take_all}
-use lib.IntN.{ℤ}
 use Rattle.plan.specs.Checks.{every}
 use Rattle.script_words.specs.Parts.{parts}
 use Rattle.script_words.specs.inner.Ends.{between, PartEnds}
 use Rattle.script_words.specs.inner.Puts.{Puts}
 use Rattle.script_words.proofs.PartLaws.{parts-split}
 use Rattle.script_words.proofs.Filling.{fill_more}
-use Rattle.script_runs.specs.Lists.{items_of, signeds_in}
+use Rattle.script_runs.specs.Lists.{items_of}
 
 pub items-none : (w : List ℕ) → eqb (length w) 0 ≡ true → items_of w ≡ []
 items-none [] e = refl
@@ -24,15 +23,6 @@ items-none (b ∷ w) e = absurd (omega (arith, eqb-true (length (b ∷ w)) 0 e))
 pub items-some : (w : List ℕ) → eqb (length w) 0 ≡ false → items_of w ≡ parts 44 w
 items-some [] e = absurd (false≢true (sym e))
 items-some (b ∷ w) e = refl
-
--- a 1 for each number
-ones : (f : List ℕ → ℤ) (ws : List (List ℕ)) → map {B = ℕ} (λ v. 1) ws ≡ replicate (length (map f ws)) 1
-ones f [] = refl
-ones f (w ∷ ws) = ap (λ (l : List ℕ). 1 ∷ l) (ones f ws)
-
-pub ones-items : (w : List ℕ) → map {B = ℕ} (λ v. 1) (items_of w) ≡ replicate (length (signeds_in w)) 1
-unfolding signeds_in
-ones-items w = ones _ (items_of w)
 
 module _ (w : List ℕ) (from to : ℕ) (e : PartEnds 44 w from to) where
   -- ---- a test

@@ -3,7 +3,7 @@ use mathlib.Core.Path.{◌≡◌, refl, ap}
 use mathlib.Core.List.{List, [], ◌∷◌}
 use Prim.Native.Nat.{ℕ, suc, ◌+◌, ◌-◌, ◌≤◌, ◌<◌}
 use native.Mathlib.Omega.{arith}
-use lib.ListN.{length, drop, length-take, length-drop}
+use lib.ListN.{length, drop}
 use lib.Seq.{drop-drop}
 use Rattle.ints.proofs.Lists.{drop-take}
 use Rattle.text.specs.Parser.{Got, got, nothing, word}
@@ -52,6 +52,3 @@ part-after n from to s =
     let z : 0 + n ≡ n = omega arith in
     let d : to - (from + n) ≡ to - from - n = omega arith in
     rw (z, drop-take n (to - from) (drop from s), drop-drop n from s, d)
-
-pub part-fits : (n from to : ℕ) (s : List ℕ) → from ≤ to → to ≤ length s → 0 + n ≤ length (between from to s) → from + n ≤ to
-part-fits n from to s h k l = omega (arith, simp (length-take, length-drop) at l)

@@ -14,8 +14,7 @@ use lib.Seq.{take_all}
 use lib.IntN.{ℤ}
 use Rattle.ints.specs.Lists.{sum}
 use Rattle.ints.proofs.Tests.{test, and_left, and_right}
-use Rattle.run.specs.declared.types.Bound.{Bound}
-use Rattle.run.specs.declared.types.Bound.TheVariants.{Free, At}
+use Rattle.std.specs.Prelude.{Option, None, Some}
 use Rattle.run.specs.Call.{Request, member_of, is_small, is_fitting, is_in_reach, is_sound, is_taken, out, call_of}
 use Rattle.run.proofs.WhenRefused.{taken-row}
 use Rattle.script_runs.specs.inner.Filled.{Buffers, shortened}
@@ -57,9 +56,9 @@ sizes q answer e =
       distances = eqb-true (length q.distances) (member_of q.left + q.boxes + member_of q.right - 1) (and_right (a && o && c && n && w) d f);
     }
 
-one-member : (b : Bound) → member_of b ≤ 1
-one-member Free = omega arith
-one-member (At x) = omega arith
+one-member : (b : Option ℤ) → member_of b ≤ 1
+one-member None = omega arith
+one-member (Some x) = omega arith
 
 refused : (q : Request) (answer : List ℤ) → is_taken q answer ≡ false → call_of q answer ≡ out 8 answer
 unfolding call_of

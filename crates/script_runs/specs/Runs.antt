@@ -1,11 +1,9 @@
 -- `placerun r=3 [left=..] [right=..] old=1,2,3 counts=1,0,2 nbrs=4,5,6 dist=9,9 [ratings=1,1,1] [answer=LEN]`: what its words say. They
 -- stand in any order, none twice.
-use Rattle.std.specs.Prelude.{Bool, true, cond, ◌&&◌, List, ℕ, ◌+◌, eqb, leb, length, replicate}
+use Rattle.std.specs.Prelude.{Bool, true, cond, ◌&&◌, List, ℕ, ◌+◌, eqb, leb, length, replicate, ℤ, Option, None, Some}
 use Prim.Native.String.{String}
 use Rattle.text.specs.Bytes.{bytes}
 use Rattle.run.specs.Call.{Request}
-use Rattle.run.specs.declared.types.Bound.{Bound}
-use Rattle.run.specs.declared.types.Bound.TheVariants.{Free, At}
 use Rattle.script_words.specs.Numbers.{number_in, is_whole, whole_of, is_signed, signed_of}
 use Rattle.script_runs.specs.declared.types.Kind.TheVariants.{Unsigned, Signed, Any}
 use Rattle.script_runs.specs.Lists.{is_list, wholes_in, signeds_in}
@@ -53,8 +51,8 @@ unfoldable pub is_request : List (List ℕ) → Bool
 is_request ws = has_parts ws && has_options ws && has_numbers ws && has_lists ws
 
 -- Without `left` or `right` there is no such bound; without `answer` the answer buffer has length r.
-abbrev pub bound_in : List ℕ → List (List ℕ) → Bound
-bound_in name ws = cond (is_said name ws) (At (signed_of (number_in (value_of name ws)))) Free
+abbrev pub bound_in : List ℕ → List (List ℕ) → Option ℤ
+bound_in name ws = cond (is_said name ws) (Some (signed_of (number_in (value_of name ws)))) None
 
 abbrev pub boxes_in : List (List ℕ) → ℕ
 boxes_in ws = whole_of (number_in (value "r=" ws))

@@ -98,17 +98,7 @@ pub fn signeds_in(word: &[u8], out: &mut [i64]) -> usize
 pub fn ones_in(word: &[u8], out: &mut [u64]) -> usize
     ensures { Fills (replicate (length (signeds_in word.now)) 1) (length out.old) result out.new }
 {
-    if word.is_empty() {
-        return 0;
-    }
-    let mut from = 0;
-    let mut n = 0;
-    loop {
-        let to = end_of(word, b',', from);
-        n = put(out, n, 1);
-        if to >= word.len() {
-            return n;
-        }
-        from = to + 1;
-    }
+    let n = wholes_in(word, out);
+    out[..n].fill(1);
+    n
 }

@@ -7,7 +7,6 @@ ghost use Rattle.script_runs.specs.inner.Filled.{Fills, buffers, Asks};
 use crate::lists::{is_list, ones_in, signeds_in, wholes_in};
 use crate::names::{times, value};
 use crate::types::{Kind, RunRequest};
-use run::types::Bound;
 use script_words::numbers::{is_signed, is_whole, number, signed, whole};
 
 fn is_once(given: &[u8], name: &[u8]) -> bool
@@ -85,13 +84,10 @@ pub fn is_request(given: &[u8]) -> bool
     has_parts(given) && has_options(given) && has_numbers(given) && has_lists(given)
 }
 
-fn bound_in(given: &[u8], name: &[u8]) -> Bound
+fn bound_in(given: &[u8], name: &[u8]) -> Option<i64>
     ensures { result ≡ bound_in name.now (words given.now) }
 {
-    if is_once(given, name) {
-        return Bound::At(signed(number(value(given, name))));
-    }
-    Bound::Free
+    is_once(given, name).then(|| signed(number(value(given, name))))
 }
 
 fn boxes_in(given: &[u8]) -> u64

@@ -1,5 +1,4 @@
 // What the words of a command placerun are made of, and what they say.
-use run::types::Bound;
 
 // Which numbers may stand in a list: without a sign, with a sign, or all of 64 bits.
 #[derive(Clone, Copy)]
@@ -13,8 +12,8 @@ pub enum Kind {
 #[derive(Clone, Copy)]
 pub struct RunRequest {
     pub boxes: u64,
-    pub left: Bound,
-    pub right: Bound,
+    pub left: Option<i64>,
+    pub right: Option<i64>,
     pub old: usize,
     pub distances: usize,
     pub counts: usize,

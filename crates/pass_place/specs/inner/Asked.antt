@@ -1,13 +1,11 @@
 -- A run as it lies in what the passes hold, and as "Placing one run" takes it: its level stands from `start` up to `to`, its boxes
 -- from `from` up to `end`.
-use Rattle.std.specs.Prelude.{cond, ◌&&◌, List, ◌≡◌, ℕ, ◌+◌, ◌-◌, ◌<◌, ◌≤◌, ltb, length, get_or, take, drop, ℤ}
+use Rattle.std.specs.Prelude.{cond, ◌&&◌, List, ◌≡◌, ℕ, ◌+◌, ◌-◌, ◌<◌, ◌≤◌, ltb, length, get_or, take, drop, ℤ, Option, None, Some}
 use Rattle.ints.specs.Ints.{size, ◌⊑◌}
 use Rattle.plan.specs.Plan.{numbers}
 use Rattle.plan.specs.inner.Graph.{Below}
 use Rattle.passes.specs.State.{position_of, take_on}
 use Rattle.pass_tables.specs.inner.Tables.{along}
-use Rattle.run.specs.declared.types.Bound.{Bound}
-use Rattle.run.specs.declared.types.Bound.TheVariants.{Free, At}
 use Rattle.run.specs.Call.{Request}
 use Rattle.run_columns.specs.inner.Sums.{ratings_between}
 use Rattle.place_run.specs.inner.Requests.{request_of}
@@ -20,11 +18,11 @@ abbrev pub high_of : ℕ → ℕ → ℕ
 high_of end to = cond (ltb end to) (end + 1) end
 
 -- Its bounds, where everything stands at xs.
-abbrev pub left_of : ℕ → ℕ → List ℤ → Bound
-left_of start from xs = cond (ltb start from) (At (position_of xs (from - 1))) Free
+abbrev pub left_of : ℕ → ℕ → List ℤ → Option ℤ
+left_of start from xs = cond (ltb start from) (Some (position_of xs (from - 1))) None
 
-abbrev pub right_of : ℕ → ℕ → List ℤ → Bound
-right_of end to xs = cond (ltb end to) (At (position_of xs end)) Free
+abbrev pub right_of : ℕ → ℕ → List ℤ → Option ℤ
+right_of end to xs = cond (ltb end to) (Some (position_of xs end)) None
 
 -- A part of a list.
 abbrev pub part : {A : Type 0} → ℕ → ℕ → List A → List A
@@ -46,7 +44,7 @@ abbrev pub rows_long : ℕ → ℕ → List ℕ → ℕ
 rows_long from end first = get_or first end 0 - get_or first from 0
 
 -- The run of these bounds and distances.
-abbrev pub asked : Bound → Bound → List ℕ → ℕ → ℕ → List ℕ → List ℕ → List ℕ → List ℤ → Request
+abbrev pub asked : Option ℤ → Option ℤ → List ℕ → ℕ → ℕ → List ℕ → List ℕ → List ℕ → List ℤ → Request
 asked left right distances from end first ends sums xs =
     request_of left right (part from end xs) distances (counts_of first from (end - from))
     (near_of ends xs (get_or first from 0) (rows_long from end first)) (rates_of sums (get_or first from 0) (rows_long from end first))

@@ -1,5 +1,5 @@
 -- Run coordinates: each position less the distances before its box.
-use Rattle.std.specs.Prelude.{cond, List, [], ◌∷◌, map, ℕ, ◌+◌, ◌-◌, ℤ, pos, ◌-ℤ◌, ◌+ℤ◌}
+use Rattle.std.specs.Prelude.{cond, List, [], ◌∷◌, map, ℕ, ◌+◌, ℤ, pos, ◌-ℤ◌, ◌+ℤ◌}
 use Rattle.std.specs.Int.Signed.{lt_z}
 use Rattle.run.specs.Run.{Bound, free, at, Lead, Box}
 

@@ -1,12 +1,17 @@
-use Rattle.std.proofs.Common.{rules, ◌≡◌, w64, to_z, of_z}
-use Rattle.ints.specs.Reach.{all_within}
+use Rattle.std.proofs.Common.{rules, ◌≡◌, ◌∙◌, sym, true, Bool, ℤ}
+use Rattle.std.specs.Prelude.{Option, None, Some}
+use Rattle.std.specs.Option.{MatchOption}
+use Rattle.ints.specs.Reach.{is_within, all_within}
 use Rattle.ints.proofs.Tests.{and-true}
+use Rattle.run.specs.Call.{positions_of}
 use Rattle.place_run.proofs.refusal.bound_within.Goals as goal
 
-pub returns-in-Free : goal.returns-in-Free
+by : (b : Option ℤ) (r : Bool) → MatchOption b (r ≡ true) (λ x. r ≡ is_within x) → r ≡ all_within (positions_of b)
 unfolding all_within
-returns-in-Free c = rw c.in-Free.is
+by None r m = m
+by (Some x) r m = m ∙ sym (and-true (is_within x))
 
-pub returns-in-At : goal.returns-in-At
-unfolding all_within
-returns-in-At c = let b : to_z w64 (of_z w64 c.in-At.x) ≡ c.in-At.x = search rules in rw (c.in-At.is, and-true) (simp b at c.is_within.ensures)
+pub returns : goal.returns
+returns c =
+    let r = c.is_none_or.result in
+    let m : MatchOption c.args.bound (r ≡ true) (λ x. r ≡ is_within x) = search rules in by c.args.bound r m

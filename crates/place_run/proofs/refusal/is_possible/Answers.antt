@@ -9,19 +9,19 @@ pub total-requires : goal.total-requires
 total-requires c = omega (arith, c.requires.distances_len_bound.0, sum-distances c.args.distances.now c.requires.distances_len_bound.1)
 
 pub too_near-requires : goal.too_near-requires
-too_near-requires c = let l = c.in-At in let r = c.in-At-right in
-    let bl : to_z w64 (of_z w64 l.l) ≡ l.l = search rules in let br : to_z w64 (of_z w64 r.r) ≡ r.r = search rules in
+too_near-requires c = let b = c.in-Some-Some in
+    let bl : to_z w64 (of_z w64 b.l) ≡ b.l = search rules in let br : to_z w64 (of_z w64 b.r) ≡ b.r = search rules in
     simp (bl, br) (omega (
       arith,
-      bound-size c.args.left l.l l.is c.requires.left_value.0,
-      bound-size c.args.right r.r r.is c.requires.left_value.1,
+      bound-size c.args.left b.l b.is-0 c.requires.left_value.0,
+      bound-size c.args.right b.r b.is-1 c.requires.left_value.1,
       sum-distances c.args.distances.now c.requires.distances_len_bound.1,
       c.requires.distances_len_bound.0,
       c.total.ensures,
     ))
 
-pub returns-in-At-right : goal.returns-in-At-right
-returns-in-At-right c = let l = c.in-At in let r = c.in-At-right in let ds = c.args.distances.now in
-    let bl : to_z w64 (of_z w64 l.l) ≡ l.l = search rules in let br : to_z w64 (of_z w64 r.r) ≡ r.r = search rules in
+pub returns-in-Some-Some : goal.returns-in-Some-Some
+returns-in-Some-Some c = let b = c.in-Some-Some in let ds = c.args.distances.now in
+    let bl : to_z w64 (of_z w64 b.l) ≡ b.l = search rules in let br : to_z w64 (of_z w64 b.r) ≡ b.r = search rules in
     let near = simp (bl, br, c.total.ensures) at c.too_near.ensures in
-    rw (l.is, r.is) (λ old counts neighbours ratings e k. rw (bounds-sum old ds counts neighbours ratings e (omega arith), near) (not-lt (r.r -ℤ l.l) (pos (sum ds))))
+    rw (b.is-0, b.is-1) (λ old counts neighbours ratings e k. rw (bounds-sum old ds counts neighbours ratings e (omega arith), near) (not-lt (b.r -ℤ b.l) (pos (sum ds))))
