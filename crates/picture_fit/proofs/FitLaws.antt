@@ -7,7 +7,9 @@ use borrow.Author.Tests.{lt-ltb, le-ltb}
 use lib.ListN.{length, take, drop, length-map}
 use lib.Seq.{take_at}
 use lib.IntN.{ℤ}
+use Rattle.std.specs.Prelude.{Ok, Err}
 use Rattle.ints.specs.Lists.{sum}
+use Rattle.ints.specs.declared.refusal.Refusal.TheVariants.{Room as TooShort}
 use Rattle.plan.specs.Plan.{PlanData, numbers}
 use Rattle.plan.proofs.Levels.{length-numbers}
 use Rattle.text_write.specs.inner.Written.{Room, Wrote}
@@ -16,18 +18,18 @@ use Rattle.picture_names.specs.inner.Indexed.{name_at}
 use Rattle.picture_marks.specs.Picture.{picture_of}
 use Rattle.picture_marks.specs.inner.Asked.{names_in, PictureAsked, max_picture}
 use Rattle.picture_marks.proofs.Lengths.{picture-short}
-use Rattle.picture_fit.specs.declared.types.PictureAnswer.TheVariants.{Written, Refused}
-use Rattle.picture_fit.specs.Fitted.{fitted, Leaves}
+use Rattle.picture_fit.specs.declared.types.PictureError.TheVariants.{Refused}
+use Rattle.picture_fit.specs.Fitted.{written, fitted, Leaves}
 
-pub fits_not : (w o : List ℕ) → length o < length w → Leaves (fitted w o) (Refused 14) o
+pub fits_not : (w o : List ℕ) → length o < length w → Leaves (fitted w o) (Err (Refused TooShort)) o
 unfolding fitted
 fits_not w o h = rw (lt-ltb (length o) (length w) h) (record { answer = refl; buffer = refl })
 
-pub fits : {w o out : List ℕ} {n : ℕ} → length w ≤ length o → Wrote w o 0 n out → Leaves (fitted w o) (Written n) out
+pub fits : {w o out : List ℕ} {n : ℕ} → length w ≤ length o → Wrote w o 0 n out → Leaves (fitted w o) (Ok n) out
 unfolding fitted
 fits {w} {o} {out} {n} h k =
     let f = front_of k h in
-    rw (le-ltb (length o) (length w) h) (record { answer = rw f.count; buffer = f.bytes })
+    rw (le-ltb (length o) (length w) h) (record { answer = ap written f.count; buffer = f.bytes })
 
 -- no picture is longer than the longest
 module _ (p : PlanData) (xs : List ℤ) (text starts ends : List ℕ) where

@@ -6,7 +6,8 @@ ghost use Rattle.picture_marks.specs.Picture.{picture_of};
 ghost use Rattle.picture_marks.specs.inner.Asked.{names_in, PictureAsked};
 ghost use Rattle.picture_fit.specs.Fitted.{fitted, Leaves};
 
-use crate::types::PictureAnswer;
+use crate::types::PictureError;
+use ints::refusal::Refusal;
 use picture_marks::picture::put_picture;
 use text_write::number::put_word;
 
@@ -14,13 +15,13 @@ use text_write::number::put_word;
 pub const MAX_PICTURE: usize = 1306334;
 
 // A text at the front of a lent buffer.
-fn fit(text: &[u8], out: &mut [u8]) -> PictureAnswer
+fn fit(text: &[u8], out: &mut [u8]) -> Result<usize, PictureError>
     ensures { Leaves (fitted text.now out.old) result out.new }
 {
     if out.len() < text.len() {
-        return PictureAnswer::Refused(14);
+        return Err(PictureError::Refused(Refusal::Room));
     }
-    PictureAnswer::Written(put_word(out, 0, text))
+    Ok(put_word(out, 0, text))
 }
 
 // A buffer that has room for every picture.
@@ -44,7 +45,7 @@ pub fn fit_picture(
     starts: &[u32],
     ends: &[u32],
     out: &mut [u8],
-) -> PictureAnswer
+) -> Result<usize, PictureError>
     requires { PictureAsked (held_plan gap spacing sizes.now vias.now halves.now uppers.now lowers.now ratings.now) finals.now names.now starts.now ends.now
         × (sum (map length (names_in names.now starts.now ends.now (length vias.now))) ≤ 65536) }
     ensures { Leaves (fitted (picture_of (held_plan gap spacing sizes.now vias.now halves.now uppers.now lowers.now
@@ -59,7 +60,7 @@ pub fn fit_picture(
         );
         return fit(&room[..length], out);
     }
-    PictureAnswer::Written(put_picture(
+    Ok(put_picture(
         gap, spacing, sizes, vias, halves, uppers, lowers, ratings, finals, names, starts, ends,
         out,
     ))

@@ -1,10 +1,29 @@
-// What is answered when a picture is asked for.
-#[derive(Clone, Copy)]
-pub enum PictureAnswer {
-    // So many bytes at the front of the buffer.
-    Written(usize),
+// Why no picture is drawn.
+ghost use Rattle.std.specs.Prelude.{◌≡◌};
+ghost use Rattle.picture_fit.specs.declared.types.PictureError.TheVariants as error;
+
+use ints::refusal::Refusal;
+use picture_names::types::BadLine;
+
+#[derive(Clone, Copy, Debug, PartialEq, Eq)]
+pub enum PictureError {
     // 1 to 6 of the plan's text, or 14, the buffer too short.
-    Refused(u32),
-    // The first line of the names, from 1, that is refused; 0 for names that are too long.
-    BadNames(u32),
+    Refused(Refusal),
+    Names(BadLine),
+}
+
+impl From<Refusal> for PictureError {
+    ghost from_gives = { λ r e. e ≡ error.Refused r };
+
+    fn from(r: Refusal) -> PictureError {
+        PictureError::Refused(r)
+    }
+}
+
+impl From<BadLine> for PictureError {
+    ghost from_gives = { λ line e. e ≡ error.Names line };
+
+    fn from(line: BadLine) -> PictureError {
+        PictureError::Names(line)
+    }
 }

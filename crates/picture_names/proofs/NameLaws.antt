@@ -22,8 +22,8 @@ use Rattle.script_words.specs.inner.Ends.{between, PartEnds}
 use Rattle.picture_names.specs.Chars.{is_name}
 use Rattle.picture_names.specs.Names.{Names, bad, named, answer_of, is_empty, number_of, is_box, is_good, with, names_from, lines_named, names_of, max_names}
 use Rattle.picture_names.specs.inner.Indexed.{named?, Says, name_at, HoldsNames, Takes, Indexed}
-use Rattle.picture_names.specs.declared.types.NamesAnswer.{NamesAnswer}
-use Rattle.picture_names.specs.declared.types.NamesAnswer.TheVariants.{Good, Bad}
+use Rattle.std.specs.Prelude.{Result, Ok, Err}
+use Rattle.picture_names.specs.declared.types.BadLine.{BadLine}
 
 -- ---- lists
 empty-long : {A : Type 0} (l : List A) → is_empty l ≡ eqb (length l) 0
@@ -211,17 +211,17 @@ pub record SoFar (vias : List Bool) (text starts ends : List ℕ) (from line : �
   pub rest : lines_named vias text ≡ names_from line vias names (parts 10 (drop from text))
 
 module _ (vias : List Bool) (text starts ends : List ℕ) where
-  refused-here : (n : Names) (line : ℕ) → n ≡ bad line → Indexed n text starts ends (Bad line)
+  refused-here : (n : Names) (line : ℕ) → n ≡ bad line → Indexed n text starts ends (Err (record { 0 = line }))
   refused-here n line e = record { answer = sym (ap answer_of e); holds = λ l q. absurd (other l q) }
     where
       other : (l : List (List ℕ)) → n ≡ named l → ⊥
       other l q = let z : ◌≡◌ {A = ℕ} 0 1 = cc in omega arith
 
   module _ (from line to : ℕ) (f : SoFar vias text starts ends from line) (e : PartEnds 10 text from to) where
-    pub rest-bad : length text ≤ to → from < to → Indexed (lines_named vias text) text starts ends (Bad line)
+    pub rest-bad : length text ≤ to → from < to → Indexed (lines_named vias text) text starts ends (Err (record { 0 = line }))
     rest-bad h k = refused-here (lines_named vias text) line (f.rest ∙ last-bad text line vias f.names from to e h (omega arith))
 
-    pub rest-good : length text ≤ to → to ≤ from → Indexed (lines_named vias text) text starts ends Good
+    pub rest-good : length text ≤ to → to ≤ from → Indexed (lines_named vias text) text starts ends (Ok tt)
     rest-good h k =
         let z = f.rest ∙ last-good text line vias f.names from to e h (omega arith) in
         record { answer = sym (ap answer_of z); holds = λ l q. same l (sym z ∙ q) }
@@ -229,7 +229,7 @@ module _ (vias : List Bool) (text starts ends : List ℕ) where
         same : (l : List (List ℕ)) → named f.names ≡ named l → HoldsNames text starts ends l
         same l q = let z : f.names ≡ l = cc in rw z at f.holds
 
-    pub line_refused : (s' e' : List ℕ) → to < length text → Takes vias text from to starts ends s' e' false → Indexed (lines_named vias text) text s' e' (Bad line)
+    pub line_refused : (s' e' : List ℕ) → to < length text → Takes vias text from to starts ends s' e' false → Indexed (lines_named vias text) text s' e' (Err (record { 0 = line }))
     line_refused s' e' h t = record {
       answer = sym (ap answer_of at);
       holds = λ l q. absurd (other l q);
@@ -251,11 +251,11 @@ module _ (vias : List Bool) (text starts ends : List ℕ) where
 
 -- ---- the whole text
 module _ (vias : List Bool) (text : List ℕ) where
-  pub too_long : (starts ends : List ℕ) → max_names < length text → Indexed (names_of vias text) text starts ends (Bad 0)
+  pub too_long : (starts ends : List ℕ) → max_names < length text → Indexed (names_of vias text) text starts ends (Err (record { 0 = 0 }))
   unfolding names_of
   too_long starts ends h = rw (lt-leb (length text) max_names h) (refused-here vias text starts ends (bad 0) 0 refl)
 
-  pub not-too-long : {starts ends : List ℕ} {r : NamesAnswer} → length text ≤ max_names → Indexed (lines_named vias text) text starts ends r
+  pub not-too-long : {starts ends : List ℕ} {r : Result Unit BadLine} → length text ≤ max_names → Indexed (lines_named vias text) text starts ends r
       → Indexed (names_of vias text) text starts ends r
   unfolding names_of
   not-too-long h i = rw (le-leb (length text) max_names h) i

@@ -1,20 +1,20 @@
 -- The names text: empty or lines `NUMBER NAME` that each end in LF. A number is that of a box of the plan that no earlier line names.
-use Rattle.std.specs.Prelude.{Bool, true, false, cond, not, ◌&&◌, List, [], ◌∷◌, ℕ, suc, leb, length, get_or, set, replicate}
+use Rattle.std.specs.Prelude.{Bool, true, false, cond, not, ◌&&◌, List, [], ◌∷◌, ℕ, suc, leb, length, get_or, set, replicate, Result, Ok, Err}
 use Rattle.text.specs.Bytes.{bytes}
 use Rattle.text.specs.Parser.{Got, got, nothing, Rule, give, ◌>>=◌, ◌>>◌, word, number}
 use Rattle.script_words.specs.Parts.{parts}
 use Rattle.picture_names.specs.Chars.{is_name}
-use Rattle.picture_names.specs.declared.types.NamesAnswer.{NamesAnswer}
-use Rattle.picture_names.specs.declared.types.NamesAnswer.TheVariants.{Good, Bad}
+use Rattle.picture_names.specs.declared.types.BadLine.{BadLine}
 
 -- The line that refuses, counted from 1, or the name of every vertex, [] for one without a name.
 pub data Names : Type 0 where
   bad : ℕ → Names
   named : List (List ℕ) → Names
 
-abbrev pub answer_of : Names → NamesAnswer
-answer_of (bad n) = Bad n
-answer_of (named l) = Good
+-- What the program answers of them.
+abbrev pub answer_of : Names → Result Unit BadLine
+answer_of (bad n) = Err (record { 0 = n })
+answer_of (named l) = Ok tt
 
 abbrev pub max_names : ℕ
 max_names = 65536

@@ -4,7 +4,7 @@ ghost use Rattle.picture_names.specs.Names.{is_box, names_of, lines_named, max_n
 ghost use Rattle.picture_names.specs.inner.Indexed.{Indexed, HoldsNames, Takes};
 
 use crate::line::read_line;
-use crate::types::NamesAnswer;
+use crate::types::BadLine;
 use script_words::parts::end_of;
 
 // Whether vertex v is a box without a name.
@@ -48,7 +48,12 @@ fn index_line(
 }
 
 // All lines, one after another. What follows the last LF is no line.
-fn index_lines(names: &[u8], vias: &[bool], starts: &mut [u32], ends: &mut [u32]) -> NamesAnswer
+fn index_lines(
+    names: &[u8],
+    vias: &[bool],
+    starts: &mut [u32],
+    ends: &mut [u32],
+) -> Result<(), BadLine>
     requires vias_in_bounds { (length vias.now ≤ length starts.old) × (length vias.now ≤ length ends.old) }
     requires names_len_bound { length names.now ≤ max_names }
     requires holds_names { HoldsNames names.now starts.old ends.old (replicate (length vias.now) []) }
@@ -60,12 +65,12 @@ fn index_lines(names: &[u8], vias: &[bool], starts: &mut [u32], ends: &mut [u32]
         let to = end_of(names, b'\n', from);
         if to >= names.len() {
             if from < to {
-                return NamesAnswer::Bad(line);
+                return Err(BadLine(line));
             }
-            return NamesAnswer::Good;
+            return Ok(());
         }
         if !index_line(names, vias, starts, ends, from, to) {
-            return NamesAnswer::Bad(line);
+            return Err(BadLine(line));
         }
         from = to + 1;
         line += 1;
@@ -73,12 +78,17 @@ fn index_lines(names: &[u8], vias: &[bool], starts: &mut [u32], ends: &mut [u32]
 }
 
 // For every vertex where its name begins and ends, if the text is good; for a vertex without a name both are the same.
-pub fn index_names(names: &[u8], vias: &[bool], starts: &mut [u32], ends: &mut [u32]) -> NamesAnswer
+pub fn index_names(
+    names: &[u8],
+    vias: &[bool],
+    starts: &mut [u32],
+    ends: &mut [u32],
+) -> Result<(), BadLine>
     requires { (length vias.now ≤ length starts.old) × (length vias.now ≤ length ends.old) }
     ensures { Indexed (names_of vias.now names.now) names.now starts.new ends.new result }
 {
     if names.len() > 65536 {
-        return NamesAnswer::Bad(0);
+        return Err(BadLine(0));
     }
     // No vertex has a place.
     starts.fill(0);

@@ -20,9 +20,6 @@ pub enum Seen {
     Bad,
 }
 
-// Whether names are good, or the first line that is not; 0 for a text that is too long.
-#[derive(Clone, Copy)]
-pub enum NamesAnswer {
-    Good,
-    Bad(u32),
-}
+// The first line of the names, from 1, that is refused; 0 for names that are too long.
+#[derive(Clone, Copy, Debug, PartialEq, Eq)]
+pub struct BadLine(pub u32);

@@ -6,7 +6,10 @@ use Prim.Native.Nat.{ℕ, ◌≤◌}
 use native.Mathlib.Omega.{arith}
 use lib.ListN.{length, length-map}
 use lib.Seq.{ext_get_or}
+use Rattle.std.specs.Prelude.{Result, Ok, Err}
 use Rattle.ints.specs.Lists.{sum}
+use Rattle.ints.specs.Refusals.{number_of}
+use Rattle.ints.specs.declared.refusal.Refusal.{Refusal}
 use Rattle.plan.specs.Plan.{PlanData, numbers}
 use Rattle.plan.proofs.Levels.{length-numbers}
 use Rattle.passes.specs.Drawing.{drawing_of}
@@ -14,29 +17,28 @@ use Rattle.text.specs.Reading.{accepted, refused}
 use Rattle.text_marks.proofs.Shown.{marks-asked}
 use Rattle.text.proofs.Words.{never}
 use Rattle.picture_names.specs.Names.{Names, named, bad, names_of, answer_of}
-use Rattle.picture_names.specs.declared.types.NamesAnswer.{NamesAnswer}
-use Rattle.picture_names.specs.declared.types.NamesAnswer.TheVariants.{Good, Bad}
+use Rattle.picture_names.specs.declared.types.BadLine.{BadLine}
 use Rattle.picture_names.specs.inner.Indexed.{name_at, HoldsNames, Indexed}
 use Rattle.picture_names.proofs.Sizes.{names-sized}
 use Rattle.picture_marks.specs.Picture.{picture_of}
 use Rattle.picture_marks.specs.inner.Asked.{names_in, PictureAsked}
 use Rattle.picture_marks.proofs.ByLists.{given-at}
-use Rattle.picture_fit.specs.declared.types.PictureAnswer.{PictureAnswer}
-use Rattle.picture_fit.specs.declared.types.PictureAnswer.TheVariants.{Refused, BadNames}
+use Rattle.picture_fit.specs.declared.types.PictureError.{PictureError}
+use Rattle.picture_fit.specs.declared.types.PictureError.TheVariants.{Refused, Names as BadNames}
 use Rattle.picture_fit.specs.Fitted.{Left, fitted, Leaves}
 use Rattle.picture_text.specs.Text.{named_picture, picture_in}
 use Rattle.picture_text.specs.inner.Named.{NamedPlan}
 
 -- the same by another definition
-pub leaves : {l m : Left} {r : PictureAnswer} {out : List ℕ} → l ≡ m → Leaves m r out → Leaves l r out
+pub leaves : {l m : Left} {r : Result ℕ PictureError} {out : List ℕ} → l ≡ m → Leaves m r out → Leaves l r out
 leaves e w = rw e w
 
 -- ---- refused, and not
-pub refused-so : (n : ℕ) (names o : List ℕ) → Leaves (picture_in (refused n) names o) (Refused n) o
+pub refused-so : (r : Refusal) (names o : List ℕ) → Leaves (picture_in (refused (number_of r)) names o) (Err (Refused r)) o
 unfolding picture_in
-refused-so n names o = record { answer = refl; buffer = refl }
+refused-so r names o = record { answer = refl; buffer = refl }
 
-pub names-refused : (p : PlanData) (names o : List ℕ) (line : ℕ) → names_of p.vias names ≡ bad line → Leaves (picture_in (accepted p) names o) (BadNames line) o
+pub names-refused : (p : PlanData) (names o : List ℕ) (line : BadLine) → names_of p.vias names ≡ bad line.0 → Leaves (picture_in (accepted p) names o) (Err (BadNames line)) o
 unfolding picture_in named_picture
 names-refused p names o line e = rw e (record { answer = refl; buffer = refl })
 
@@ -76,12 +78,12 @@ module _ (p : PlanData) (text starts ends : List ℕ) (h : NamedPlan p text star
       }
 
 -- ---- by what the names answered
-module _ (p : PlanData) {text starts ends : List ℕ} {r : NamesAnswer} (o : List ℕ) (h : Indexed (names_of p.vias text) text starts ends r) where
-  pub bad-refused : {line : ℕ} → r ≡ Bad line → Leaves (picture_in (accepted p) text o) (BadNames line) o
+module _ (p : PlanData) {text starts ends : List ℕ} {r : Result Unit BadLine} (o : List ℕ) (h : Indexed (names_of p.vias text) text starts ends r) where
+  pub bad-refused : {line : BadLine} → r ≡ Err line → Leaves (picture_in (accepted p) text o) (Err (BadNames line)) o
   bad-refused {line} e = go (names_of p.vias text) refl (sym h.answer ∙ e)
     where
-      go : (g : Names) → names_of p.vias text ≡ g → answer_of g ≡ Bad line → Leaves (picture_in (accepted p) text o) (BadNames line) o
-      go (bad n) f k = let same : n ≡ line = cc in names-refused p text o line (f ∙ ap bad same)
+      go : (g : Names) → names_of p.vias text ≡ g → answer_of g ≡ Err line → Leaves (picture_in (accepted p) text o) (Err (BadNames line)) o
+      go (bad n) f k = let same : ◌≡◌ {A = BadLine} (record { 0 = n }) line = cc in names-refused p text o line (f ∙ ap (λ (b : BadLine). bad b.0) same)
       go (named l) f k = never (cc)
 
 pub record Listed (vias : List Bool) (text starts ends : List ℕ) : Type 0 where
@@ -89,9 +91,9 @@ pub record Listed (vias : List Bool) (text starts ends : List ℕ) : Type 0 wher
   pub good : names_of vias text ≡ named names
   pub holds : HoldsNames text starts ends names
 
-pub good-named : {vias : List Bool} {text starts ends : List ℕ} {r : NamesAnswer} → Indexed (names_of vias text) text starts ends r → r ≡ Good → Listed vias text starts ends
+pub good-named : {vias : List Bool} {text starts ends : List ℕ} {r : Result Unit BadLine} → Indexed (names_of vias text) text starts ends r → r ≡ Ok tt → Listed vias text starts ends
 good-named {vias} {text} {starts} {ends} h e = go (names_of vias text) refl (sym h.answer ∙ e)
   where
-    go : (g : Names) → names_of vias text ≡ g → answer_of g ≡ Good → Listed vias text starts ends
+    go : (g : Names) → names_of vias text ≡ g → answer_of g ≡ Ok tt → Listed vias text starts ends
     go (bad n) f k = never (cc)
     go (named l) f k = record { names = l; good = f; holds = h.holds l f }

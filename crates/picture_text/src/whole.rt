@@ -8,11 +8,9 @@ ghost use Rattle.picture_text.specs.Text.{picture_in};
 ghost use Rattle.picture_text.specs.inner.Named.{NamedPlan};
 
 use picture_fit::fit::fit_picture;
-use picture_fit::types::PictureAnswer;
+use picture_fit::types::PictureError;
 use picture_names::index::index_names;
-use picture_names::types::NamesAnswer;
 use plan::data::Plan;
-use plan::numbers::wide;
 use text_marks::drawn::draw_positions;
 use text_read::read_into;
 
@@ -30,7 +28,7 @@ fn picture_named(
     starts: &[u32],
     ends: &[u32],
     out: &mut [u8],
-) -> PictureAnswer
+) -> Result<usize, PictureError>
     requires { NamedPlan (held_plan gap spacing sizes.now vias.now halves.now uppers.now lowers.now ratings.now) names.now starts.now ends.now }
     ensures { Leaves (picture_in (accepted (held_plan gap spacing sizes.now vias.now halves.now uppers.now
         lowers.now ratings.now)) names.now out.old) result out.new }
@@ -78,25 +76,22 @@ fn picture_plan(
     ratings: &[u32],
     names: &[u8],
     out: &mut [u8],
-) -> PictureAnswer
+) -> Result<usize, PictureError>
     requires { acceptable (held_plan gap spacing sizes.now vias.now halves.now uppers.now lowers.now ratings.now) ≡ true }
     ensures { Leaves (picture_in (accepted (held_plan gap spacing sizes.now vias.now halves.now uppers.now
         lowers.now ratings.now)) names.now out.old) result out.new }
 {
     let mut starts = [0u32; Plan::MAX_VERTICES];
     let mut ends = [0u32; Plan::MAX_VERTICES];
-    let answer = index_names(names, vias, &mut starts, &mut ends);
-    match answer {
-        NamesAnswer::Good => picture_named(
-            gap, spacing, sizes, vias, halves, uppers, lowers, ratings, names, &starts, &ends, out,
-        ),
-        NamesAnswer::Bad(line) => PictureAnswer::BadNames(line),
-    }
+    index_names(names, vias, &mut starts, &mut ends)?;
+    picture_named(
+        gap, spacing, sizes, vias, halves, uppers, lowers, ratings, names, &starts, &ends, out,
+    )
 }
 
 // The picture of the text's plan, its boxes named by a text of names, in a lent buffer, with its length; later bytes stay. Refused 1 to 6 or
 // 14, or for a line of the names, the buffer stays as it is.
-pub fn picture_text(text: &[u8], names: &[u8], out: &mut [u8]) -> PictureAnswer
+pub fn picture_text(text: &[u8], names: &[u8], out: &mut [u8]) -> Result<usize, PictureError>
     ensures { Leaves (picture_in (reading text.now) names.now out.old) result out.new }
 {
     let mut sizes = [0u16; Plan::MAX_LEVELS];
@@ -114,11 +109,9 @@ pub fn picture_text(text: &[u8], names: &[u8], out: &mut [u8]) -> PictureAnswer
         &mut lowers,
         &mut ratings,
     );
-    if r.failed != 0 {
-        return PictureAnswer::Refused(r.failed);
-    }
+    r.verdict?;
     let s = r.scanned;
-    let k = wide(s.levels);
+    let k = s.levels as usize;
     let v = s.vertices;
     let e = s.segments;
     picture_plan(

@@ -1,10 +1,10 @@
 -- What a line says, and names by their places in the text.
-use Rattle.std.specs.Prelude.{◌≡◌, Bool, true, false, List, [], ℕ, ◌-◌, ◌≤◌, ◌<◌, length, get_or, take, drop}
+use Rattle.std.specs.Prelude.{◌≡◌, Bool, true, false, List, [], ℕ, ◌-◌, ◌≤◌, ◌<◌, length, get_or, take, drop, Result}
 use Rattle.text.specs.Parser.{Got, got, nothing}
 use Rattle.picture_names.specs.Chars.{is_name}
 use Rattle.picture_names.specs.Names.{Names, named, answer_of, number_of, is_good, with}
 use Rattle.script_words.specs.inner.Ends.{between}
-use Rattle.picture_names.specs.declared.types.NamesAnswer.{NamesAnswer}
+use Rattle.picture_names.specs.declared.types.BadLine.{BadLine}
 
 -- Whether what follows a line's number is a name.
 abbrev pub named? : Got ℕ → Bool
@@ -33,6 +33,6 @@ pub record Takes (vias : List Bool) (text : List ℕ) (from to : ℕ) (starts en
       → HoldsNames text starts' ends' (with l (number_of (between from to text)))
 
 -- The answer is that of the definition; if names are good, they stand where the arrays say.
-pub record Indexed (names : Names) (text starts ends : List ℕ) (r : NamesAnswer) : Type 0 where
+pub record Indexed (names : Names) (text starts ends : List ℕ) (r : Result Unit BadLine) : Type 0 where
   pub answer : r ≡ answer_of names
   pub holds : (l : List (List ℕ)) → names ≡ named l → HoldsNames text starts ends l
