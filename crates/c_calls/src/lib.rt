@@ -18,7 +18,7 @@ ghost use Rattle.c_codes.specs.Picture as picture;
 ghost use Rattle.c_codes.specs.Untangled as untangled;
 ghost use Rattle.c_codes.specs.Run.{bound_of, Answers};
 
-use c_codes::{again_code, bound, code, picture_code, run_code};
+use c_codes::{bound, code, picture_code, run_code};
 use picture_text::whole::picture_text;
 use place_run::call::place_run;
 use script_run::script::answers;
@@ -67,7 +67,7 @@ pub extern "C" fn reread_c(text: &[u8], out: &mut [u8]) -> i64
     ensures { again.Codes (rewritten (reading text.now) out.old) result out.new }
 {
     let answer = rewrite(text, out);
-    again_code(answer)
+    code(answer)
 }
 
 // What `report_c` gives, of a text that may be tangled: the report of the rearranged plan in the numbers of the text, refused with 1 to 5
@@ -96,7 +96,7 @@ pub extern "C" fn untangle_c(text: &[u8], out: &mut [u8], numbers: &mut [u16]) -
     ensures { untangled.Codes (untangled_text (tangled_reading text.now) out.old numbers.old) result out.new numbers.new }
 {
     let answer = untangle_text(text, out, numbers);
-    again_code(answer)
+    code(answer)
 }
 
 // How many bytes the picture of the text's plan has, its boxes named by a text of names, which is at the front of the buffer; -N if the text

@@ -1,10 +1,10 @@
 -- The numbers that stand for what a call gives.
 use Rattle.std.specs.Prelude.{◌≡◌, List, ℕ, ℤ, pos, ◌-ℤ◌}
-use Rattle.sheet.specs.Results.{Result, gives, refuses}
+use Rattle.ints.specs.Refusals.{Verdict, gives, refuses}
 use Rattle.sheet.specs.Calls.{BufferOut}
 
 -- A length or a count; the number of a refusal, negative.
-abbrev pub code_of : Result ℕ → ℤ
+abbrev pub code_of : Verdict ℕ → ℤ
 code_of (gives n) = pos n
 code_of (refuses n) = pos 0 -ℤ pos n
 

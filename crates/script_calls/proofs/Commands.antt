@@ -7,13 +7,13 @@ use lib.Dec.{eqb}
 use lib.ListN.{length, drop}
 use lib.Seq.{take_at}
 use Rattle.ints.specs.Lists.{over}
-use Rattle.ints.specs.Refusals.{first_refusal}
+use Rattle.ints.specs.Refusals.{gives, refuses, first_refusal}
 use Rattle.text.proofs.Words.{never}
 use Rattle.marks.specs.declared.types.Mark.{Mark}
 use Rattle.marks.specs.Marks.{WholeMark, whole_mark_of}
 use Rattle.sheet.specs.declared.types.Sheet.{Sheet}
 use Rattle.sheet.specs.Sheet.{plan_in, drawing_in}
-use Rattle.sheet.specs.Results.{gives, refuses, result_after}
+use Rattle.sheet.specs.Results.{result_after}
 use Rattle.sheet.specs.Tests.{line_of, text_line_of}
 use Rattle.sheet.specs.Calls as sheet
 use Rattle.sheet.specs.Calls.{text_after, line_tests, text_line_tests}

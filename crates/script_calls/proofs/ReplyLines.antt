@@ -6,31 +6,33 @@ use Prim.Native.Nat.{ℕ, ◌<◌, ◌^◌}
 use native.Mathlib.Omega.{arith}
 use lib.ListN.{take, length-take}
 use lib.Ieee.{Float}
+use Rattle.std.specs.Prelude.{Result, Ok, Err, is_err}
+use Rattle.ints.specs.Refusals.{Verdict, gives, refuses}
+use Rattle.ints.specs.declared.refusal.Refusal.{Refusal}
 use Rattle.text.proofs.Words.{never}
 use Rattle.text_write.specs.inner.Written.{Room, Wrote}
 use Rattle.marks.specs.declared.types.Mark.{Mark}
 use Rattle.marks.specs.Marks.{whole_mark_of}
 use Rattle.sheet.specs.declared.types.Sheet.{Sheet}
 use Rattle.sheet.specs.Sheet.{plan_in, drawing_in}
-use Rattle.sheet.specs.Results.{Result, gives, refuses}
 use Rattle.sheet.specs.Calls as sheet
 use Rattle.sheet.proofs.Exactly.{mark-fits, mark-exact}
 use Rattle.calls.specs.declared.types.Call.{Call}
 use Rattle.calls.specs.declared.types.Call.TheVariants.{Load, LoadTangled, Draw, Line, Report, TextLine, WholeText, Mark as MarkOf, Marks, Clear}
 use Rattle.calls.specs.declared.types.Reply.{Reply}
-use Rattle.calls.specs.declared.types.Reply.TheVariants.{Done, Written, Given, Refused}
+use Rattle.calls.specs.declared.types.Reply.TheVariants.{Done, Written, Given}
 use Rattle.calls.specs.Replies as value
 use Rattle.calls.specs.Replies.{Value, written, marked, reply_of, each}
 use Rattle.calls.specs.Step.{Lent, step, Steps}
-use Rattle.script_answers.specs.Answers.{text, refused, done, mark, line_of}
+use Rattle.script_answers.specs.Answers.{text, refused, done, line_of}
 use Rattle.script_answers.specs.inner.MarkLine.{mark_line_in}
 use Rattle.script_answers.proofs.MarkLine.{mark-line}
 use Rattle.script_answers.proofs.Lengths.{said-short, mark-in-short}
 use Rattle.script_calls.specs.Said.{mark_asked, call_said, is_refusal}
-use Rattle.script_calls.specs.inner.Answered.{reply_line, is_refused, AnswerRoom, Fitted, AnswersCall}
+use Rattle.script_calls.specs.inner.Answered.{reply_line, AnswerRoom, Fitted, AnswersCall}
 
 -- ---- a mark is given by the call mark alone
-no-mark : {A : Type 0} (f : A → Value) (r : Result A) {m : Mark} → ((a : A) → f a ≡ marked m → ⊥) → gives (marked m) ≡ each f r → ⊥
+no-mark : {A : Type 0} (f : A → Value) (r : Verdict A) {m : Mark} → ((a : A) → f a ≡ marked m → ⊥) → gives (marked m) ≡ each f r → ⊥
 no-mark f (gives a) n e = n a (cc)
 no-mark f (refuses k) n e = never (cc)
 
@@ -40,7 +42,7 @@ done_none e = never (cc)
 written_none : {m : Mark} (n : ℕ) → written n ≡ marked m → ⊥
 written_none n e = never (cc)
 
-a-mark : (r : Result Mark) {m : Mark} → gives (marked m) ≡ each marked r → r ≡ gives m
+a-mark : (r : Verdict Mark) {m : Mark} → gives (marked m) ≡ each marked r → r ≡ gives m
 a-mark (gives a) e = cc
 a-mark (refuses k) e = never (cc)
 
@@ -59,24 +61,24 @@ module _ (l : Lent) (s : Sheet) where
   mark-given Clear m e = absurd (no-mark (λ u. value.done) (sheet.clear s).result (λ a. done_none) e)
 
   -- ---- the line of a reply
-  pub reply-line : (q : Call) (r : Reply) → reply_of r ≡ (step q l s).result → reply_line r (step q l s).buffer ≡ line_of (call_said q l s)
+  pub reply-line : (q : Call) (r : Result Reply Refusal) → reply_of r ≡ (step q l s).result → reply_line r (step q l s).buffer ≡ line_of (call_said q l s)
   unfolding call_said
-  reply-line q Done e = rw (sym e)
-  reply-line q (Written n) e = rw (sym e)
-  reply-line q (Given m) e =
+  reply-line q (Ok Done) e = rw (sym e)
+  reply-line q (Ok (Written n)) e = rw (sym e)
+  reply-line q (Ok (Given m)) e =
       let w = whole_mark_of (plan_in s) (drawing_in s).final (mark_asked q) in
       let g = mark-given q m e in
       rw (sym e) (mark-line w m (mark-fits s (mark_asked q) m g) (mark-exact s (mark_asked q) m g))
-  reply-line q (Refused n) e = rw (sym e)
+  reply-line q (Err n) e = rw (sym e)
 
-  reply-refused : (r : Reply) → is_refused r ≡ is_refusal (reply_of r)
-  reply-refused Done = refl
-  reply-refused (Written n) = refl
-  reply-refused (Given m) = refl
-  reply-refused (Refused n) = refl
+  reply-refused : (r : Result Reply Refusal) → is_err r ≡ is_refusal (reply_of r)
+  reply-refused (Ok Done) = refl
+  reply-refused (Ok (Written n)) = refl
+  reply-refused (Ok (Given m)) = refl
+  reply-refused (Err n) = refl
 
-  pub answers-call : {q : Call} (r : Reply) {left : Sheet} {b : List ℕ} {f : List Float} {o out : List ℕ} {at next : ℕ} → Steps (step q l s) r left b f → Fitted (reply_line r b) o at next out
-      → AnswersCall q l s o at next (is_refused r) left out b f
+  pub answers-call : {q : Call} (r : Result Reply Refusal) {left : Sheet} {b : List ℕ} {f : List Float} {o out : List ℕ} {at next : ℕ} → Steps (step q l s) r left b f → Fitted (reply_line r b) o at next out
+      → AnswersCall q l s o at next (is_err r) left out b f
   answers-call {q} r h w = record {
     said = rw (sym (reply-line q r h.answered)) (rw h.bytes at w);
     refused = reply-refused r ∙ ap is_refusal h.answered;

@@ -1,17 +1,16 @@
 -- What a script answers to a call of a sheet, to a walk and to place-run.
 use Rattle.std.specs.Prelude.{Bool, true, false, cond, List, ℕ, eqb, take}
+use Rattle.ints.specs.Refusals.{Verdict, gives, refuses}
+use Rattle.plan.specs.declared.walk.Walk.{Walk}
 use Rattle.run.specs.Call.{Out}
 use Rattle.marks.specs.Marks.{WholeMark, whole_mark_of}
 use Rattle.sheet.specs.declared.types.Sheet.{Sheet}
 use Rattle.sheet.specs.Sheet.{plan_in, drawing_in}
-use Rattle.sheet.specs.Results.{Result, gives, refuses}
 use Rattle.calls.specs.declared.types.Call.{Call}
 use Rattle.calls.specs.declared.types.Call.TheVariants.{Load, LoadTangled, Draw, Line, Report, TextLine, WholeText, Mark, Marks, Clear}
 use Rattle.calls.specs.Replies as value
 use Rattle.calls.specs.Replies.{Value, written, marked}
 use Rattle.calls.specs.Step.{Lent, step}
-use Rattle.text_walk.specs.declared.WalkAnswer.{WalkAnswer}
-use Rattle.text_walk.specs.declared.WalkAnswer.TheVariants.{Walked, Refused}
 use Rattle.script_answers.specs.Answers.{Said, refused, done, text, mark, walked, positions}
 
 -- By what the call gives: nothing to say; a text of that length, which stands at the front of the lent buffer; a mark, which is w in
@@ -21,7 +20,7 @@ value_said w buffer value.done = done
 value_said w buffer (written n) = text (take n buffer)
 value_said w buffer (marked m) = mark w
 
-abbrev pub result_said : WholeMark → List ℕ → Result Value → Said
+abbrev pub result_said : WholeMark → List ℕ → Verdict Value → Said
 result_said w buffer (gives v) = value_said w buffer v
 result_said w buffer (refuses n) = refused n
 
@@ -45,14 +44,14 @@ call_said q l s =
     result_said (whole_mark_of (plan_in s) (drawing_in s).final (mark_asked q)) after.buffer after.result
 
 -- Whether it is refused: `lines`, `texts` and `marks` end with that answer.
-abbrev pub is_refusal : Result Value → Bool
+abbrev pub is_refusal : Verdict Value → Bool
 is_refusal (gives v) = false
 is_refusal (refuses n) = true
 
 -- To a walk.
-abbrev pub walk_said : WalkAnswer → Said
-walk_said (Walked w) = walked w
-walk_said (Refused n) = refused n
+abbrev pub walk_said : Verdict Walk → Said
+walk_said (gives w) = walked w
+walk_said (refuses n) = refused n
 
 -- To place-run.
 abbrev pub run_said : Out → Said

@@ -5,14 +5,13 @@ ghost use Rattle.script_answers.specs.inner.Lengths.{max_answer};
 ghost use Rattle.script_calls.specs.inner.Answered.{AnswersRun};
 
 use place_run::call::place_run;
-use run::types::{Answer, Bound};
 use script_answers::answers::{say_positions, say_refused};
 
 // Places a run of r boxes into `answer`, and writes the answer from the position `at` on.
 pub fn answer_run(
     r: u64,
-    left: Bound,
-    right: Bound,
+    left: Option<i64>,
+    right: Option<i64>,
     old: &[i64],
     distances: &[u64],
     counts: &[u64],
@@ -34,11 +33,10 @@ pub fn answer_run(
       ratings = ratings.now;
     }) answer.old) out.old at result out.new answer.new }
 {
-    let outcome = place_run(
+    match place_run(
         r, left, right, old, distances, counts, neighbours, ratings, answer,
-    );
-    match outcome {
-        Answer::Accepted => say_positions(out, at, answer),
-        Answer::Refused => say_refused(out, at, 8),
+    ) {
+        Ok(()) => say_positions(out, at, answer),
+        Err(refusal) => say_refused(out, at, refusal.number()),
     }
 }

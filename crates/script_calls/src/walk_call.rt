@@ -7,16 +7,15 @@ ghost use Rattle.script_calls.specs.Said.{walk_said};
 ghost use Rattle.script_calls.specs.inner.Answered.{Fitted};
 
 use script_answers::answers::{say_refused, say_walk};
-use text_walk::{WalkAnswer, walk_text};
+use text_walk::walk_text;
 
 // Walks from level l of a text's plan to the next, and writes the answer from the position `at` on.
 pub fn answer_walk(l: usize, text: &[u8], out: &mut [u8], at: usize) -> usize
     requires { at + max_answer ≤ length out.old }
     ensures { Fitted (line_of (walk_said (text_walk l text.now))) out.old at result out.new }
 {
-    let answer = walk_text(l, text);
-    match answer {
-        WalkAnswer::Walked(walk) => say_walk(out, at, walk),
-        WalkAnswer::Refused(n) => say_refused(out, at, n),
+    match walk_text(l, text) {
+        Ok(walk) => say_walk(out, at, walk),
+        Err(refusal) => say_refused(out, at, refusal.number()),
     }
 }

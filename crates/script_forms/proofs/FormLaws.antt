@@ -1,4 +1,4 @@
--- The cases of a form, as the program meets them: what a word of a form stands for, and where the next words of form and line end.
+-- The cases of a form, as the program meets them: where the next words of form and line end.
 -- Assumes nothing.
 use mathlib.Core.Path.{◌≡◌, refl}
 use mathlib.Core.Bool.{Bool, true, false, cond}
@@ -8,27 +8,11 @@ use borrow.Author.Tests.{leb-true, leb-false}
 use lib.Dec.{eqb, leb}
 use lib.ListN.{length, drop}
 use Rattle.ints.proofs.Tests.{test}
-use Rattle.text.specs.Bytes.{bytes}
-use Rattle.script_words.specs.Parts.{onto, parts, words, same}
-use Rattle.script_words.specs.Numbers.{number_in, is_whole, is_signed}
+use Rattle.script_words.specs.Parts.{onto, parts, words}
 use Rattle.script_words.specs.inner.Ends.{between, PartEnds}
 use Rattle.script_words.proofs.PartLaws.{parts-split}
 use Rattle.script_forms.specs.Forms.{stands_for, fits, has_form}
 use Rattle.script_forms.specs.inner.First.{first_form}
-
--- ---- what a word of a form stands for
-module _ (f w : List ℕ) where
-  pub stands-whole : same f (bytes "N") ≡ true → stands_for f w ≡ is_whole (number_in w)
-  unfolding stands_for
-  stands-whole e = rw e
-
-  pub stands-signed : same f (bytes "N") ≡ false → same f (bytes "Z") ≡ true → stands_for f w ≡ is_signed (number_in w)
-  unfolding stands_for
-  stands-signed e d = rw (e, d)
-
-  pub stands-itself : same f (bytes "N") ≡ false → same f (bytes "Z") ≡ false → stands_for f w ≡ same f w
-  unfolding stands_for
-  stands-itself e d = rw (e, d)
 
 -- ---- words left over on one side
 line-left : (s : List ℕ) → fits [] (words s) ≡ false

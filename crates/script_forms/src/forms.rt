@@ -49,6 +49,7 @@ pub fn first_form(forms: &[u8], line: &[u8]) -> usize
 {
     let mut from: usize = 0;
     let mut k: usize = 0;
+    // No `for`: where the next form begins is known only once this one's end is found.
     loop {
         let end = end_of(forms, b'\n', from);
         if has_form(&forms[from..end], line) {

@@ -1,5 +1,6 @@
 // The answers of a script.
-ghost use Rattle.std.specs.Prelude.{◌≤◌, length};
+ghost use Rattle.std.specs.Prelude.{◌≤◌, length, is_some};
+ghost use Rattle.std.specs.Option.{unwrap_or};
 ghost use Rattle.sheet.specs.Calls.{Writes};
 ghost use Rattle.script_runs.specs.inner.Filled.{buffers};
 ghost use Rattle.script_commands.specs.Table.{command_of};
@@ -11,13 +12,13 @@ ghost use Rattle.script_run.specs.inner.Laid as laid;
 ghost use Rattle.script_run.specs.inner.Laid.{Answering};
 
 use crate::types::Turned;
+use ints::refusal::Refusal;
 use script_commands::read::command;
 use script_commands::types::Command;
 use script_told::lay::lay;
-use script_told::types::Laid;
 use script_turn::turn::turn;
 use script_words::parts::end_of;
-use sheet::types::{LineAnswer, Sheet};
+use sheet::types::Sheet;
 
 // A length is told in 63 bits.
 const MAX_LENGTH: usize = 9223372036854775807;
@@ -45,7 +46,7 @@ fn each_answer(
 ) -> Turned
     requires { Answering command (lent text.now (buffers old.now distances.now counts.now neighbours.now ratings.now)) buffer.old room at out.old }
     ensures { laid.Turned (turn_of (command_in command (lent text.now (buffers old.now distances.now
-        counts.now neighbours.now ratings.now))) sheet) write room out.old at result.sheet result.laid.fits result.laid.at out.new }
+        counts.now neighbours.now ratings.now))) sheet) write room out.old at result.sheet (is_some result.laid) (unwrap_or result.laid 0) out.new }
 {
     let mut kept = sheet;
     let mut to = at;
@@ -57,13 +58,20 @@ fn each_answer(
         );
         kept = one.sheet;
         let written = one.written;
-        let laid = lay(&buffer[..written], out, to, room, write);
-        if !laid.fits {
-            return Turned { sheet: kept, laid };
+        match lay(&buffer[..written], out, to, room, write) {
+            Some(end) => to = end,
+            None => {
+                return Turned {
+                    sheet: kept,
+                    laid: None,
+                };
+            }
         }
-        to = laid.at;
         if !one.more {
-            return Turned { sheet: kept, laid };
+            return Turned {
+                sheet: kept,
+                laid: Some(to),
+            };
         }
         n += 1;
     }
@@ -79,7 +87,7 @@ fn answer_line(
     write: bool,
 ) -> Turned
     requires { InRoom room at out.old }
-    ensures { laid.Turned (turn_of (command_of line.now) sheet) write room out.old at result.sheet result.laid.fits result.laid.at out.new }
+    ensures { laid.Turned (turn_of (command_of line.now) sheet) write room out.old at result.sheet (is_some result.laid) (unwrap_or result.laid 0) out.new }
 {
     let mut text = [0u8; TEXT_ROOM];
     let mut old = [0i64; 65];
@@ -115,9 +123,9 @@ fn answer_line(
 }
 
 // The answers to all lines.
-fn each_line(script: &[u8], out: &mut [u8], room: usize, write: bool) -> Laid
+fn each_line(script: &[u8], out: &mut [u8], room: usize, write: bool) -> Option<usize>
     requires { room ≤ length out.old }
-    ensures { Lays (script_answers script.now) write room out.old 0 result.fits result.at out.new }
+    ensures { Lays (script_answers script.now) write room out.old 0 (is_some result) (unwrap_or result 0) out.new }
 {
     let mut sheet = Sheet::empty();
     let mut at: usize = 0;
@@ -125,28 +133,22 @@ fn each_line(script: &[u8], out: &mut [u8], room: usize, write: bool) -> Laid
     loop {
         let end = end_of(script, b'\n', from);
         let turned = answer_line(sheet, &script[from..end], out, at, room, write);
-        let laid = turned.laid;
-        if !laid.fits {
-            return laid;
-        }
+        at = turned.laid?;
         sheet = turned.sheet;
-        at = laid.at;
         if end >= script.len() {
-            return laid;
+            return Some(at);
         }
         from = end + 1;
     }
 }
 
 // The answers of a script in a lent buffer, with their length; later bytes stay. Refused 14, the buffer stays as it is.
-pub fn answers(script: &[u8], out: &mut [u8]) -> LineAnswer
+pub fn answers(script: &[u8], out: &mut [u8]) -> Result<usize, Refusal>
     ensures { Writes (script_of script.now out.old) result out.new }
 {
     let room = out.len().min(MAX_LENGTH);
-    let counted = each_line(script, out, room, false);
-    if !counted.fits {
-        return LineAnswer::Refused(14);
+    if each_line(script, out, room, false).is_none() {
+        return Err(Refusal::Room);
     }
-    let laid = each_line(script, out, room, true);
-    LineAnswer::Written(laid.at)
+    each_line(script, out, room, true).ok_or(Refusal::Room)
 }

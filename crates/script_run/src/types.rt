@@ -1,10 +1,9 @@
 // What was carried out.
-use script_told::types::Laid;
 use sheet::types::Sheet;
 
-// How far the answers were laid, beside the sheet afterwards.
+// The position past the answers, if they end within the room, beside the sheet afterwards.
 #[derive(Clone, Copy)]
 pub struct Turned {
     pub sheet: Sheet,
-    pub laid: Laid,
+    pub laid: Option<usize>,
 }

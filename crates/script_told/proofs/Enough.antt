@@ -7,7 +7,7 @@ use Prim.Native.Nat.{ℕ, zero, suc, ◌+◌, ◌≤◌, ◌<◌}
 use native.Mathlib.Omega.{arith}
 use borrow.Author.Tests.{le-ltb, not-false}
 use lib.ListN.{length, replicate}
-use Rattle.ints.specs.Refusals.{Test, none_refuses}
+use Rattle.ints.specs.Refusals.{Verdict, gives, refuses, Test, none_refuses}
 use Rattle.ints.proofs.Laws.{cases}
 use Rattle.ints.proofs.Tests.{test, conj-at, and-false}
 use Rattle.ints.proofs.Refusals.{none-0, none-at, none-append}
@@ -23,7 +23,6 @@ use Rattle.sheet.specs.Calls as sheet
 use Rattle.sheet.specs.Calls.{line_tests, text_line_tests, mark_tests}
 use Rattle.sheet.specs.inner.Refusals.{counts_in}
 use Rattle.sheet.proofs.WhenRefused.{can_show, shows-given, back_tests}
-use Rattle.sheet.specs.Results.{Result, gives, refuses}
 use Rattle.calls.specs.declared.types.Call.{Call}
 use Rattle.calls.specs.declared.types.Call.TheVariants.{Line, TextLine, Mark}
 use Rattle.calls.specs.Replies as value
@@ -42,7 +41,7 @@ refused-value w b value.done = refl
 refused-value w b (written n) = refl
 refused-value w b (marked m) = refl
 
-refused-result : (w : WholeMark) (b : List ℕ) (r : Result Value) → is_refused (result_said w b r) ≡ is_refusal r
+refused-result : (w : WholeMark) (b : List ℕ) (r : Verdict Value) → is_refused (result_said w b r) ≡ is_refusal r
 refused-result w b (gives v) = refused-value w b v
 refused-result w b (refuses n) = refl
 

@@ -16,7 +16,7 @@ use Rattle.script_told.specs.inner.Laid.{Lays, InRoom}
 
 -- ---- one text
 module _ {w o : List ℕ} {room at : ℕ} (p : InRoom room at o) where
-  pub lays-none : {write : Bool} → room - at < length w → Lays w write room o at false at o
+  pub lays-none : {write : Bool} {to : ℕ} → room - at < length w → Lays w write room o at false to o
   lays-none {write} l = record {
     ends = sym (lt-leb (at + length w) room (omega (arith, p.from)));
     next = λ e. never e;

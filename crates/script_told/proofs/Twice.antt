@@ -7,11 +7,12 @@ use native.Mathlib.Omega.{arith}
 use borrow.Author.Tests.{lt-ltb, le-ltb, ltb-false, leb-true, leb-false}
 use lib.Dec.{ltb}
 use lib.ListN.{length, take, length-take}
-use Rattle.ints.specs.Refusals.{first_refusal}
+use Rattle.std.specs.Prelude.{Ok, Err}
+use Rattle.ints.specs.Refusals.{first_refusal, gives}
+use Rattle.ints.specs.declared.refusal.Refusal.TheVariants as refusal
 use Rattle.text.proofs.Words.{never}
 use Rattle.text_scan.proofs.Stores.{sets_over}
-use Rattle.sheet.specs.declared.types.LineAnswer.TheVariants.{Written, Refused}
-use Rattle.sheet.specs.Results.{gives, result_after}
+use Rattle.sheet.specs.Results.{result_after}
 use Rattle.sheet.specs.Calls.{Writes}
 use Rattle.script_told.specs.Scripts.{script_answers, max_length, script_of}
 use Rattle.script_told.specs.inner.Laid.{Lays}
@@ -25,14 +26,14 @@ module _ (script o : List ℕ) {room : ℕ} (e : room ≡ min max_length (length
   untouched : p ≡ o
   untouched = h.kept refl
 
-  pub too_short : f ≡ false → Writes (script_of script o) (Refused 14) p
+  pub too_short : f ≡ false → Writes (script_of script o) (Err refusal.Room) p
   unfolding script_of first_refusal
   too_short k =
       let l = leb-false (0 + length text) room (sym h.ends ∙ k) in
       let t = lt-ltb (length (take max_length o)) (length text) (omega (arith, length-take max_length o)) in
       record { answered = rw t; left = rw t untouched }
 
-  pub all-written : f ≡ true → {g : Bool} {y : ℕ} {q : List ℕ} → Lays text true room p 0 g y q → Writes (script_of script o) (Written y) q
+  pub all-written : f ≡ true → {g : Bool} {y : ℕ} {q : List ℕ} → Lays text true room p 0 g y q → Writes (script_of script o) (Ok y) q
   unfolding script_of first_refusal
   all-written k {g} {y} {q} m =
       let l = leb-true (0 + length text) room (sym h.ends ∙ k) in

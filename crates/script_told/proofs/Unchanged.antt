@@ -6,12 +6,12 @@ use Prim.Native.Nat.{ℕ, ◌<◌}
 use native.Mathlib.Omega.{arith}
 use lib.Dec.{ltb}
 use lib.ListN.{length}
+use Rattle.ints.specs.Refusals.{Verdict, gives, refuses}
 use Rattle.text.proofs.Words.{never}
 use Rattle.plan.specs.Limits.{max_levels, max_vertices, max_segments}
 use Rattle.passes.specs.Words.{max_listed}
 use Rattle.marks.specs.Marks.{WholeMark}
 use Rattle.sheet.specs.declared.types.Sheet.{Sheet}
-use Rattle.sheet.specs.Results.{Result, gives, refuses}
 use Rattle.calls.specs.declared.types.Call.{Call}
 use Rattle.calls.specs.declared.types.Call.TheVariants.{Load, LoadTangled, Draw, Line, TextLine, Mark, Clear}
 use Rattle.calls.specs.Replies as value
@@ -27,7 +27,7 @@ use Rattle.script_calls.specs.Said.{result_said, call_said}
 use Rattle.script_told.specs.Turns.{lending, poke_said, turn_of}
 
 -- ---- a call that is refused
-said-refused : (w : WholeMark) (b : List ℕ) (r : Result Value) {n : ℕ} → result_said w b r ≡ refused n → r ≡ refuses n
+said-refused : (w : WholeMark) (b : List ℕ) (r : Verdict Value) {n : ℕ} → result_said w b r ≡ refused n → r ≡ refuses n
 said-refused w b (gives value.done) e = never (cc)
 said-refused w b (gives (written k)) e = never (cc)
 said-refused w b (gives (marked m)) e = never (cc)
@@ -61,7 +61,7 @@ refused-changes-nothing (place_run q room) s n e = refl
 refused-changes-nothing (poke p) s n e = absurd (knows (pokes.poke p s).known {n = n} (cc))
 
 -- ---- unknown
-said-known : (w : WholeMark) (b : List ℕ) (r : Result Value) → result_said w b r ≡ not_known → ⊥
+said-known : (w : WholeMark) (b : List ℕ) (r : Verdict Value) → result_said w b r ≡ not_known → ⊥
 said-known w b (gives value.done) e = never (cc)
 said-known w b (gives (written k)) e = never (cc)
 said-known w b (gives (marked m)) e = never (cc)

@@ -1,25 +1,20 @@
 // Answers laid into a buffer from a position on, as far as a room goes: counted, and written if that is asked for.
+ghost use Rattle.std.specs.Prelude.{is_some};
+ghost use Rattle.std.specs.Option.{unwrap_or};
 ghost use Rattle.script_told.specs.inner.Laid.{Lays, InRoom};
 
-use crate::types::Laid;
 use text_write::number::put_word;
 
-// One answer.
-pub fn lay(answer: &[u8], out: &mut [u8], at: usize, room: usize, write: bool) -> Laid
+// One answer: the position past it, if it ends within the room.
+pub fn lay(answer: &[u8], out: &mut [u8], at: usize, room: usize, write: bool) -> Option<usize>
     requires { InRoom room at out.old }
-    ensures { Lays answer.now write room out.old at result.fits result.at out.new }
+    ensures { Lays answer.now write room out.old at (is_some result) (unwrap_or result 0) out.new }
 {
     if room - at < answer.len() {
-        return Laid { fits: false, at };
+        return None;
     }
     if !write {
-        return Laid {
-            fits: true,
-            at: at + answer.len(),
-        };
+        return Some(at + answer.len());
     }
-    Laid {
-        fits: true,
-        at: put_word(out, at, answer),
-    }
+    Some(put_word(out, at, answer))
 }

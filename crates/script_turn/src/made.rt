@@ -4,7 +4,7 @@ ghost use Rattle.script_calls.specs.inner.Answered.{AnswerRoom, AnswersCall};
 
 use calls::step::step;
 use calls::types::Call;
-use script_calls::reply::{is_refused, say_reply};
+use script_calls::reply::say_reply;
 use sheet::types::Sheet;
 
 // The sheet afterwards, the position past the answer, and whether the call was refused.
@@ -36,6 +36,6 @@ pub fn answer_call(
     Answered {
         sheet: left,
         next,
-        refused: is_refused(reply),
+        refused: reply.is_err(),
     }
 }

@@ -4,17 +4,17 @@ use native.Mathlib.Omega.{arith}
 use borrow.Author.Rules.{rules}
 use Rattle.ints.proofs.Laws.{back'}
 use Rattle.text_untangle.proofs.TextLaws.{written-few}
-use Rattle.c_codes.proofs.CodeLaws.{untangled-codes, few-again}
+use Rattle.c_codes.proofs.CodeLaws.{untangled-codes, few}
 use Rattle.c_calls.proofs.untangle_c.Statement.{statement}
 use Rattle.c_calls.proofs.untangle_c.Tie as tie
 
-again-code-requires : tie.Need-again_code-requires
+again-code-requires : tie.Need-code-requires
 again-code-requires c κs =
     let a = c.args in
-    few-again c.untangle_text-answer.result (λ n h. omega (arith, written-few a.text.now a.out.now a.numbers.now n h)) c.untangle_text-answer.ensures.answer
+    few c.untangle_text-answer.result (λ n h. omega (arith, written-few a.text.now a.out.now a.numbers.now n h)) c.untangle_text-answer.ensures.answer
 
 returns : tie.Need-returns
-returns c = untangled-codes c.untangle_text-answer.ensures (back' c.again_code.result c.again_code.type_inv ∙ c.again_code.ensures)
+returns c = untangled-codes c.untangle_text-answer.ensures (back' c.code.result c.code.type_inv ∙ c.code.ensures)
 
 pub untangle_c_spec : {M : Type 1} → statement M
 untangle_c_spec = tie.close

@@ -1,12 +1,14 @@
 -- What the functions that make a call and write its answer ask and promise.
-use Rattle.std.specs.Prelude.{Bool, true, false, List, ◌≡◌, ℕ, ◌+◌, ◌≤◌, length, take, ℤ, Float}
+use Rattle.std.specs.Prelude.{Bool, List, ◌≡◌, ℕ, ◌+◌, ◌≤◌, length, take, ℤ, Float, Result, Ok, Err}
+use Rattle.ints.specs.Refusals.{number_of}
+use Rattle.ints.specs.declared.refusal.Refusal.{Refusal}
 use Rattle.run.specs.Call.{Out}
 use Rattle.text_write.specs.inner.Written.{Wrote}
 use Rattle.report_lines.specs.inner.Stored.{max_line}
 use Rattle.sheet.specs.declared.types.Sheet.{Sheet}
 use Rattle.calls.specs.declared.types.Call.{Call}
 use Rattle.calls.specs.declared.types.Reply.{Reply}
-use Rattle.calls.specs.declared.types.Reply.TheVariants.{Done, Written, Given, Refused}
+use Rattle.calls.specs.declared.types.Reply.TheVariants.{Done, Written, Given}
 use Rattle.calls.specs.Step.{Lent, step}
 use Rattle.script_answers.specs.Answers.{refused, done, text, line_of}
 use Rattle.script_answers.specs.inner.MarkLine.{mark_line_in}
@@ -14,17 +16,11 @@ use Rattle.script_answers.specs.inner.Lengths.{max_answer}
 use Rattle.script_calls.specs.Said.{call_said, is_refusal, run_said}
 
 -- The line that the program writes of a reply and of what the call left in the lent buffer.
-abbrev pub reply_line : Reply → List ℕ → List ℕ
-reply_line Done buffer = line_of done
-reply_line (Written n) buffer = line_of (text (take n buffer))
-reply_line (Given m) buffer = mark_line_in m
-reply_line (Refused n) buffer = line_of (refused n)
-
-abbrev pub is_refused : Reply → Bool
-is_refused Done = false
-is_refused (Written n) = false
-is_refused (Given m) = false
-is_refused (Refused n) = true
+abbrev pub reply_line : Result Reply Refusal → List ℕ → List ℕ
+reply_line (Ok Done) buffer = line_of done
+reply_line (Ok (Written n)) buffer = line_of (text (take n buffer))
+reply_line (Ok (Given m)) buffer = mark_line_in m
+reply_line (Err r) buffer = line_of (refused (number_of r))
 
 -- The lent buffer is no longer than a report line, and there is room for any answer.
 pub record AnswerRoom (buffer out : List ℕ) (at : ℕ) : Type 0 where

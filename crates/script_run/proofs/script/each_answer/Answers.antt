@@ -1,4 +1,5 @@
 -- A turn lays one answer.
+use mathlib.Core.Path.{refl}
 use native.Mathlib.Omega.{arith}
 use borrow.Author.Rules.{rules}
 use borrow.Author.Tests.{not-true, not-false}
@@ -8,22 +9,22 @@ use Rattle.script_told.proofs.Enough.{few-answers}
 use Rattle.script_run.proofs.Going.{below, stops, ends, again}
 use Rattle.script_run.proofs.script.each_answer.Goals as goal
 
-pub returns-then-not-laid : goal.returns-then-not-laid
-returns-then-not-laid c = stops c.loop-command.invariant.0 c.turn-one.ensures c.lay-laid.ensures (not-true _ c.if-not-laid.true)
+pub returns-in-None : goal.returns-in-None
+returns-in-None c = stops c.loop-end.invariant.0 c.turn-one.ensures c.in-None.ensures refl
 
 pub returns-then-not-one : goal.returns-then-not-one
-returns-then-not-one c = ends c.loop-command.invariant.0 c.turn-one.ensures c.lay-laid.ensures (not-true _ c.if-not-one.true)
+returns-then-not-one c = ends c.loop-end.invariant.0 c.turn-one.ensures c.in-Some.ensures (not-true _ c.if-not-one.true)
 
 pub overflow_add-n : goal.overflow_add-n
 overflow_add-n c =
     let a = c.args in
     omega (
       arith,
-      below c.loop-command.invariant.0.turning c.turn-one.ensures (not-false _ c.if-not-one.false),
+      below c.loop-end.invariant.0.turning c.turn-one.ensures (not-false _ c.if-not-one.false),
       few-answers (command_in a.command (lent a.text.now (buffers a.old.now a.distances.now a.counts.now a.neighbours.now a.ratings.now))) a.sheet,
     )
 
-pub loop-command-preserved : goal.loop-command-preserved
-loop-command-preserved c =
-    let i = c.loop-command.invariant in
-    (again i.0 c.turn-one.ensures c.lay-laid.ensures (not-false _ c.if-not-laid.false) (not-false _ c.if-not-one.false), search rules)
+pub loop-end-preserved : goal.loop-end-preserved
+loop-end-preserved c =
+    let i = c.loop-end.invariant in
+    (again i.0 c.turn-one.ensures c.in-Some.ensures refl (not-false _ c.if-not-one.false), search rules)

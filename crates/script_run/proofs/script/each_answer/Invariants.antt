@@ -7,12 +7,12 @@ use Rattle.script_told.specs.Turns.{turn_of}
 use Rattle.script_run.proofs.Going.{Going}
 use Rattle.script_run.proofs.script.each_answer.Given as goal
 
-abbrev pub invariant-loop-command : goal.invariant-loop-command
-invariant-loop-command l =
+abbrev pub invariant-loop-end : goal.invariant-loop-end
+invariant-loop-end l =
     let b = lent l.text (buffers l.old l.distances l.counts l.neighbours l.ratings) in
     Going l.command b (turn_of (command_in l.command b) l.initial.kept) l.write l.room l.initial.out l.at l.kept l.out l.to l.n
     × (max_answer ≤ length l.buffer)
 
-abbrev pub decreases-loop-command : goal.decreases-loop-command
-decreases-loop-command l =
+abbrev pub decreases-loop-end : goal.decreases-loop-end
+decreases-loop-end l =
     length (turn_of (command_in l.command (lent l.text (buffers l.old l.distances l.counts l.neighbours l.ratings))) l.initial.kept).said - l.n
