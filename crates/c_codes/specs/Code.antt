@@ -1,7 +1,12 @@
 -- The numbers that stand for what a call gives.
-use Rattle.std.specs.Prelude.{◌≡◌, List, ℕ, ℤ, pos, ◌-ℤ◌}
+use Rattle.std.specs.Prelude.{◌≡◌, List, ℕ, ℤ, pos, ◌-ℤ◌, Result, Ok, Err}
 use Rattle.ints.specs.Refusals.{Verdict, gives, refuses}
 use Rattle.sheet.specs.Calls.{BufferOut}
+
+-- What a call gives that answers so, where each refusal has a number.
+abbrev pub verdict_by : {A R : Type 0} → (R → ℕ) → Result A R → Verdict A
+verdict_by number_of (Ok a) = gives a
+verdict_by number_of (Err r) = refuses (number_of r)
 
 -- A length or a count; the number of a refusal, negative.
 abbrev pub code_of : Verdict ℕ → ℤ

@@ -2,20 +2,21 @@
 #![tactic(auto)]
 
 ghost use Rattle.std.specs.Prelude.{◌≡◌};
-ghost use Rattle.ints.specs.Refusals.{refused_by, verdict_of};
-ghost use Rattle.picture_fit.specs.Fitted.{drawn_of};
-ghost use Rattle.c_codes.specs.Code.{code_of};
+ghost use Rattle.ints.specs.Refusals.{refused_by};
+ghost use Rattle.picture_fit.specs.Fitted.{drawn_by};
+ghost use Rattle.c_codes.specs.Code.{code_of, verdict_by};
 ghost use Rattle.c_codes.specs.Picture as picture;
 ghost use Rattle.c_codes.specs.Run.{bound_of};
 ghost use Rattle.c_codes.specs.inner.Few.{Few, FewDrawn};
 
 use ints::refusal::Refusal;
 use picture_fit::types::PictureError;
+use sheet::numbered::Numbered;
 
 // What a call answers.
-pub fn code(answer: Result<usize, Refusal>) -> i64
+pub fn code<R: Numbered>(answer: Result<usize, R>) -> i64
     requires { Few answer }
-    ensures { result ≡ code_of (verdict_of answer) }
+    ensures { result ≡ code_of (verdict_by R.number_of answer) }
 {
     match answer {
         Ok(n) => n as i64,
@@ -24,9 +25,9 @@ pub fn code(answer: Result<usize, Refusal>) -> i64
 }
 
 // What is answered when a picture is asked for.
-pub fn picture_code(answer: Result<usize, PictureError>) -> i64
+pub fn picture_code<R: Numbered>(answer: Result<usize, PictureError<R>>) -> i64
     requires { FewDrawn answer }
-    ensures { result ≡ picture.code_of (drawn_of answer) }
+    ensures { result ≡ picture.code_of (drawn_by R.number_of answer) }
 {
     match answer {
         Ok(length) => length as i64,

@@ -10,7 +10,9 @@ pub fn copy_positions(from: &[i64], to: &mut [i64])
     requires { length to.old ≡ length from.now }
     ensures { to.new ≡ from.now }
 {
-    to.copy_from_slice(from);
+    for (i, x) in from.iter().enumerate() {
+        to[i] = *x;
+    }
 }
 
 // Draws, and answers how many placings were listed. The arrays of the list are 0 before; where they have no length none is listed.
@@ -36,7 +38,7 @@ pub fn make_drawing(
         → MadeIfWanted p result preliminary.new finals.new passes.new levels.new counts.new vertices.new positions.new }
 {
     preliminary_positions(gap, lengths, vias, halves, uppers, lowers, preliminary);
-    finals.copy_from_slice(preliminary);
+    copy_positions(preliminary, finals);
     let list = three_passes(
         gap, lengths, vias, halves, uppers, lowers, ratings, finals, passes, levels, counts,
         vertices, positions,

@@ -21,5 +21,7 @@ pub fn list_positions(at: &[i64], from: usize, start: usize, end: usize, positio
     ensures { (take end positions.new ≡ take start positions.old ++ along (position_of at.now) from (end - start))
         × (drop end positions.new ≡ drop end positions.old) }
 {
-    positions[start..end].copy_from_slice(&at[from..from + (end - start)]);
+    for (i, z) in positions[start..end].iter_mut().enumerate() {
+        *z = at[from + i];
+    }
 }

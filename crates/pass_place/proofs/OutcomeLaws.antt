@@ -1,27 +1,26 @@
 -- Laws of what a placing writes, as the loops that write it meet them. Assumes nothing.
 use Prim.Native.Nat.{ℕ, zero, suc, ◌+◌, ◌<◌, ◌≤◌}
 use mathlib.Core.Path.{◌≡◌, refl}
-use mathlib.Core.List.{List, [], ◌∷◌, ◌++◌, append_assoc}
+use mathlib.Core.List.{List}
 use native.Mathlib.Omega.{arith}
 use native.Mathlib.Numerals.{add-one}
-use lib.ListN.{length, take, drop, set, length-set}
-use lib.Seq.{take-suc-set, drop-set-lt, drop-drop}
-use Rattle.std.proofs.lemmas.List.{take-append-drop}
-use lib.IntN.{ℤ, ◌-ℤ◌}
+use lib.ListN.{length, get_or, drop, set}
+use lib.Seq.{drop-cons}
+use lib.IntN.{ℤ, pos, ◌-ℤ◌}
 use Rattle.ints.specs.Ints.{P, ◌⊑◌, gap}
 use Rattle.ints.proofs.Laws.{dif, gap-l, apart}
 use Rattle.plan.specs.Plan.{numbers}
 use Rattle.passes.specs.State.{position_of, put, take_on}
 
 -- ---- positions
-put-from : (v : ℕ) (ys xs : List ℤ) → v + length ys ≤ length xs → take v xs ++ (ys ++ drop (v + length ys) xs) ≡ put (numbers v (length ys)) ys xs
+pub put-none : (v n : ℕ) (ys xs : List ℤ) → n ≡ 0 → put (numbers v n) ys xs ≡ xs
 unfolding put numbers
-put-from v [] xs h = let e : v + 0 ≡ v = omega arith in rw e (take-append-drop v xs)
-put-from v (y ∷ ys) xs h = let k : v < length xs = omega arith in let zs = set xs v y in let e : v + suc (length ys) ≡ v + 1 + length ys = omega arith in
-    rw (e, ← put-from (v + 1) ys zs (omega (arith, length-set xs v y)), add-one, take-suc-set xs v y, append_assoc, drop-set-lt (suc v + length ys) xs v y (omega arith))
+put-none v n ys xs h = rw h
 
-pub put-part : (v : ℕ) (ys xs : List ℤ) → v + length ys ≤ length xs → take v xs ++ (ys ++ drop (length ys) (drop v xs)) ≡ put (numbers v (length ys)) ys xs
-put-part v ys xs h = rw (drop-drop (length ys) v xs) (put-from v ys xs h)
+pub put_on : (from n m i : ℕ) (ys xs : List ℤ) → i < length ys → n ≡ suc m
+    → put (numbers (from + i) n) (drop i ys) xs ≡ put (numbers (from + (i + 1)) m) (drop (i + 1) ys) (set xs (from + i) (get_or ys i (pos 0)))
+unfolding put numbers
+put_on from n m i ys xs h e = let z : from + (i + 1) ≡ from + i + 1 = omega arith in rw (e, z, drop-cons ys i (pos 0) h, add-one i)
 
 -- ---- distances
 pub gap-right : (a b : ℤ) → a ⊑ b → gap a b ≡ P (b -ℤ a)

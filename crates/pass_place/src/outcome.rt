@@ -4,12 +4,14 @@ ghost use Rattle.ints.specs.Ints.{size, ◌⊑◌};
 ghost use Rattle.plan.specs.Plan.{numbers};
 ghost use Rattle.passes.specs.State.{position_of, put, take_on};
 
-// The boxes from `from` on stand at `placed` from now on.
+// The boxes from `from` on stand at `placed` from now on. A loop, since `copy_from_slice` would need C's `memmove`.
 pub fn put_back(placed: &[i64], from: usize, at: &mut [i64])
     requires { from + length placed.now ≤ length at.old }
     ensures { at.new ≡ put (numbers from (length placed.now)) placed.now at.old }
 {
-    at[from..from + placed.len()].copy_from_slice(placed);
+    for (i, x) in placed.iter().enumerate() {
+        at[from + i] = *x;
+    }
 }
 
 // "its distances, and that to its bound, then become those it has": of the members from `low` up to `high`.

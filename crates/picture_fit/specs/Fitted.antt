@@ -2,6 +2,7 @@
 use Rattle.std.specs.Prelude.{◌≡◌, cond, List, ℕ, ltb, length, Result, Ok, Err}
 use Rattle.ints.specs.Lists.{over}
 use Rattle.ints.specs.Refusals.{number_of}
+use Rattle.ints.specs.declared.refusal.Refusal.{Refusal}
 use Rattle.picture_fit.specs.declared.types.PictureError.{PictureError}
 use Rattle.picture_fit.specs.declared.types.PictureError.TheVariants.{Refused, Names}
 
@@ -11,10 +12,14 @@ pub data Drawn : Type 0 where
   refused : ℕ → Drawn
   bad_names : ℕ → Drawn
 
-abbrev pub drawn_of : Result ℕ PictureError → Drawn
-drawn_of (Ok n) = written n
-drawn_of (Err (Refused r)) = refused (number_of r)
-drawn_of (Err (Names line)) = bad_names line.0
+-- What is answered, where each refusal has a number.
+abbrev pub drawn_by : {R : Type 0} → (R → ℕ) → Result ℕ (PictureError R) → Drawn
+drawn_by number_of (Ok n) = written n
+drawn_by number_of (Err (Refused r)) = refused (number_of r)
+drawn_by number_of (Err (Names line)) = bad_names line.0
+
+abbrev pub drawn_of : Result ℕ (PictureError Refusal) → Drawn
+drawn_of = drawn_by number_of
 
 -- An answer, and the lent buffer as it is left.
 pub record Left : Type 0 where
@@ -34,6 +39,6 @@ fitted w o =
     cond (ltb (length o) (length w)) (refuses 14 o) all
 
 -- The program answers so and leaves the buffer so.
-pub record Leaves (l : Left) (r : Result ℕ PictureError) (out : List ℕ) : Type 0 where
+pub record Leaves (l : Left) (r : Result ℕ (PictureError Refusal)) (out : List ℕ) : Type 0 where
   pub answer : drawn_of r ≡ l.answer
   pub buffer : out ≡ l.buffer

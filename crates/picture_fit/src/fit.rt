@@ -15,7 +15,7 @@ use text_write::number::put_word;
 pub const MAX_PICTURE: usize = 1306334;
 
 // A text at the front of a lent buffer.
-fn fit(text: &[u8], out: &mut [u8]) -> Result<usize, PictureError>
+fn fit(text: &[u8], out: &mut [u8]) -> Result<usize, PictureError<Refusal>>
     ensures { Leaves (fitted text.now out.old) result out.new }
 {
     if out.len() < text.len() {
@@ -45,7 +45,7 @@ pub fn fit_picture(
     starts: &[u32],
     ends: &[u32],
     out: &mut [u8],
-) -> Result<usize, PictureError>
+) -> Result<usize, PictureError<Refusal>>
     requires { PictureAsked (held_plan gap spacing sizes.now vias.now halves.now uppers.now lowers.now ratings.now) finals.now names.now starts.now ends.now
         × (sum (map length (names_in names.now starts.now ends.now (length vias.now))) ≤ 65536) }
     ensures { Leaves (fitted (picture_of (held_plan gap spacing sizes.now vias.now halves.now uppers.now lowers.now

@@ -6,24 +6,24 @@ use ints::refusal::Refusal;
 use picture_names::types::BadLine;
 
 #[derive(Clone, Copy, Debug, PartialEq, Eq)]
-pub enum PictureError {
+pub enum PictureError<R> {
     // 1 to 6 of the plan's text, or 14, the buffer too short.
-    Refused(Refusal),
+    Refused(R),
     Names(BadLine),
 }
 
-impl From<Refusal> for PictureError {
+impl From<Refusal> for PictureError<Refusal> {
     ghost from_gives = { λ r e. e ≡ error.Refused r };
 
-    fn from(r: Refusal) -> PictureError {
+    fn from(r: Refusal) -> PictureError<Refusal> {
         PictureError::Refused(r)
     }
 }
 
-impl From<BadLine> for PictureError {
+impl<R> From<BadLine> for PictureError<R> {
     ghost from_gives = { λ line e. e ≡ error.Names line };
 
-    fn from(line: BadLine) -> PictureError {
+    fn from(line: BadLine) -> PictureError<R> {
         PictureError::Names(line)
     }
 }

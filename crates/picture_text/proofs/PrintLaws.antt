@@ -9,6 +9,7 @@ use lib.Dec.{ltb}
 use lib.ListN.{length, length-append}
 use Rattle.std.specs.Prelude.{Result}
 use Rattle.ints.specs.Lists.{over}
+use Rattle.ints.specs.declared.refusal.Refusal.{Refusal}
 use Rattle.plan.specs.Plan.{PlanData}
 use Rattle.plan.specs.Acceptable.{acceptable}
 use Rattle.text.specs.Reading.{Reading, accepted, refused, reading}
@@ -69,7 +70,7 @@ module _ (text names o : List ℕ) (room : max_picture ≤ length o) where
   all_of p l ok e = rw (le-ltb (length o) (length (picture_of p (drawing_of p).final l)) (omega (arith, short names p l ok e)))
 
   -- what is left in the buffer, and what is printed
-  module _ (r : Result ℕ PictureError) (out after : List ℕ) (n : ℕ) where
+  module _ (r : Result ℕ (PictureError Refusal)) (out after : List ℕ) (n : ℕ) where
     abbrev pub Prints : Drawn → Type 0
     Prints (written k) = (n ≡ k) × (after ≡ out)
     Prints (unread k) = Fronts (refused_line k) out n after

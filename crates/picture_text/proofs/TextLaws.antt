@@ -30,7 +30,7 @@ use Rattle.picture_text.specs.Text.{named_picture, picture_in}
 use Rattle.picture_text.specs.inner.Named.{NamedPlan}
 
 -- the same by another definition
-pub leaves : {l m : Left} {r : Result ℕ PictureError} {out : List ℕ} → l ≡ m → Leaves m r out → Leaves l r out
+pub leaves : {l m : Left} {r : Result ℕ (PictureError Refusal)} {out : List ℕ} → l ≡ m → Leaves m r out → Leaves l r out
 leaves e w = rw e w
 
 -- ---- refused, and not

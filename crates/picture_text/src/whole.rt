@@ -7,6 +7,7 @@ ghost use Rattle.picture_fit.specs.Fitted.{Leaves};
 ghost use Rattle.picture_text.specs.Text.{picture_in};
 ghost use Rattle.picture_text.specs.inner.Named.{NamedPlan};
 
+use ints::refusal::Refusal;
 use picture_fit::fit::fit_picture;
 use picture_fit::types::PictureError;
 use picture_names::index::index_names;
@@ -28,7 +29,7 @@ fn picture_named(
     starts: &[u32],
     ends: &[u32],
     out: &mut [u8],
-) -> Result<usize, PictureError>
+) -> Result<usize, PictureError<Refusal>>
     requires { NamedPlan (held_plan gap spacing sizes.now vias.now halves.now uppers.now lowers.now ratings.now) names.now starts.now ends.now }
     ensures { Leaves (picture_in (accepted (held_plan gap spacing sizes.now vias.now halves.now uppers.now
         lowers.now ratings.now)) names.now out.old) result out.new }
@@ -76,7 +77,7 @@ fn picture_plan(
     ratings: &[u32],
     names: &[u8],
     out: &mut [u8],
-) -> Result<usize, PictureError>
+) -> Result<usize, PictureError<Refusal>>
     requires { acceptable (held_plan gap spacing sizes.now vias.now halves.now uppers.now lowers.now ratings.now) ≡ true }
     ensures { Leaves (picture_in (accepted (held_plan gap spacing sizes.now vias.now halves.now uppers.now
         lowers.now ratings.now)) names.now out.old) result out.new }
@@ -91,7 +92,11 @@ fn picture_plan(
 
 // The picture of the text's plan, its boxes named by a text of names, in a lent buffer, with its length; later bytes stay. Refused 1 to 6 or
 // 14, or for a line of the names, the buffer stays as it is.
-pub fn picture_text(text: &[u8], names: &[u8], out: &mut [u8]) -> Result<usize, PictureError>
+pub fn picture_text(
+    text: &[u8],
+    names: &[u8],
+    out: &mut [u8],
+) -> Result<usize, PictureError<Refusal>>
     ensures { Leaves (picture_in (reading text.now) names.now out.old) result out.new }
 {
     let mut sizes = [0u16; Plan::MAX_LEVELS];

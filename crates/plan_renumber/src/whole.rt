@@ -6,11 +6,21 @@ ghost use Rattle.plan_renumber.specs.inner.Words.{Lists, Renumberable};
 
 use crate::{gather, gather_flags, move_segments};
 
+// Copies one list over another that is as long. A loop, and no call of `copy_from_slice`, which would need C's `memmove`.
+fn copy_to<T: Copy>(xs: &[T], out: &mut [T])
+    requires { length out.old ≡ length xs.now }
+    ensures { out.new ≡ xs.now }
+{
+    for (i, x) in xs.iter().enumerate() {
+        out[i] = *x;
+    }
+}
+
 pub fn copy(xs: &[u16], out: &mut [u16])
     requires { length out.old ≡ length xs.now }
     ensures { out.new ≡ xs.now }
 {
-    out.copy_from_slice(xs);
+    copy_to(xs, out);
 }
 
 // Numbers a plan's vertices anew by m. `spare`, `flags`, `places` and `codes` are room to work in.
@@ -30,9 +40,9 @@ pub fn renumber(
     ensures { (p : PlanData) → Lists p vias.old halves.old uppers.old lowers.old ratings.old
         → Lists (renumbered p m.now) vias.new halves.new uppers.new lowers.new ratings.new }
 {
-    flags.copy_from_slice(vias);
+    copy_to(vias, flags);
     gather_flags(flags, m, vias);
-    spare.copy_from_slice(halves);
+    copy_to(halves, spare);
     gather(spare, m, halves);
     move_segments(m, places, uppers, lowers, ratings, codes);
 }

@@ -1,15 +1,17 @@
 -- Laws of the least and of the ⌈s/2⌉-th smallest of a list. A number m stands at place k of the sorted list if at most k are
 -- below it and more than k do not exceed it. Assumes nothing.
 use Prim.Native.Nat.{ℕ, zero, suc, ◌+◌, ◌-◌, ◌/◌, ◌<◌, ◌≤◌}
-use mathlib.Core.Path.{◌≡◌, refl, sym, ◌∙◌, ap}
-use mathlib.Core.Bool.{cond}
+use mathlib.Core.Path.{◌≡◌, refl, ◌∙◌, ap}
+use mathlib.Core.Bool.{Bool, true, false, cond}
 use mathlib.Core.List.{List, [], ◌∷◌}
 use native.Mathlib.Omega.{arith}
-use lib.ListN.{length, get_or}
+use native.Mathlib.Numerals.{add-one}
+use lib.ListN.{length, get_or, drop, drop_of_length-le}
+use lib.Seq.{drop-cons}
+use mir.Val.{bool_byte}
 use lib.IntN.{ℤ, pos, ◌+ℤ◌}
 use lib.Signed.{le_z, lt_z}
-use Rattle.std.proofs.Common.{EachIndex, count_by}
-use Rattle.std.proofs.lemmas.List.Recursion.{is_count_by}
+use Rattle.std.proofs.Common.{EachIndex}
 use Rattle.ints.specs.Ints.{P, N, size, ◌⊑◌, min_z, gap, SizedTo}
 use Rattle.ints.proofs.Reach.{sized-tail}
 use Rattle.ints.proofs.Laws.{ints, cases_z, if-ind, sum, gap-ge, gap-l, gap-r, least, make-le-true, make-le-false, make-lt-true, make-lt-false, eq-make}
@@ -206,6 +208,22 @@ below_next z y (x ∷ xs) h = let i = below_next z y xs h in cases_z y x
     (λ a. cases_z x z (λ b. omega (arith, below_out y x xs a, to_in z x xs b)) (λ b. omega (arith, below_out y x xs a, to_out z x xs b)))
     (λ a. omega (arith, below_in y x xs a, to_in z x xs (omega arith)))
 
+-- ---- counting, one by one
+byte-adds : (b : Bool) (n : ℕ) → bool_byte b + n ≡ cond b (suc n) n
+byte-adds true n = omega arith
+byte-adds false n = omega arith
+
+pub byte-small : (b : Bool) → bool_byte b ≤ 1
+byte-small true = omega arith
+byte-small false = omega arith
+
+pub to_on : (z : ℤ) (xs : List ℤ) (i : ℕ) → i < length xs → bool_byte (le_z (get_or xs i (pos 0)) z) + count_to z (drop (i + 1) xs) ≡ count_to z (drop i xs)
+unfolding count_to
+to_on z xs i h = rw (add-one, drop-cons xs i (pos 0) h) (byte-adds (le_z (get_or xs i (pos 0)) z) (count_to z (drop (suc i) xs)))
+
+pub to_end : (z : ℤ) (xs : List ℤ) (i : ℕ) → length xs ≤ i → count_to z (drop i xs) ≡ 0
+to_end z xs i h = rw (drop_of_length-le xs h) (to_none z)
+
 -- ---- the least is none above it that bounds them all from below
 low-of : (z x : ℤ) (xs : List ℤ) → z ⊑ x → EachIndex xs (λ k. z ⊑ get_or xs k (pos 0)) → z ⊑ least_of x xs
 unfolding least_of
@@ -223,8 +241,3 @@ least-is other m (x ∷ xs) h a b =
     let low = low-of m x xs (a 0 (omega arith)) (λ i j. a (suc i) (omega arith)) in
     let up = b (least_of x xs) (at-each (least_of x xs) (x ∷ xs) (least-at-least x xs)) in
     eq-make m (least_of x xs) (omega arith)
-
--- ---- how many do not exceed z, in std's word
-pub counted : (z : ℤ) (xs : List ℤ) → count_by (λ x. le_z x z) xs ≡ count_to z xs
-unfolding count_to
-counted z xs = sym (is_count_by (count_to z) (λ x. le_z x z) refl (λ x ys. let e : 1 + count_to z ys ≡ suc (count_to z ys) = omega arith in rw e refl) xs)

@@ -24,7 +24,11 @@ fn greatest(xs: &[i64]) -> i64
 fn count_to(z: i64, xs: &[i64]) -> usize
     ensures { result ≡ count_to z xs.now }
 {
-    xs.iter().filter(|x| **x <= z).count()
+    let mut count = 0;
+    for x in xs {
+        count += usize::from(*x <= z);
+    }
+    count
 }
 
 // The ⌈s/2⌉-th smallest, 0 if there is none: the least number that at least so many do not exceed.

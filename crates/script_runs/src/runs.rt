@@ -33,14 +33,19 @@ fn has_options(given: &[u8]) -> bool
     ensures { result ≡ has_options (words given.now) }
 {
     let left = times(given, b"left=");
+    if left > 1 {
+        return false;
+    }
     let right = times(given, b"right=");
+    if right > 1 {
+        return false;
+    }
     let ratings = times(given, b"ratings=");
+    if ratings > 1 {
+        return false;
+    }
     let answer = times(given, b"answer=");
-    left <= 1
-        && right <= 1
-        && ratings <= 1
-        && answer <= 1
-        && times(given, b"") == 5 + left + right + ratings + answer
+    answer <= 1 && times(given, b"") == 5 + left + right + ratings + answer
 }
 
 fn may_bound(given: &[u8], name: &[u8]) -> bool

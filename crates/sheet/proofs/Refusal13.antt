@@ -1,7 +1,7 @@
 -- 13 of the plan in document 01's words: it refuses exactly if the plan, "with the stage's vertex and segment counts, is that of no
 -- text that passes checks 1 to 6". `PlanArrays` says that the plan's arrays are as long as a stored plan's are.
 use mathlib.Core.Path.{◌≡◌, refl, sym, ◌∙◌, ap}
-use mathlib.Core.Bool.{true, false, not, true≢false}
+use mathlib.Core.Bool.{true, not, true≢false}
 use mathlib.Core.List.{List}
 use mathlib.Core.Logic.{◌↔◌}
 use Prim.Native.Nat.{ℕ}

@@ -3,6 +3,7 @@
 
 pub mod changed;
 pub mod clear;
+pub mod numbered;
 pub mod printed;
 pub mod refusals;
 pub mod types;

@@ -76,10 +76,10 @@ fn check_data(
     ensures { refused_by result ≡ data_refusal plan remembered drawing counts }
 {
     check_plan(plan, remembered, counts)?;
-    if !is_drawing_of(plan, drawing, counts) {
-        return Err(Refusal::Unsound);
+    if is_drawing_of(plan, drawing, counts) {
+        return Ok(());
     }
-    Ok(())
+    Err(Refusal::Unsound)
 }
 
 // What line, report, mark and marks are refused by before 7 and 14.

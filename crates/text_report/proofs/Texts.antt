@@ -131,6 +131,6 @@ module _ (text b out : List ℕ) (m : max_report ≤ length b) where
           let same : number_of f ≡ k = cc told in
           rw (same, w.left) at l
 
-  pub prints : (a : Result ℕ Refusal) {r : ℕ} {after : List ℕ} → Writes (report_of (reading text) b) a out → Prints a out r after → Fronts (printed text) b r after
+  pub prints : (a : Result ℕ Refusal) {r : ℕ} {after : List ℕ} → Writes (report_of (reading text) b) a out → Prints number_of a out r after → Fronts (printed text) b r after
   prints (Ok n) w h = rw (h.0, h.1) (prints-report n w)
   prints (Err f) w h = prints-refused f w h

@@ -11,7 +11,7 @@ use Rattle.c_calls.proofs.picture_c.Tie as tie
 picture-code-requires : tie.Need-picture_code-requires
 picture-code-requires c κs =
     let a = c.args in
-    few-drawn c.picture_text-answer.result (λ n h. omega (arith, picture-few a.text.now a.names.now a.out.now n h)) c.picture_text-answer.ensures.answer
+    (search rules, few-drawn c.picture_text-answer.result (λ n h. omega (arith, picture-few a.text.now a.names.now a.out.now n h)) c.picture_text-answer.ensures.answer)
 
 returns : tie.Need-returns
 returns c = picture-codes c.picture_text-answer.ensures (back' c.picture_code.result c.picture_code.type_inv ∙ c.picture_code.ensures)

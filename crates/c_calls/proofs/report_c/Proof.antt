@@ -11,7 +11,7 @@ use Rattle.c_calls.proofs.report_c.Tie as tie
 code-requires : tie.Need-code-requires
 code-requires c κs =
     let a = c.args in
-    few c.report_text-answer.result (λ n h. omega (arith, report-few a.text.now a.out.now n h)) c.report_text-answer.ensures.answered
+    (search rules, few c.report_text-answer.result (λ n h. omega (arith, report-few a.text.now a.out.now n h)) c.report_text-answer.ensures.answered)
 
 returns : tie.Need-returns
 returns c = codes c.report_text-answer.ensures (back' c.code.result c.code.type_inv ∙ c.code.ensures)

@@ -11,7 +11,7 @@ use Rattle.c_calls.proofs.reread_c.Tie as tie
 again-code-requires : tie.Need-code-requires
 again-code-requires c κs =
     let a = c.args in
-    few c.rewrite-answer.result (λ n h. omega (arith, written-few a.text.now a.out.now n h)) c.rewrite-answer.ensures.answer
+    (search rules, few c.rewrite-answer.result (λ n h. omega (arith, written-few a.text.now a.out.now n h)) c.rewrite-answer.ensures.answer)
 
 returns : tie.Need-returns
 returns c = again-codes c.rewrite-answer.ensures (back' c.code.result c.code.type_inv ∙ c.code.ensures)

@@ -10,7 +10,7 @@ use Rattle.c_calls.proofs.script_c.Tie as tie
 code-requires : tie.Need-code-requires
 code-requires c κs =
     let a = c.args in
-    few c.answers-answer.result (answers-few a.script.now a.out.now) c.answers-answer.ensures.answered
+    (search rules, few c.answers-answer.result (answers-few a.script.now a.out.now) c.answers-answer.ensures.answered)
 
 returns : tie.Need-returns
 returns c = codes c.answers-answer.ensures (back' c.code.result c.code.type_inv ∙ c.code.ensures)

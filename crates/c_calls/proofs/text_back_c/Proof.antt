@@ -11,7 +11,7 @@ use Rattle.c_calls.proofs.text_back_c.Tie as tie
 code-requires : tie.Need-code-requires
 code-requires c κs =
     let a = c.args in
-    few c.text_back-answer.result (λ n h. omega (arith, back-few a.text.now a.out.now n h)) c.text_back-answer.ensures.answered
+    (search rules, few c.text_back-answer.result (λ n h. omega (arith, back-few a.text.now a.out.now n h)) c.text_back-answer.ensures.answered)
 
 returns : tie.Need-returns
 returns c = codes c.text_back-answer.ensures (back' c.code.result c.code.type_inv ∙ c.code.ensures)

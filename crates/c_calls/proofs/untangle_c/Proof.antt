@@ -11,7 +11,7 @@ use Rattle.c_calls.proofs.untangle_c.Tie as tie
 again-code-requires : tie.Need-code-requires
 again-code-requires c κs =
     let a = c.args in
-    few c.untangle_text-answer.result (λ n h. omega (arith, written-few a.text.now a.out.now a.numbers.now n h)) c.untangle_text-answer.ensures.answer
+    (search rules, few c.untangle_text-answer.result (λ n h. omega (arith, written-few a.text.now a.out.now a.numbers.now n h)) c.untangle_text-answer.ensures.answer)
 
 returns : tie.Need-returns
 returns c = untangled-codes c.untangle_text-answer.ensures (back' c.code.result c.code.type_inv ∙ c.code.ensures)

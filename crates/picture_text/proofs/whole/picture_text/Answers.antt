@@ -1,5 +1,5 @@
 -- By what reading the text found.
-use Rattle.std.proofs.Common.{ap}
+use Rattle.std.proofs.Common.{rules, ◌≡◌, ap, Err}
 use Rattle.std.proofs.lemmas.Result.{err_from_is_err_and}
 use Rattle.text_marks.proofs.Texts.{refused-read}
 use Rattle.picture_text.specs.Text.{picture_in}
@@ -11,5 +11,6 @@ returns-in_err-r c =
     let a = c.args in
     let r = c.in_err-r.field-0.0 in
     let p = err_from_is_err_and c.from_residual.result c.from_residual.ensures.1 in
-    let e = refused-read a.text.now _ r c.in_err-r.was c.read_into-r.ensures.refuses in
+    let w : c.read_into-r.result.verdict ≡ Err r = search rules in
+    let e = refused-read a.text.now _ r w c.read_into-r.ensures.refuses in
     rw (p.1, p.2) (leaves (ap (λ g. picture_in g a.names.now a.out.now) e) (refused-so r a.names.now a.out.now))

@@ -1,7 +1,6 @@
-use Rattle.std.proofs.Common.{◌≡◌, ◌+◌, ◌-◌, length, map, ap, sym, ◌∙◌, ℤ, arith}
+use Rattle.std.proofs.Common.{rules, ◌≡◌, ◌+◌, ◌-◌, length, map, ap, sym, ◌∙◌, ℤ, arith}
 use mir.Syntax.{w64}
 use mir.Val.{to_z, of_z}
-use Rattle.ints.specs.Ints.{min_z}
 use Rattle.ints.proofs.Laws.{back'}
 use Rattle.ints.proofs.Reach.{within-at}
 use Rattle.plan.specs.Plan.{numbers}
@@ -32,9 +31,7 @@ loop-v-preserved c =
     let n = length xs in
     let next : to_z w64 (of_z w64 c.left_edge.result) ≡ e l.v =
     back' c.left_edge.result c.left_edge.type_inv ∙ c.left_edge.ensures ∙ rw (stored_at xs l.v c.requires.within) in
-    let now : to_z w64 (of_z w64 c.min-least.result) ≡ min_z (to_z w64 l.least-bits) (e l.v) =
-    back' c.min-least.result c.min-least.type_inv ∙ c.min-least.ensures.value ∙ ap (λ (y : ℤ). min_z (to_z w64 l.least-bits) y) next in
-    ap (λ (y : ℤ). least_of y (map e (numbers (l.v + 1) (n - (l.v + 1))))) now ∙ sym (least-next e (to_z w64 l.least-bits) l.v n c.loop-v-test.true) ∙ l.invariant
+    ap (λ (y : ℤ). least_of y (map e (numbers (l.v + 1) (n - (l.v + 1))))) (search rules) ∙ sym (least-next e (to_z w64 l.least-bits) l.v n c.loop-v-test.true) ∙ l.invariant
 
 pub returns : goal.returns
 returns c =

@@ -16,14 +16,14 @@ is_drawing_of-requires c =
     let a = c.args in
     plan-holds a.plan a.remembered a.drawing a.counts _ c.check_plan.ensures (ap refused_by c.in_ok-check_plan.was)
 
-pub returns-then-not-is_drawing_of : goal.returns-then-not-is_drawing_of
-returns-then-not-is_drawing_of c =
+pub returns-then-is_drawing_of : goal.returns-then-is_drawing_of
+returns-then-is_drawing_of c =
     let a = c.args in
-    no-drawing a.plan a.remembered a.drawing a.counts _ c.check_plan.ensures (ap refused_by c.in_ok-check_plan.was)
-    (sym c.is_drawing_of.ensures ∙ c.if-not-is_drawing_of.true)
+    all a.plan a.remembered a.drawing a.counts _ c.check_plan.ensures (ap refused_by c.in_ok-check_plan.was)
+    (sym c.is_drawing_of.ensures ∙ c.if-is_drawing_of.true)
 
 pub returns : goal.returns
 returns c =
     let a = c.args in
-    all a.plan a.remembered a.drawing a.counts _ c.check_plan.ensures (ap refused_by c.in_ok-check_plan.was)
-    (sym c.is_drawing_of.ensures ∙ c.if-not-is_drawing_of.false)
+    no-drawing a.plan a.remembered a.drawing a.counts _ c.check_plan.ensures (ap refused_by c.in_ok-check_plan.was)
+    (sym c.is_drawing_of.ensures ∙ c.if-is_drawing_of.false)

@@ -1,5 +1,5 @@
 -- By the stage.
-use Rattle.std.proofs.Common.{◌≡◌, inl, inr}
+use Rattle.std.proofs.Common.{inl, inr}
 use Rattle.ints.specs.Refusals.{first_refusal}
 use Rattle.sheet.specs.inner.Refusals.{plan_refusal, draw_refusal}
 use Rattle.sheet.proofs.refusals.check_draw.Goals as goal

@@ -1,5 +1,4 @@
 -- By the stage.
-use Rattle.std.proofs.Common.{◌≡◌}
 use Rattle.ints.specs.Refusals.{first_refusal}
 use Rattle.sheet.specs.inner.Refusals.{data_refusal, show_refusal}
 use Rattle.sheet.proofs.refusals.check_show.Goals as goal

@@ -13,6 +13,6 @@ returns-in_err-r c =
     let r = c.in_err-r.field-0.0 in
     let b = c.args.out.now in
     let e : c.from_residual.result ≡ Err r = search rules in
-    let w : c.read_into-r.result.verdict ≡ Err r = c.in_err-r.was in
+    let w : c.read_into-r.result.verdict ≡ Err r = search rules in
     let f = c.read_into-r.ensures.refuses (λ z. has-number r (sym (ap refused_by w) ∙ z)) in
     rw e (writes (ap (λ g. report_of g b) (f ∙ ap (λ v. refused (refused_by v)) w)) (report-not r b))
